@@ -19,7 +19,8 @@ use Rattle.elf_write_spec.specs.WrittenFile.{IsWrittenOf}
 use Rattle.elf_apply.specs.declared.batch.ElfBatchError.{ElfBatchError}
 use Rattle.elf_apply.specs.declared.error.ElfError.{ElfError}
 use Rattle.elf_apply.specs.declared.error.ElfError.TheVariants as elf
-use Rattle.elf_commands.specs.ElfAsked.{ElfAsked, one, printing, several, shrinking}
+use Rattle.elf_symbol_edits.specs.SymbolEdit.{SymbolEdit}
+use Rattle.elf_commands.specs.ElfAsked.{ElfAsked, of_symbols, one, printing, several, shrinking}
 use Rattle.elf_commands.specs.ElfStores.{ChangesNothing}
 use Rattle.byte_store.specs.Composed.{made_of}
 use Rattle.byte_store.specs.declared.composed.Difference.{Difference}
@@ -185,6 +186,7 @@ tells_refused (one edit) edits file read e are is refuses =
 tells_refused (several read_as) edits file read e are is refuses =
     subst (λ r. TellsEdit (several r) file (elf_refusal (several r) e)) (sym are) (several_refused edits file read e e.fault is refuses)
 tells_refused (shrinking prefixes) edits file read e are is refuses = absurd are
+tells_refused (of_symbols edit) edits file read e are is refuses = absurd are
 tells_refused printing edits file read e are is refuses = absurd are
 
 -- the edited image has no bytes
@@ -208,6 +210,7 @@ tells_no_image (several read_as) edits file made e are makes none = subst (λ r.
     unwritten edits file made (elf.Write fault) makes none = inr (record { made = made; makes = makes; none = none })
     unwritten edits file made elf.InvalidDtNeededEncoding makes none = inr (record { made = made; makes = makes; none = none })
 tells_no_image (shrinking prefixes) edits file made e are makes none = absurd are
+tells_no_image (of_symbols edit) edits file made e are makes none = absurd are
 tells_no_image printing edits file made e are makes none = absurd are
 
 pub tells_no_bytes : (a : ElfAsked) (edits : List Edit) (file : List ℕ) (made : Image) (e : ElfCommandError) → AreEditsAsked a edits → Makes edits file made → TellsNoImage made e → TellsEdit a file e
@@ -251,6 +254,22 @@ only_memory prefixes file (Elf e) tells = absurd (no_fault_yet prefixes file e t
 only_memory prefixes file (ElfBatch e) tells = absurd tells
 only_memory prefixes file (Io e) tells = absurd tells
 
+-- nor has one that edits symbols or sections edits that could fail
+no_edits_fail : (edit : SymbolEdit) (file : List ℕ) (e : ElfError) → TellsElfOf (of_symbols edit) file e → ⊥
+no_edits_fail edit file elf.Memory tells = tells
+no_edits_fail edit file (elf.Io e) tells = tells
+no_edits_fail edit file (elf.Parse fault) tells = tells
+no_edits_fail edit file (elf.Write fault) tells = tells
+no_edits_fail edit file (elf.Modify cause) tells = tells
+no_edits_fail edit file elf.InvalidDtNeededEncoding tells = tells
+
+memory_alone : (edit : SymbolEdit) (file : List ℕ) (e : ElfCommandError) → TellsEdit (of_symbols edit) file e → e ≡ Memory
+memory_alone edit file Memory tells = refl
+memory_alone edit file (Edits wrong) tells = absurd (cc)
+memory_alone edit file (Elf e) tells = absurd (no_edits_fail edit file e tells)
+memory_alone edit file (ElfBatch e) tells = absurd tells
+memory_alone edit file (Io e) tells = absurd tells
+
 prints_tell : {W : Type 0} (file : List ℕ) (old new : W) (e : ElfCommandError) → new ≡ old → TellsEdit printing file e → TellsElf (image_of file) old new e
 prints_tell file old new Memory same tells = same
 prints_tell file old new (Edits wrong) same tells = absurd (cc)
@@ -264,6 +283,8 @@ tells_words (one edit) file old new e same tells = (same, tells file)
 tells_words (several read) file old new e same tells = (same, tells file)
 tells_words (shrinking prefixes) file old new e same tells =
     let P : ElfCommandError → Type 0 = λ x. TellsElf (image_of file) old new x in subst P (sym (only_memory prefixes file e (tells file))) same
+tells_words (of_symbols edit) file old new e same tells =
+    let P : ElfCommandError → Type 0 = λ x. TellsElf (image_of file) old new x in subst P (sym (memory_alone edit file e (tells file))) same
 tells_words printing file old new e same tells = prints_tell file old new e same (tells file)
 
 -- ## Why a command may fail
@@ -280,6 +301,8 @@ pub may_fail : (a : ElfAsked) (file : List ℕ) (e : ElfCommandError) → TellsE
 may_fail printing file e tells = prints_fail file e tells
 may_fail (shrinking prefixes) file e tells =
     let P : ElfCommandError → Type 0 = λ x. MayFailAs (shrinking prefixes) x in subst P (sym (only_memory prefixes file e tells)) tt
+may_fail (of_symbols edit) file e tells =
+    let P : ElfCommandError → Type 0 = λ x. MayFailAs (of_symbols edit) x in subst P (sym (memory_alone edit file e tells)) tt
 may_fail (one edit) file Memory tells = tt
 may_fail (one edit) file (Io e) tells = tt
 may_fail (one edit) file (Edits wrong) tells = (file, ([], tells))
@@ -304,6 +327,7 @@ same_edits : (a : ElfAsked) (edits others : List Edit) → AreEditsAsked a edits
 same_edits (one edit) edits others are too = are ∙ sym too
 same_edits (several read) edits others are too = let e : Ok edits ≡ Ok others = sym are ∙ too in cc
 same_edits (shrinking prefixes) edits others are too = absurd are
+same_edits (of_symbols edit) edits others are too = absurd are
 same_edits printing edits others are too = absurd are
 
 -- where the edits find nothing to change, no image that they make is marked

@@ -8,7 +8,7 @@ use Rattle.byte_store.specs.declared.difference.ReplaceError.TheVariants as repl
 use Rattle.byte_store.specs.declared.reading.ReadError.{ReadError}
 use Rattle.byte_store.specs.declared.reading.ReadError.TheVariants as read
 use Rattle.arwen_elf_writer.specs.Written.{IsNoDifference}
-use Rattle.elf_commands.specs.ElfAsked.{ElfAsked, one, printing, several, shrinking}
+use Rattle.elf_commands.specs.ElfAsked.{ElfAsked, of_symbols, one, printing, several, shrinking}
 use Rattle.elf_edits.specs.Edit.{Edit}
 use Rattle.elf_commands.specs.ElfEngine.{AreEditsAsked, LeavesElf, MayFailAs, TellsEachFile, TellsEdit}
 use Rattle.elf_commands.specs.ElfStores.{FailsElf, IsElfPatched, IsNothing, TellsElfPath}
@@ -34,6 +34,7 @@ pub elf_patched : (a : ElfAsked) (edits : List Edit) (old new : Option (List ℕ
 elf_patched (one edit) edits old new loaded d are all leaves becomes = λ file known. (made_of file d, leaves_of (one edit) old loaded file d all known leaves, becomes file known)
 elf_patched (several read) edits old new loaded d are all leaves becomes = λ file known. (made_of file d, leaves_of (several read) old loaded file d all known leaves, becomes file known)
 elf_patched (shrinking prefixes) edits old new loaded d are all leaves becomes = absurd are
+elf_patched (of_symbols edit) edits old new loaded d are all leaves becomes = absurd are
 elf_patched printing edits old new loaded d are all leaves becomes = absurd are
 
 -- the difference was not made

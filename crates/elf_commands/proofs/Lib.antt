@@ -3,3 +3,4 @@ pub mod ElfStoreLaws
 pub mod FailureLaws
 pub mod NotingLaws
 pub mod ShrinkLaws
+pub mod SymbolRunLaws

@@ -24,16 +24,11 @@ use Rattle.arwen_elf_writer.specs.Written.{IsImageWritten, IsNoImage}
 use Rattle.elf_apply.specs.declared.error.ElfError.{ElfError}
 use Rattle.elf_apply.specs.declared.error.ElfError.TheVariants as elf
 use Rattle.elf_commands.specs.ElfAsked.{one, shrinking}
-use Rattle.elf_commands.specs.ElfEngine.{AreChanged, IsElfEdited, LeavesElf, MayFailAs, RunsElf, TellsEdit, TellsNoImage, TellsRun}
-use Rattle.elf_commands.specs.ElfAsked.{elf_asked}
+use Rattle.elf_commands.specs.ElfEngine.{AreChanged, IsElfEdited, LeavesElf, MayFailAs, TellsEdit, TellsNoImage}
 use Rattle.elf_commands.specs.ElfErrors.{answer_to_elf, answer_to_replaced}
-use Rattle.elf_commands.specs.Meaning.{elf_command_model}
 use Rattle.command_words.specs.Rows.{Text}
-use Rattle.elf_commands.specs.ShrinkRuns.{AreFoundIn, FailsShrink, IsQuiet, IsRemovalTold, IsShrunkBy, IsShrunkImage, RunsCommand, RunsShrink, ShrinksStore, Steps, TellsCommand, TellsShrink, TellsShrunk, TellsShrunkPath, TellsUnshrunk, TellsUntold}
+use Rattle.elf_commands.specs.ShrinkRuns.{AreFoundIn, FailsShrink, IsQuiet, IsRemovalTold, IsShrunkBy, IsShrunkImage, RunsShrink, ShrinksStore, Steps, TellsShrink, TellsShrunk, TellsShrunkPath, TellsUnshrunk, TellsUntold}
 use Rattle.elf_commands_probe.specs.Shrinking.{AreFound, Finding, removal_lines}
-use Rattle.elf_commands.specs.declared.command.ElfCommand.{ElfCommand}
-use Rattle.elf_commands.specs.declared.command.ElfCommand.TheVariants as command
-use Rattle.elf_commands.specs.declared.elf.shrink_rpath.Args.{Args}
 use Rattle.elf_commands.specs.declared.error.ElfCommandError.{ElfCommandError}
 use Rattle.elf_commands.specs.declared.error.ElfCommandError.TheVariants.{Edits, Elf, ElfBatch, Io, Memory}
 use Rattle.elf_commands.proofs.ElfOutcomes.{edited_answer, leaves_pieces, made_of_edits, one_refused, source_is, tells_no_image}
@@ -245,15 +240,3 @@ refused_is_quiet w (ElfBatch e) = refl
 pub shrink_tells_at : (finds : Finding) (prefixes : List Text) (known old new : Option (List ℕ)) (e : ElfCommandError) → old ≡ known → FailsShrink finds prefixes old new e → TellsShrunkPath finds prefixes known e
 shrink_tells_at finds prefixes known old new (Io e) same fails = tt
 shrink_tells_at finds prefixes known old new e same fails = λ file is. fails.1 file (same ∙ is)
-
--- ## Any command
-
-pub others_run : (asked : ElfCommand) → ((args : Args) → asked ≡ command.ShrinkRpath args → ⊥) → (found : List Answer) (file : List ℕ) (answer : Option (Vec ℕ Global)) (old new : Option (List ℕ))
-    → RunsElf (elf_command_model asked) (elf_asked (elf_command_model asked)) file answer old new → RunsCommand (elf_command_model asked) found file answer old new
-others_run (command.ShrinkRpath args) other found file answer old new runs = absurd (other args refl)
-others_run asked other found file answer old new runs = runs
-
-pub others_tell : {W : Type 0} (asked : ElfCommand) → ((args : Args) → asked ≡ command.ShrinkRpath args → ⊥) → (found : List Answer) (file : List ℕ) (old new : W) (e : ElfCommandError)
-    → TellsRun (elf_asked (elf_command_model asked)) file old new e → TellsCommand (elf_command_model asked) found file old new e
-others_tell (command.ShrinkRpath args) other found file old new e tells = absurd (other args refl)
-others_tell asked other found file old new e tells = tells

@@ -2,6 +2,7 @@
 use Rattle.std.specs.Prelude.{ℕ, ◌≡◌, ◌⊎◌, List, [], ◌∷◌, Option, Some, None, Ok, Err, false, true, ⊤}
 use Rattle.std.specs.declared.alloc.Global.{Global}
 use Rattle.std.specs.declared.vec.Vec.{Vec}
+use Rattle.elf_apply.specs.SymbolsTaken.{RefusesSymbolEdit}
 use Rattle.elf_apply.specs.Told.{RefusesAt}
 use Rattle.arwen_elf_writer.specs.Written.{IsImageWritten, IsNoImage}
 use Rattle.elf_apply.specs.declared.batch.ElfBatchError.{ElfBatchError}
@@ -16,7 +17,9 @@ use Rattle.elf_image.specs.Views.{View, dynamic_symbol_count, loader_view, secti
 use Rattle.elf_image.specs.Kept.{image_at_read}
 use Rattle.elf_write_spec.specs.Final.{final_view}
 use Rattle.elf_write_spec.specs.WrittenFile.{IsWrittenOf}
-use Rattle.elf_commands.specs.ElfAsked.{ElfAsked, answered, asks_edits, elf_asked, one, printing, several, shrinking}
+use Rattle.elf_symbol_edits.specs.Cause.{step as symbol_step}
+use Rattle.elf_symbol_edits.specs.SymbolEdit.{SymbolEdit}
+use Rattle.elf_commands.specs.ElfAsked.{ElfAsked, answered, asks_edits, elf_asked, of_symbols, one, printing, several, shrinking}
 use Rattle.elf_commands.specs.ElfWords.{edits_model}
 use Rattle.elf_commands.specs.ElfErrors.{answer_to_elf, answer_to_elf_batch}
 use Rattle.elf_commands.specs.Meaning.{ElfMeaning}
@@ -55,6 +58,12 @@ pub record IsEditedTo (edits : List Edit) (file new : List ℕ) : Type 0 where
   pub makes : Makes edits file made
   pub written : IsImageWritten made new
   pub shows : made.changed ≡ true → ShowsEdits edits file new made
+
+-- The image that an edit of symbols or sections makes of a file.
+pub record MakesSymbols (edit : SymbolEdit) (file : List ℕ) (made : Image) : Type 0 where
+  pub read : Image
+  pub is_read : image_of file ≡ Ok read
+  pub makes : symbol_step edit read ≡ Ok made
 
 -- ---- which answer tells why there are no bytes; want of memory may be answered in any case
 
@@ -95,6 +104,23 @@ TellsEdit a file (Elf e) = TellsElfOf a file e
 TellsEdit a file (ElfBatch e) = TellsBatchOf a file e
 TellsEdit a file e = ⊥
 
+-- an edit of symbols or sections is refused
+pub record IsSymbolEditRefused (edit : SymbolEdit) (file : List ℕ) (e : ElfError) : Type 0 where
+  pub read : Image
+  pub is_read : image_of file ≡ Ok read
+  pub refused : RefusesSymbolEdit e (symbol_step edit read)
+
+-- the image that it makes has no bytes
+pub record IsSymbolEditUnwritten (edit : SymbolEdit) (file : List ℕ) (e : ElfError) : Type 0 where
+  pub made : Image
+  pub makes : MakesSymbols edit file made
+  pub none : IsNoImage made e
+
+abbrev pub TellsSymbols : SymbolEdit → List ℕ → ElfCommandError → Type 0
+TellsSymbols edit file Memory = ⊤
+TellsSymbols edit file (Elf e) = IsUnread file e ⊎ (IsSymbolEditRefused edit file e ⊎ IsSymbolEditUnwritten edit file e)
+TellsSymbols edit file e = ⊥
+
 -- new bytes of an image that was changed, and none of one that wasn't
 pub record AreChanged (made : Image) (answer : Option (Vec ℕ Global)) : Type 0 where
   pub same : made.changed ≡ false → answer ≡ None
@@ -111,6 +137,7 @@ abbrev pub AreEditsAsked : ElfAsked → List Edit → Type 0
 AreEditsAsked (one edit) edits = edits ≡ edit ∷ []
 AreEditsAsked (several read) edits = read ≡ Ok edits
 AreEditsAsked (shrinking prefixes) edits = ⊥
+AreEditsAsked (of_symbols edit) edits = ⊥
 AreEditsAsked printing edits = ⊥
 
 -- new bytes, or none, are what the edits make that a command asks for
@@ -134,9 +161,10 @@ bytes_left file (Some new) = new.items
 abbrev pub RunsElf : ElfMeaning → ElfAsked → List ℕ → Option (Vec ℕ Global) → Option (List ℕ) → Option (List ℕ) → Type 0
 RunsElf meaning printing file answer old new = (answer ≡ None) × Prints meaning (image_of file) old new
 RunsElf meaning (shrinking prefixes) file answer old new = (answer ≡ None) × Prints meaning (image_of file) old new
+RunsElf meaning (of_symbols edit) file answer old new = (answer ≡ None) × Prints meaning (image_of file) old new
 RunsElf meaning a file answer old new = IsElfEdited a file answer × (new ≡ old)
 
--- the edits of a command; none of one that prints, or asks first what is found
+-- the edits of a command; none of one that prints, asks first what is found, or edits symbols or sections
 abbrev pub AreAskedIf : ElfAsked → Option (Vec ElfEdit Global) → Type 0
 AreAskedIf a (Some edits) = AreEditsAsked a (edits_model edits.items)
 AreAskedIf a None = asks_edits a ≡ false
@@ -149,6 +177,7 @@ TellsEachFile a e = (file : List ℕ) → TellsEdit a file e
 abbrev pub TellsRun : {W : Type 0} → ElfAsked → List ℕ → W → W → ElfCommandError → Type 0
 TellsRun printing file old new e = TellsElf (image_of file) old new e
 TellsRun (shrinking prefixes) file old new e = TellsElf (image_of file) old new e
+TellsRun (of_symbols edit) file old new e = TellsElf (image_of file) old new e
 TellsRun a file old new e = (new ≡ old) × TellsEdit a file e
 
 -- a refused edit as it is answered to a command: of several it is told which one is refused
@@ -162,6 +191,7 @@ abbrev pub MayFailAs : ElfAsked → ElfCommandError → Type 0
 MayFailAs printing e = PrintMayFail e
 MayFailAs a Memory = ⊤
 MayFailAs a (Io e) = ⊤
+MayFailAs (of_symbols edit) e = (file : List ℕ) × TellsSymbols edit file e
 MayFailAs a e = (file : List ℕ) × ((found : List Answer) × TellsEdit (answered found a) file e)
 
 abbrev pub ElfMayFail : ElfMeaning → ElfCommandError → Type 0

@@ -8,3 +8,5 @@ pub mod Meaning
 pub mod Noting
 pub mod Prints
 pub mod ShrinkRuns
+pub mod SymbolRuns
+pub mod SymbolTexts

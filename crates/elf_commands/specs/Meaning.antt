@@ -4,6 +4,7 @@ use Rattle.std.specs.Prelude.{string_bytes}
 use Rattle.elf_edits.specs.Edit.{Edit, AddDebugEntry, AddNeeded, AddRunPath, ClearExecStack, ClearSymbolVersion, DeleteNeeded}
 use Rattle.elf_edits.specs.Edit.{DeleteRunPath, NoDefaultLibrary, RenameDynamicSymbols, ReplaceNeeded, SetExecStack}
 use Rattle.elf_edits.specs.Edit.{SetInterpreter, SetOsAbi, SetPageSize, SetRunPath, SetSoname, UseRpath}
+use Rattle.elf_symbol_edits.specs.SymbolEdit.{DeleteAllSymbols, DeleteSections, RenameAllSymbols, RenameSections, SymbolEdit}
 use Rattle.command_words.specs.Groups.{Wrong}
 use Rattle.command_words.specs.KeyValue.{decimal_number}
 use Rattle.command_words.specs.Rows.{Asks, Line, Text, by_options, by_path, by_text, by_words}
@@ -12,11 +13,12 @@ use Rattle.elf_commands.specs.declared.command.ElfCommand.{ElfCommand}
 use Rattle.elf_commands.specs.declared.command.ElfCommand.TheVariants as elf
 
 -- what is asked of the ELF file at a path: an edit, or the edits that words name, or that its run path shrinks, with the
--- prefixes that are allowed, or something to print
+-- prefixes that are allowed, or an edit of symbols or sections, or something to print
 pub data ElfMeaning : Type 0 where
   edit_elf : Edit → Text → ElfMeaning
   apply_elf : Text → List Text → ElfMeaning
   shrink_elf : Text → List Text → ElfMeaning
+  symbols_elf : SymbolEdit → Text → ElfMeaning
   print_rpath : Text → ElfMeaning
   print_needed : Text → ElfMeaning
   print_soname : Text → ElfMeaning
@@ -59,6 +61,14 @@ abbrev pub by_pairs : (List (Text × Text) → Edit) → Asks Reading
 by_pairs edit =
     by_words (λ path words. pairs_read (λ pairs. edit_elf (edit pairs) path) (pairs_from 1 words))
 
+-- an edit of symbols or sections by texts, and by pairs of texts
+abbrev pub by_names : (List Text → SymbolEdit) → Asks Reading
+by_names edit = by_words (λ path words. Ok (symbols_elf (edit words) path))
+
+abbrev pub by_new_names : (List (Text × Text) → SymbolEdit) → Asks Reading
+by_new_names edit =
+    by_words (λ path words. pairs_read (λ pairs. symbols_elf (edit pairs) path) (pairs_from 1 words))
+
 abbrev pub edit_line : Text → Asks Reading → Line Reading
 edit_line name asks = record { name = name; is_edit = true; asks = asks }
 
@@ -90,6 +100,10 @@ elf_lines = edit_line (codes "add-debug-tag") (by_none AddDebugEntry)
     ∷ other_line (codes "apply") (by_words (λ path words. Ok (apply_elf path words)))
     ∷ other_line (codes "shrink-rpath")
     (by_options (codes "allowed-rpath-prefixes") 97 (λ path prefixes. Ok (shrink_elf path prefixes)))
+    ∷ other_line (codes "rename-symbols") (by_new_names RenameAllSymbols)
+    ∷ other_line (codes "delete-symbols") (by_names DeleteAllSymbols)
+    ∷ other_line (codes "rename-sections") (by_new_names RenameSections)
+    ∷ other_line (codes "delete-sections") (by_names DeleteSections)
     ∷ print_line (codes "print-rpath") print_rpath
     ∷ print_line (codes "print-needed") print_needed
     ∷ print_line (codes "print-soname") print_soname
@@ -133,6 +147,14 @@ elf_command_model (elf.Apply args) =
     apply_elf (string_bytes args.path_to_binary) (map string_bytes args.edits.items)
 elf_command_model (elf.ShrinkRpath args) =
     shrink_elf (string_bytes args.path_to_binary) (map string_bytes args.allowed_rpath_prefixes.items)
+elf_command_model (elf.RenameSymbols args) =
+    symbols_elf (RenameAllSymbols (map text_pair_model args.rename_symbols.items)) (string_bytes args.path_to_binary)
+elf_command_model (elf.DeleteSymbols args) =
+    symbols_elf (DeleteAllSymbols (map string_bytes args.symbols.items)) (string_bytes args.path_to_binary)
+elf_command_model (elf.RenameSections args) =
+    symbols_elf (RenameSections (map text_pair_model args.rename_sections.items)) (string_bytes args.path_to_binary)
+elf_command_model (elf.DeleteSections args) =
+    symbols_elf (DeleteSections (map string_bytes args.sections.items)) (string_bytes args.path_to_binary)
 elf_command_model (elf.PrintRpath args) = print_rpath (string_bytes args.path_to_binary)
 elf_command_model (elf.PrintNeeded args) = print_needed (string_bytes args.path_to_binary)
 elf_command_model (elf.PrintSoname args) = print_soname (string_bytes args.path_to_binary)
@@ -149,6 +171,7 @@ abbrev pub elf_file_of : ElfMeaning → Text
 elf_file_of (edit_elf asked path) = path
 elf_file_of (apply_elf path words) = path
 elf_file_of (shrink_elf path prefixes) = path
+elf_file_of (symbols_elf edit path) = path
 elf_file_of (print_rpath path) = path
 elf_file_of (print_needed path) = path
 elf_file_of (print_soname path) = path

@@ -5,11 +5,12 @@ ghost use Rattle.elf_commands.specs.Meaning.{elf_lines};
 
 use crate::elf::{
     add_debug_tag, add_needed, add_rpath, apply, clear_execstack, clear_version_symbol,
-    force_rpath, no_default_lib, path_alone, print_execstack, print_interpreter, print_needed,
-    print_os_abi, print_rpath, print_soname, remove_needed, remove_rpath, rename_dynamic_symbols,
-    replace_needed, set_execstack, set_interpreter, set_os_abi, set_page_size, set_rpath,
-    set_soname, shrink_rpath,
+    delete_sections, delete_symbols, force_rpath, no_default_lib, path_alone, print_execstack,
+    print_interpreter, print_needed, print_os_abi, print_rpath, print_soname, remove_needed,
+    remove_rpath, rename_dynamic_symbols, rename_sections, rename_symbols, replace_needed,
+    set_execstack, set_interpreter, set_os_abi, set_page_size, set_rpath, set_soname, shrink_rpath,
 };
+use crate::symbol_texts::SymbolTexts;
 use crate::texts::{bytes_of, pairs_copied, texts_of};
 use command_words::{
     Row, Value, ValueError, ValueForm, ValueOption, Values, copied, number_of, pairs_of,
@@ -59,6 +60,14 @@ pub enum ElfCommand {
     Apply(apply::Args),
     /// Leave directories out of the run path.
     ShrinkRpath(shrink_rpath::Args),
+    /// Rename symbols, all at once.
+    RenameSymbols(rename_symbols::Args),
+    /// Delete symbols.
+    DeleteSymbols(delete_symbols::Args),
+    /// Rename sections, all at once.
+    RenameSections(rename_sections::Args),
+    /// Delete sections.
+    DeleteSections(delete_sections::Args),
     /// Print the run path.
     PrintRpath(print_rpath::Args),
     /// Print the needed libraries.
@@ -79,6 +88,7 @@ impl ElfCommand {
     ghost use Rattle.elf_commands.specs.ElfAsked.{elf_asked, is_printing};
     ghost use Rattle.elf_commands.specs.ElfWords.{elf_edit_asked};
     ghost use Rattle.elf_commands.specs.Meaning.{elf_file_of, elf_lines, elf_command_model, reading_of};
+    ghost use Rattle.elf_commands.specs.SymbolTexts.{symbol_texts_model, symbols_asked};
     ghost use Rattle.command_words.specs.Rows.{given_model, meant_with, options, path, text, words as words_given};
     ghost use Rattle.command_words.specs.WordValues.{TellsNoValue};
 
@@ -203,6 +213,22 @@ impl ElfCommand {
                     rename_symbols: pairs_of(alloc, words.as_slice())?,
                 })
             }
+            rename_symbols::NAME => ElfCommand::RenameSymbols(rename_symbols::Args {
+                path_to_binary,
+                rename_symbols: pairs_of(alloc, words.as_slice())?,
+            }),
+            delete_symbols::NAME => ElfCommand::DeleteSymbols(delete_symbols::Args {
+                path_to_binary,
+                symbols: words,
+            }),
+            rename_sections::NAME => ElfCommand::RenameSections(rename_sections::Args {
+                path_to_binary,
+                rename_sections: pairs_of(alloc, words.as_slice())?,
+            }),
+            delete_sections::NAME => ElfCommand::DeleteSections(delete_sections::Args {
+                path_to_binary,
+                sections: words,
+            }),
             apply::NAME => ElfCommand::Apply(apply::Args {
                 path_to_binary,
                 edits: words,
@@ -226,7 +252,7 @@ impl ElfCommand {
     }
 
     /// The edit that the command asks for; `None` for `apply`, which asks for several, for
-    /// `shrink-rpath`, which asks for one by what is found, and for a command that prints.
+    /// `shrink-rpath`, which asks for one by what is found, for one of symbols or sections, and for a command that prints.
     pub(crate) fn edit(&self, alloc: Global) -> Result<Option<ElfEdit>, AllocError>
         ensures { IfOk result (λ edit.
             option_map edit_model edit ≡ elf_edit_asked (elf_command_model self.now)) }
@@ -262,6 +288,28 @@ impl ElfCommand {
             }
             ElfCommand::RenameDynamicSymbols(args) => {
                 ElfEdit::RenameDynamicSymbols(pairs_copied(alloc, args.rename_symbols.as_slice())?)
+            }
+            _ => return Ok(None),
+        }))
+    }
+
+    /// The edit of symbols or sections that the command asks for; `None` for any other command.
+    pub(crate) fn symbol_edit(&self, alloc: Global) -> Result<Option<SymbolTexts>, AllocError>
+        ensures { IfOk result (λ edit. option_map symbol_texts_model edit
+            ≡ symbols_asked (elf_command_model self.now)) }
+    {
+        Ok(Some(match self {
+            ElfCommand::RenameSymbols(args) => {
+                SymbolTexts::RenameSymbols(pairs_copied(alloc, args.rename_symbols.as_slice())?)
+            }
+            ElfCommand::DeleteSymbols(args) => {
+                SymbolTexts::DeleteSymbols(texts_of(alloc, args.symbols.as_slice())?)
+            }
+            ElfCommand::RenameSections(args) => {
+                SymbolTexts::RenameSections(pairs_copied(alloc, args.rename_sections.as_slice())?)
+            }
+            ElfCommand::DeleteSections(args) => {
+                SymbolTexts::DeleteSections(texts_of(alloc, args.sections.as_slice())?)
             }
             _ => return Ok(None),
         }))
@@ -306,6 +354,10 @@ impl ElfCommand {
             ElfCommand::RenameDynamicSymbols(args) => args.path_to_binary.as_str(),
             ElfCommand::Apply(args) => args.path_to_binary.as_str(),
             ElfCommand::ShrinkRpath(args) => args.path_to_binary.as_str(),
+            ElfCommand::RenameSymbols(args) => args.path_to_binary.as_str(),
+            ElfCommand::DeleteSymbols(args) => args.path_to_binary.as_str(),
+            ElfCommand::RenameSections(args) => args.path_to_binary.as_str(),
+            ElfCommand::DeleteSections(args) => args.path_to_binary.as_str(),
             ElfCommand::PrintRpath(args) => args.path_to_binary.as_str(),
             ElfCommand::PrintNeeded(args) => args.path_to_binary.as_str(),
             ElfCommand::PrintSoname(args) => args.path_to_binary.as_str(),
@@ -341,7 +393,7 @@ Example:
 ";
 
 /// The commands for ELF files.
-pub static ELF_ROWS: [Row; 25] = [
+pub static ELF_ROWS: [Row; 29] = [
     Row {
         name: add_debug_tag::NAME,
         about: "Add an entry for a debugger",
@@ -514,6 +566,46 @@ pub static ELF_ROWS: [Row; 25] = [
                 name: "PREFIX",
                 help: "Leave out directories too that no such prefix begins",
             },
+        }),
+        is_edit: false,
+        more: "",
+    },
+    Row {
+        name: rename_symbols::NAME,
+        about: "Rename symbols for link editors and the loader, all at once",
+        form: ValueForm::Words(Value {
+            name: "OLD=NEW",
+            help: "Pairs of an old and a new name",
+        }),
+        is_edit: false,
+        more: "",
+    },
+    Row {
+        name: delete_symbols::NAME,
+        about: "Delete symbols for link editors and the loader",
+        form: ValueForm::Words(Value {
+            name: "NAME",
+            help: "Names of the symbols",
+        }),
+        is_edit: false,
+        more: "",
+    },
+    Row {
+        name: rename_sections::NAME,
+        about: "Rename sections, all at once",
+        form: ValueForm::Words(Value {
+            name: "OLD=NEW",
+            help: "Pairs of an old and a new name",
+        }),
+        is_edit: false,
+        more: "",
+    },
+    Row {
+        name: delete_sections::NAME,
+        about: "Delete sections",
+        form: ValueForm::Words(Value {
+            name: "NAME",
+            help: "Names of the sections",
         }),
         is_edit: false,
         more: "",

@@ -10,6 +10,7 @@ mod noting;
 mod printing;
 mod shrinking;
 mod standard_error;
+mod symbols;
 
 use crate::command::ElfCommand;
 use crate::error::ElfCommandError;
@@ -23,6 +24,8 @@ pub use printing::{print_path, print_store};
 use shrinking::shrink_file;
 pub use shrinking::{shrink_path, shrink_store};
 use std::rt::Files;
+use symbols::edit_symbols_file;
+pub use symbols::{edit_symbols_path, edit_symbols_store};
 
 /// Does what is asked of an ELF file, and tells no notes. What is printed goes to the standard output, and which
 /// directories `shrink-rpath` leaves out to the standard error.
@@ -46,11 +49,15 @@ pub fn execute_telling<R: Files + Print + Eprint + AllocGlobal>(
 {
     match elf {
         ElfCommand::ShrinkRpath(args) => shrink_file(rt, args),
+        ElfCommand::RenameSymbols(args) => rename_symbols::execute(rt, args),
+        ElfCommand::DeleteSymbols(args) => delete_symbols::execute(rt, args),
+        ElfCommand::RenameSections(args) => rename_sections::execute(rt, args),
+        ElfCommand::DeleteSections(args) => delete_sections::execute(rt, args),
         other => execute_unprobed(rt, other, notes),
     }
 }
 
-/// The same of a command that looks for no libraries.
+/// The same of a command that looks for no libraries, and edits no symbols or sections.
 fn execute_unprobed<R: Files + Print + Eprint + AllocGlobal>(
     rt: &R,
     elf: ElfCommand,
@@ -485,6 +492,102 @@ pub mod shrink_rpath {
         ensures { IfErr result (ElfMayFail (elf_command_model (ElfCommand.ShrinkRpath args))) }
     {
         shrink_file(rt, args)
+    }
+}
+
+/// `rename-symbols`: gives symbols other names, all at once, for link editors and for the loader (gABI, Symbol Table, st_name).
+pub mod rename_symbols {
+    use super::{ElfCommand, ElfCommandError, Files, edit_symbols_file};
+
+    /// The word that names the command.
+    pub const NAME: &str = "rename-symbols";
+
+    /// The values of the command.
+    #[derive(Debug, Drop)]
+    pub struct Args {
+        /// Path to the file to change.
+        pub path_to_binary: String,
+        /// Pairs of an old and a new name; of a repeated old name the last pair counts.
+        pub rename_symbols: Vec<(String, String)>,
+    }
+
+    /// Edits the file.
+    pub fn execute<R: Files + AllocGlobal>(rt: &R, args: Args) -> Result<(), ElfCommandError>
+        ensures { IfErr result (ElfMayFail (elf_command_model (ElfCommand.RenameSymbols args))) }
+    {
+        edit_symbols_file(rt, ElfCommand::RenameSymbols(args))
+    }
+}
+
+/// `delete-symbols`: deletes symbols, for link editors and for the loader (gABI, Symbol Table).
+pub mod delete_symbols {
+    use super::{ElfCommand, ElfCommandError, Files, edit_symbols_file};
+
+    /// The word that names the command.
+    pub const NAME: &str = "delete-symbols";
+
+    /// The values of the command.
+    #[derive(Debug, Drop)]
+    pub struct Args {
+        /// Path to the file to change.
+        pub path_to_binary: String,
+        /// Names of the symbols to delete.
+        pub symbols: Vec<String>,
+    }
+
+    /// Edits the file.
+    pub fn execute<R: Files + AllocGlobal>(rt: &R, args: Args) -> Result<(), ElfCommandError>
+        ensures { IfErr result (ElfMayFail (elf_command_model (ElfCommand.DeleteSymbols args))) }
+    {
+        edit_symbols_file(rt, ElfCommand::DeleteSymbols(args))
+    }
+}
+
+/// `rename-sections`: gives sections other names, all at once (gABI, Sections, sh_name).
+pub mod rename_sections {
+    use super::{ElfCommand, ElfCommandError, Files, edit_symbols_file};
+
+    /// The word that names the command.
+    pub const NAME: &str = "rename-sections";
+
+    /// The values of the command.
+    #[derive(Debug, Drop)]
+    pub struct Args {
+        /// Path to the file to change.
+        pub path_to_binary: String,
+        /// Pairs of an old and a new name; of a repeated old name the last pair counts.
+        pub rename_sections: Vec<(String, String)>,
+    }
+
+    /// Edits the file.
+    pub fn execute<R: Files + AllocGlobal>(rt: &R, args: Args) -> Result<(), ElfCommandError>
+        ensures { IfErr result (ElfMayFail (elf_command_model (ElfCommand.RenameSections args))) }
+    {
+        edit_symbols_file(rt, ElfCommand::RenameSections(args))
+    }
+}
+
+/// `delete-sections`: deletes sections, with what goes along (gABI, Sections).
+pub mod delete_sections {
+    use super::{ElfCommand, ElfCommandError, Files, edit_symbols_file};
+
+    /// The word that names the command.
+    pub const NAME: &str = "delete-sections";
+
+    /// The values of the command.
+    #[derive(Debug, Drop)]
+    pub struct Args {
+        /// Path to the file to change.
+        pub path_to_binary: String,
+        /// Names of the sections to delete.
+        pub sections: Vec<String>,
+    }
+
+    /// Edits the file.
+    pub fn execute<R: Files + AllocGlobal>(rt: &R, args: Args) -> Result<(), ElfCommandError>
+        ensures { IfErr result (ElfMayFail (elf_command_model (ElfCommand.DeleteSections args))) }
+    {
+        edit_symbols_file(rt, ElfCommand::DeleteSections(args))
     }
 }
 

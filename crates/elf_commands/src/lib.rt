@@ -6,6 +6,7 @@ mod command;
 pub mod elf;
 mod elf_words;
 mod error;
+mod symbol_texts;
 mod texts;
 
 pub use command::{ElfCommand, elf_table};

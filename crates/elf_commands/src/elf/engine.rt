@@ -18,6 +18,7 @@ ghost use Rattle.elf_commands.specs.Prints.{Prints, TellsElf, printed};
 use crate::command::ElfCommand;
 use crate::elf::noting::apply_noting;
 use crate::elf::shrinking::run_shrink;
+use crate::elf::symbols::run_symbols;
 use crate::elf_words::parse_elf_edits;
 use crate::error::ElfCommandError;
 use arwen_elf::elf::{ElfBatchError, ElfContainer, ElfError, ProbeAnswer};
@@ -49,11 +50,15 @@ pub fn run_elf<W: Write>(
 {
     match command {
         ElfCommand::ShrinkRpath(args) => run_shrink(alloc, bytes, args, probe, out),
+        ElfCommand::RenameSymbols(_) => run_symbols(alloc, bytes, command),
+        ElfCommand::DeleteSymbols(_) => run_symbols(alloc, bytes, command),
+        ElfCommand::RenameSections(_) => run_symbols(alloc, bytes, command),
+        ElfCommand::DeleteSections(_) => run_symbols(alloc, bytes, command),
         _ => run_unprobed(alloc, bytes, command, out),
     }
 }
 
-/// The same of a command that asks for no answers.
+/// The same of a command that asks for no answers, and edits no symbols or sections.
 fn run_unprobed<W: Write>(
     alloc: Global,
     bytes: &[u8],
@@ -75,7 +80,8 @@ fn run_unprobed<W: Write>(
     }
 }
 
-/// The edits that a command asks for; `None` of one that prints, and of `shrink-rpath`, which asks first what is found.
+/// The edits that a command asks for; `None` of one that prints, of `shrink-rpath`, which asks first what is found, and of one
+/// that edits symbols or sections.
 /// Errors: `Edits` where the words of `apply` are no list of edits; `Memory`.
 pub fn edits_asked(
     alloc: Global,

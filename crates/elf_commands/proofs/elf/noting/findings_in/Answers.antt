@@ -9,4 +9,4 @@ use Rattle.elf_commands.proofs.elf.noting.findings_in.Goals as goal
 pub returns : goal.returns
 returns c =
     let Of : Image → Type 0 = λ image. IfOk c.findings_of.result (AreFindings (edits_model c.args.edits.now) image) in
-    subst Of c.builder.ensures.image c.findings_of.ensures
+    subst Of c.builder.ensures c.findings_of.ensures

@@ -10,5 +10,5 @@ pub returns : goal.returns
 returns c =
     let notes = c.in_ok-notes.notes in
     let Of : Image → Type 0 = λ image. AreLeft image notes in
-    let left = subst Of c.builder.ensures.image c.in_ok-notes.ensures.left in
+    let left = subst Of c.builder.ensures c.in_ok-notes.ensures.left in
     IfOk-weaker c.note_lines.result _ _ (λ text told. (notes, c.in_ok-notes.ensures.found, left, told ∙ ap (λ (path : List ℕ). lines_of path notes) c.path_to_binary.ensures)) c.note_lines.ensures
