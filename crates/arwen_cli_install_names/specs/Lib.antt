@@ -1,0 +1,3 @@
+pub mod Editing
+pub mod Line
+pub mod Naming

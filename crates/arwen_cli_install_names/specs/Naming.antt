@@ -1,0 +1,50 @@
+-- What options of install_name_tool mean of the bytes of a file.
+use Rattle.std.specs.Prelude.{ℕ, ◌≡◌, List, [], ◌∷◌, map, is_some, ⊤}
+use Rattle.std.specs.List.{AllByRecursion}
+use Rattle.std.specs.Str.Lossy.{utf8_lossy}
+use Rattle.arwen_macho.specs.Container.{first_container}
+use Rattle.arwen_macho.specs.FatState.{Slice}
+use Rattle.arwen_macho.specs.declared.macho.MachoType.{MachoType}
+use Rattle.arwen_macho.specs.declared.macho.MachoType.TheVariants.{Fat, SingleArch}
+use Rattle.macho_commands.specs.declared.error.MachoCommandError.TheVariants.{Memory}
+use Rattle.macho_edits.specs.State.{laid_bytes}
+use Rattle.macho_image.specs.Commands.{id_of, libs_of, rpaths_of}
+use Rattle.arwen_cli_peers.specs.NameWords.{FileNames, name_words}
+use Rattle.arwen_cli_peers.specs.Options.{Asked, Text}
+use Rattle.arwen_cli_install_names.specs.declared.naming.NamingFault.{NamingFault}
+use Rattle.arwen_cli_install_names.specs.declared.naming.NamingFault.TheVariants.{Command, Unlike}
+
+-- what the bytes of a thin file have before its edits
+abbrev pub names_in : List ℕ → FileNames
+names_in bytes = record {
+  has_id = is_some (id_of bytes);
+  libraries = map utf8_lossy (libs_of bytes);
+  run_paths = map utf8_lossy (rpaths_of bytes);
+}
+
+-- the words of `apply` that options mean of it
+abbrev pub words_in : List ℕ → List Asked → List Text
+words_in bytes given = name_words (names_in bytes) given
+
+-- ## Files of either shape
+
+abbrev pub slice_bytes : Slice → List ℕ
+slice_bytes slice = laid_bytes slice.state
+
+-- the thin files that a file is: itself, or its slices
+abbrev pub parts_of : MachoType → List (List ℕ)
+parts_of (SingleArch held) = laid_bytes held.state ∷ []
+parts_of (Fat held) = map slice_bytes held.state.slices
+
+-- options mean these words of each thin file
+abbrev pub AreWords : List Asked → List (List ℕ) → List Text → Type 0
+AreWords given parts words = AllByRecursion (λ part. words ≡ words_in part given) parts
+
+-- options mean these words of the bytes of a file, of each slice the same
+abbrev pub AreWordsOf : List Asked → List ℕ → List Text → Type 0
+AreWordsOf given file words = AreWords given (parts_of (first_container file)) words
+
+-- an error of a file that was read
+abbrev pub TellsWordless : NamingFault → Type 0
+TellsWordless (Command e) = e ≡ Memory
+TellsWordless Unlike = ⊤

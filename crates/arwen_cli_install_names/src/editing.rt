@@ -1,0 +1,122 @@
+//! Stores and files, edited as lines ask.
+ghost use Rattle.std.specs.Prelude.{◌≡◌, IfErr, IfOk, OnOk, map, string_bytes};
+ghost use Rattle.byte_store.specs.Known.{Stays};
+ghost use Rattle.macho_commands.specs.Meaning.{apply as apply_meant, macho_command_model};
+ghost use Rattle.macho_commands.specs.Stores.{FailsPatch};
+ghost use Rattle.macho_commands.specs.declared.signing.Signing.TheVariants.{Left};
+ghost use Rattle.arwen_cli_peers.specs.Options.{given_model};
+ghost use Rattle.arwen_cli_install_names.specs.Editing.{AreKnownWords, FailsNames, IsNamed, IsPatchedBy};
+
+use crate::naming::{NamingFault, words_for};
+use arwen_cli_peers::Given;
+use byte_store::{ReadError, Store, load_whole};
+use command_words::{MOST_BYTES, Notes};
+use macho_commands::{MachoCommand, MachoCommandError, Signing, apply, patch_store};
+use std::alloc::{AllocError, Global};
+use std::io;
+
+/// Why a file isn't edited.
+#[derive(Debug, Drop)]
+pub enum NamesError {
+    /// As a command for Mach-O files answers it.
+    Command(MachoCommandError),
+    /// The slices of the file need unlike edits.
+    Unlike,
+}
+
+impl From<MachoCommandError> for NamesError {
+    ghost use Rattle.std.specs.Prelude.{◌≡◌};
+    ghost use Rattle.arwen_cli_install_names.specs.declared.editing.NamesError.TheVariants.{Command};
+
+    ghost from_gives = { λ e error. error ≡ Command e };
+
+    fn from(error: MachoCommandError) -> Self {
+        NamesError::Command(error)
+    }
+}
+
+impl From<NamingFault> for NamesError {
+    fn from(fault: NamingFault) -> Self {
+        match fault {
+            NamingFault::Command(error) => NamesError::Command(error),
+            NamingFault::Unlike => NamesError::Unlike,
+        }
+    }
+}
+
+impl From<ReadError> for NamesError {
+    fn from(error: ReadError) -> Self {
+        NamesError::Command(MachoCommandError::from(error))
+    }
+}
+
+impl From<io::Error> for NamesError {
+    fn from(error: io::Error) -> Self {
+        NamesError::Command(MachoCommandError::Io(error))
+    }
+}
+
+/// Edits the bytes of a store by the words of `apply` that options mean of them: all or none. Without words they stay. Answers
+/// the line of the note, where it is wanted, with the path.
+pub fn name_store<S: Store>(
+    alloc: Global,
+    store: &mut S,
+    path: &str,
+    given: &[Given<'_>],
+    notes: Notes,
+) -> Result<String, NamesError>
+    ensures named { OnOk result (IsNamed (map given_model given.now) path.now
+        (S.contents store.old) (S.contents store.new)) }
+    ensures left { IfErr result (FailsNames path.now (S.contents store.old) (S.contents store.new)) }
+{
+    let words = words_in(alloc, store, given)?;
+    Ok(patch_by(alloc, store, path, words, notes)?)
+}
+
+/// The words that options mean of the bytes of a store.
+fn words_in<S: Store>(
+    alloc: Global,
+    store: &mut S,
+    given: &[Given<'_>],
+) -> Result<Vec<String>, NamesError>
+    ensures are { IfOk result (λ words. AreKnownWords (map given_model given.now)
+        (S.contents store.old) (map string_bytes words.items)) }
+    ensures kept { Stays (S.contents store.old) (S.contents store.new) }
+{
+    let bytes = load_whole(alloc, store, MOST_BYTES)?;
+    Ok(words_for(alloc, bytes.as_slice(), given)?)
+}
+
+/// Edits the bytes of a store by words of `apply`.
+fn patch_by<S: Store>(
+    alloc: Global,
+    store: &mut S,
+    path: &str,
+    words: Vec<String>,
+    notes: Notes,
+) -> Result<String, MachoCommandError>
+    ensures patched { OnOk result (IsPatchedBy path.now (map string_bytes words.items)
+        (S.contents store.old) (S.contents store.new)) }
+    ensures left { IfErr result (FailsPatch Left (apply_meant path.now (map string_bytes words.items))
+        (S.contents store.old) (S.contents store.new)) }
+{
+    if words.is_empty() {
+        return Ok(String::new(alloc));
+    }
+    let command = apply_command(alloc, path, words)?;
+    let answer = patch_store(alloc, store, &command, notes, Signing::Left);
+    drop(command);
+    answer
+}
+
+/// The command `apply` with these words for the file at a path.
+fn apply_command(alloc: Global, path: &str, words: Vec<String>) -> Result<MachoCommand, AllocError>
+    ensures { IfOk result (λ command. macho_command_model command
+        ≡ apply_meant path.now (map string_bytes words.items)) }
+{
+    let path_to_binary = String::from_str(alloc, path)?;
+    Ok(MachoCommand::Apply(apply::Args {
+        path_to_binary,
+        edits: words,
+    }))
+}

@@ -1,0 +1,174 @@
+//! What options mean of the bytes of a file.
+ghost use Rattle.std.specs.Prelude.{◌≡◌, IfErr, IfOk, IsTrue, map, string_bytes};
+ghost use Rattle.std.specs.Str.Lossy.{utf8_lossy};
+ghost use Rattle.arwen_macho.specs.FatSlice.{slice_model};
+ghost use Rattle.macho_edits.specs.State.{laid_bytes};
+ghost use Rattle.arwen_cli_peers.specs.NameWords.{names_model};
+ghost use Rattle.arwen_cli_peers.specs.Options.{given_model};
+ghost use Rattle.arwen_cli_install_names.specs.Naming.{AreWords, AreWordsOf, TellsWordless, names_in, parts_of, slice_bytes, words_in as words_meant};
+
+use arwen_cli_peers::Given;
+use arwen_cli_peers::name_words::{Names, name_words};
+use arwen_macho::macho::{FatMacho, MachO, MachoContainer, MachoError, MachoType, SingleMachO};
+use macho_commands::MachoCommandError;
+use std::alloc::{AllocError, AllocFailed, Global};
+
+/// Why it isn't known what options mean of a file.
+#[derive(Debug, Drop)]
+pub enum NamingFault {
+    /// The file isn't read.
+    Command(MachoCommandError),
+    /// Its slices need unlike edits.
+    Unlike,
+}
+
+impl From<MachoError> for NamingFault {
+    ghost use Rattle.std.specs.Prelude.{◌≡◌};
+    ghost use Rattle.macho_commands.specs.Errors.{answer_to};
+    ghost use Rattle.arwen_cli_install_names.specs.declared.naming.NamingFault.TheVariants.{Command};
+
+    ghost from_gives = { λ cause fault. fault ≡ Command (answer_to cause) };
+
+    fn from(error: MachoError) -> Self {
+        NamingFault::Command(MachoCommandError::from(error))
+    }
+}
+
+impl From<AllocError> for NamingFault {
+    ghost use Rattle.std.specs.Prelude.{◌≡◌};
+    ghost use Rattle.macho_commands.specs.declared.error.MachoCommandError.TheVariants.{Memory};
+    ghost use Rattle.arwen_cli_install_names.specs.declared.naming.NamingFault.TheVariants.{Command};
+
+    ghost from_gives = { λ _ fault. fault ≡ Command Memory };
+
+    fn from(_refused: AllocError) -> Self {
+        NamingFault::Command(MachoCommandError::Memory)
+    }
+}
+
+impl<T: Drop> From<AllocFailed<T>> for NamingFault {
+    ghost use Rattle.std.specs.Prelude.{◌≡◌};
+    ghost use Rattle.macho_commands.specs.declared.error.MachoCommandError.TheVariants.{Memory};
+    ghost use Rattle.arwen_cli_install_names.specs.declared.naming.NamingFault.TheVariants.{Command};
+
+    ghost from_gives = { λ _ fault. fault ≡ Command Memory };
+
+    fn from(_refused: AllocFailed<T>) -> Self {
+        NamingFault::Command(MachoCommandError::Memory)
+    }
+}
+
+/// The words of `apply` that options mean of the bytes of a file: of each slice the same.
+pub fn words_for(
+    alloc: Global,
+    bytes: &[u8],
+    given: &[Given<'_>],
+) -> Result<Vec<String>, NamingFault>
+    ensures { IfOk result (λ words. AreWordsOf (map given_model given.now) bytes.now
+        (map string_bytes words.items)) }
+{
+    let file = MachoContainer::parse(alloc, bytes)?;
+    let words = words_in(alloc, file.inner(), given);
+    drop(file);
+    words
+}
+
+/// The same of a file that was read.
+fn words_in(
+    alloc: Global,
+    file: &MachoType<'_>,
+    given: &[Given<'_>],
+) -> Result<Vec<String>, NamingFault>
+    ensures ok { IfOk result (λ words. AreWords (map given_model given.now) (parts_of file.now)
+        (map string_bytes words.items)) }
+    ensures err { IfErr result TellsWordless }
+{
+    match file {
+        MachoType::SingleArch(single) => Ok(words_of(alloc, single.inner(), given)?),
+        MachoType::Fat(fat) => words_of_slices(alloc, fat.archs(), given),
+    }
+}
+
+/// The words that options mean of each of these slices.
+fn words_of_slices(
+    alloc: Global,
+    slices: &[FatMacho<'_>],
+    given: &[Given<'_>],
+) -> Result<Vec<String>, NamingFault>
+    ensures ok { IfOk result (λ words. AreWords (map given_model given.now)
+        (map slice_bytes (map slice_model slices.now)) (map string_bytes words.items)) }
+    ensures err { IfErr result TellsWordless }
+{
+    let Some(first) = slices.first() else {
+        return Ok(Vec::new(alloc));
+    };
+    let words = words_of(alloc, first.inner().inner(), given)?;
+    for slice in slices {
+        if !same_words(alloc, slice.inner(), given, words.as_slice())? {
+            return Err(NamingFault::Unlike);
+        }
+    }
+    Ok(words)
+}
+
+/// Whether options mean these words of a slice.
+fn same_words(
+    alloc: Global,
+    slice: &SingleMachO<'_>,
+    given: &[Given<'_>],
+    words: &[String],
+) -> Result<bool, AllocError>
+    ensures { IfOk result (λ same. IsTrue same → map string_bytes words.now
+        ≡ words_meant (laid_bytes slice.now.state) (map given_model given.now)) }
+{
+    let own = words_of(alloc, slice.inner(), given)?;
+    Ok(are_equal(own.as_slice(), words))
+}
+
+/// Whether texts are the same.
+fn are_equal(left: &[String], right: &[String]) -> bool
+    ensures { IsTrue result → map string_bytes right.now ≡ map string_bytes left.now }
+{
+    match (left.split_first(), right.split_first()) {
+        (None, None) => true,
+        (Some((text, more)), Some((other, rest))) => {
+            text.as_str() == other.as_str() && are_equal(more, rest)
+        }
+        _ => false,
+    }
+}
+
+/// The words of `apply` that options mean of a thin file.
+fn words_of(alloc: Global, file: &MachO<'_>, given: &[Given<'_>]) -> Result<Vec<String>, AllocError>
+    ensures { IfOk result (λ words. map string_bytes words.items
+        ≡ words_meant file.now.bytes (map given_model given.now)) }
+{
+    let names = names_of(alloc, file)?;
+    name_words(alloc, given, &names)
+}
+
+/// What a thin file has before its edits.
+fn names_of(alloc: Global, file: &MachO<'_>) -> Result<Names, AllocError>
+    ensures { IfOk result (λ names. names_model names ≡ names_in file.now.bytes) }
+{
+    let has_id = file.id().is_some();
+    let libraries = texts_of(alloc, file.libs(alloc)?.as_slice())?;
+    let run_paths = texts_of(alloc, file.rpaths(alloc)?.as_slice())?;
+    Ok(Names {
+        has_id,
+        libraries,
+        run_paths,
+    })
+}
+
+/// The texts of byte strings, with U+FFFD for what is no character.
+fn texts_of(alloc: Global, list: &[&[u8]]) -> Result<Vec<String>, AllocError>
+    ensures { IfOk result (λ texts. map string_bytes texts.items
+        ≡ map utf8_lossy (map (λ bytes. bytes.now) list.now)) }
+{
+    let mut texts = Vec::new(alloc);
+    for bytes in list {
+        texts.push(String::from_utf8_lossy(alloc, *bytes)?)?;
+    }
+    Ok(texts)
+}

@@ -1,0 +1,5 @@
+pub mod Line
+pub mod NameMaps
+pub mod Plans
+pub mod Refusals
+pub mod Values

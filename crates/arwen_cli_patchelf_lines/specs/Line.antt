@@ -1,0 +1,88 @@
+-- What a line of patchelf asks for.
+use Rattle.std.specs.Prelude.{ℕ, ◌≡◌, ◌⊎◌, List, map, Option, Some, None, Ok, codes, option_map, string_bytes, ⊤}
+use Rattle.arwen_cli_peers.specs.EditWords.{asked_model, last_of}
+use Rattle.arwen_cli_peers.specs.Options.{Asked, TellsWrong, Text, line_of, values_of}
+use Rattle.arwen_cli_peers.specs.Tables.{patchelf_known}
+use Rattle.arwen_cli_patchelf_lines.specs.Plans.{plan_meant, plan_model}
+use Rattle.arwen_cli_patchelf_lines.specs.Refusals.{is_asked, line_refused, refused_model, values_refused}
+use Rattle.arwen_cli_patchelf_lines.specs.Values.{AreResolved}
+use Rattle.arwen_cli_patchelf_lines.specs.declared.line.Line.{Line}
+use Rattle.arwen_cli_patchelf_lines.specs.declared.line.LineError.{LineError}
+use Rattle.arwen_cli_patchelf_lines.specs.declared.line.LineError.TheVariants as error
+use Rattle.arwen_cli_patchelf_lines.specs.declared.refusals.Refused.{Refused}
+
+-- the files of a line that gives this
+abbrev pub files_of : List Asked → List Text
+files_of given = values_of (codes "FILE") given
+
+-- the options of a line, as they are asked for of these files
+pub record IsLineOf (files : List Text) (asked : List Asked) (line : Line) : Type 0 where
+  pub options : map asked_model line.asked.items ≡ asked
+  pub paths : map string_bytes line.paths.items ≡ files
+  pub output : option_map string_bytes line.output ≡ last_of (codes "--output") asked
+  pub plan : plan_model line.plan ≡ plan_meant asked
+
+-- What options ask for with their values, of which some stand in files; of the bytes at paths this is known.
+pub record ReadsGiven (known : Text → Option (List ℕ)) (given : List Asked) (files : List Text) (line : Line) : Type 0 where
+  pub asked : List Asked
+  pub are_asked : AreResolved known (is_asked (codes "--shrink-rpath") given) given asked
+  pub plain : values_refused asked ≡ None
+  pub is : IsLineOf files asked line
+
+-- What a line's words ask for: they give options and files that go together, and the options' values are such as `apply` takes.
+pub record ReadsLine (known : Text → Option (List ℕ)) (words : List Text) (line : Line) : Type 0 where
+  pub given : List Asked
+  pub are_given : line_of patchelf_known words ≡ Ok given
+  pub taken : line_refused given (files_of given) ≡ None
+  pub values : ReadsGiven known given (files_of given) line
+
+-- ## Why a line isn't done
+
+-- a refusal of what words give
+pub record RefusesGiven (words : List Text) (refused : Refused) : Type 0 where
+  pub given : List Asked
+  pub are_given : line_of patchelf_known words ≡ Ok given
+  pub refusal : line_refused given (files_of given) ≡ Some (refused_model refused)
+
+-- a refusal of the values of options
+pub record RefusesValues (known : Text → Option (List ℕ)) (given : List Asked) (refused : Refused) : Type 0 where
+  pub asked : List Asked
+  pub are_asked : AreResolved known (is_asked (codes "--shrink-rpath") given) given asked
+  pub refusal : values_refused asked ≡ Some (refused_model refused)
+
+-- the words give a line that isn't refused before values are looked at, and this holds of what they give
+pub record IsTaken (words : List Text) (P : List Asked → Type 0) : Type 0 where
+  pub given : List Asked
+  pub are_given : line_of patchelf_known words ≡ Ok given
+  pub taken : line_refused given (files_of given) ≡ None
+  pub holds : P given
+
+-- an error of words, of values, and of a line: the first cause, or want of memory
+abbrev pub TellsGiven : List Text → LineError → Type 0
+TellsGiven words (error.Words fault) = TellsWrong (line_of patchelf_known words) fault
+TellsGiven words error.Memory = ⊤
+TellsGiven words e = ⊥
+
+abbrev pub TellsValues : (Text → Option (List ℕ)) → List Asked → LineError → Type 0
+TellsValues known given (error.Refused refused) = RefusesValues known given refused
+TellsValues known given (error.Value refused) = ⊤
+TellsValues known given error.Memory = ⊤
+TellsValues known given e = ⊥
+
+abbrev pub TellsAsked : List Asked → LineError → Type 0
+TellsAsked asked (error.Refused refused) = values_refused asked ≡ Some (refused_model refused)
+TellsAsked asked error.Memory = ⊤
+TellsAsked asked e = ⊥
+
+abbrev pub TellsLine : (Text → Option (List ℕ)) → List Text → LineError → Type 0
+TellsLine known words (error.Words fault) = TellsWrong (line_of patchelf_known words) fault
+TellsLine known words (error.Refused refused) =
+    RefusesGiven words refused ⊎ IsTaken words (λ given. RefusesValues known given refused)
+TellsLine known words (error.Value refused) = IsTaken words (λ given. ⊤)
+TellsLine known words error.Memory = ⊤
+
+-- options with their values, or why they have none
+abbrev pub IsOfValue : LineError → Type 0
+IsOfValue (error.Value refused) = ⊤
+IsOfValue error.Memory = ⊤
+IsOfValue e = ⊥

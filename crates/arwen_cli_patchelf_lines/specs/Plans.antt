@@ -1,0 +1,36 @@
+-- What a line asks of the bytes of each of its files.
+use Rattle.std.specs.Prelude.{◌==◌, List, [], map, Option, Some, None, codes, if◌then◌else◌, option_map, string_bytes}
+use Rattle.std.specs.List.{slice_split}
+use Rattle.arwen_cli_peers.specs.EditWords.{edit_words, is_given, last_of}
+use Rattle.arwen_cli_peers.specs.Options.{Asked, Text}
+use Rattle.arwen_cli_patchelf_lines.specs.NameMaps.{without_empty}
+use Rattle.arwen_cli_patchelf_lines.specs.declared.plans.Plan.{Plan}
+
+-- first that run paths shrink, with the prefixes that are allowed, and then the edits that words of `apply` name
+pub record PlanMeant : Type 0 where
+  pub shrinks : Option (List Text)
+  pub words : List Text
+
+abbrev pub plan_model : Plan → PlanMeant
+plan_model plan = record {
+  shrinks = option_map (λ prefixes. map string_bytes prefixes.items) plan.shrinks;
+  words = map string_bytes plan.words.items;
+}
+
+-- the prefixes between the colons of a text
+abbrev pub prefixes_in : Text → List Text
+prefixes_in list = without_empty (slice_split (λ byte. byte == 58) list)
+
+abbrev pub prefixes_by : Option Text → List Text
+prefixes_by None = []
+prefixes_by (Some list) = prefixes_in list
+
+abbrev pub prefixes_asked : List Asked → List Text
+prefixes_asked asked = prefixes_by (last_of (codes "--allowed-rpath-prefixes") asked)
+
+abbrev pub shrinks_meant : List Asked → Option (List Text)
+shrinks_meant asked = if is_given (codes "--shrink-rpath") asked then Some (prefixes_asked asked) else None
+
+-- what options ask of the bytes of a file
+abbrev pub plan_meant : List Asked → PlanMeant
+plan_meant asked = record { shrinks = shrinks_meant asked; words = edit_words asked }

@@ -1,0 +1,18 @@
+//! What lines of `patchelf` ask for: their words are read, with the values that stand in files, and what they ask of the bytes of a
+//! file is the words of `apply`.
+#![tactic(auto)]
+
+mod line;
+mod loading;
+mod name_maps;
+mod parts;
+mod plans;
+mod refusals;
+mod values;
+
+pub use crate::line::{Line, LineError, read_line};
+pub use crate::loading::{ProgramTexts, TextFiles, load};
+pub use crate::name_maps::MapWrong;
+pub use crate::plans::{Plan, plan_of};
+pub use crate::refusals::Refused;
+pub use crate::values::{ValueCause, ValueRefused};

@@ -1,0 +1,340 @@
+//! Values of options that stand in files.
+ghost use Rattle.std.specs.Prelude.{◌≡◌, ◌++◌, ◌∷◌, [], IfOk, OnOk, map, string_bytes};
+ghost use Rattle.arwen_cli_peers.specs.EditWords.{asked_model};
+ghost use Rattle.arwen_cli_peers.specs.Options.{given_model};
+ghost use Rattle.arwen_cli_patchelf_lines.specs.NameMaps.{lent_pair};
+ghost use Rattle.arwen_cli_patchelf_lines.specs.Values.{AreResolved, IsPut, IsPutFrom, abi_asked, first_asked, is_passed_over as is_passed, is_run_path as sets_run_path, path_named, rename_asked, settled, source_of as source_by, takes_file as may_stand_in_file};
+ghost use Rattle.arwen_cli_patchelf_lines.specs.declared.values.Source.TheVariants.{File, NameMap};
+
+use crate::loading::TextFiles;
+use crate::name_maps::{MapFault, MapWrong, NamePair, pairs_in, spaced};
+use arwen_cli_peers::{AskedOption, Given};
+use byte_store::ReadError;
+use std::alloc::{AllocError, AllocFailed, Global};
+use std::io;
+
+/// Why a value wasn't read from a file.
+#[derive(Debug, Drop)]
+pub enum ValueCause {
+    /// The file can't be read.
+    Io(io::Error),
+    /// It is no text.
+    NotText,
+    /// A line of a map of names, counted from 1, is wrong.
+    Map(MapWrong, usize),
+    /// There was no memory.
+    Memory,
+}
+
+impl From<AllocError> for ValueCause {
+    ghost use Rattle.std.specs.Prelude.{◌≡◌};
+    ghost use Rattle.arwen_cli_patchelf_lines.specs.declared.values.ValueCause.TheVariants.{Memory};
+
+    ghost from_gives = { λ _ cause. cause ≡ Memory };
+
+    fn from(_refused: AllocError) -> Self {
+        ValueCause::Memory
+    }
+}
+
+impl<T: Drop> From<AllocFailed<T>> for ValueCause {
+    ghost use Rattle.std.specs.Prelude.{◌≡◌};
+    ghost use Rattle.arwen_cli_patchelf_lines.specs.declared.values.ValueCause.TheVariants.{Memory};
+
+    ghost from_gives = { λ _ cause. cause ≡ Memory };
+
+    fn from(_refused: AllocFailed<T>) -> Self {
+        ValueCause::Memory
+    }
+}
+
+impl From<ReadError> for ValueCause {
+    fn from(error: ReadError) -> Self {
+        match error {
+            ReadError::Memory => ValueCause::Memory,
+            ReadError::Io(error) => ValueCause::Io(error),
+        }
+    }
+}
+
+impl From<MapFault> for ValueCause {
+    fn from(fault: MapFault) -> Self {
+        match fault {
+            MapFault::Memory => ValueCause::Memory,
+            MapFault::Line(wrong, line) => ValueCause::Map(wrong, line),
+        }
+    }
+}
+
+/// A value that wasn't read from a file.
+#[derive(Debug, Drop)]
+pub struct ValueRefused<'a> {
+    /// The option's name.
+    pub option: &'static str,
+    /// The path of the file.
+    pub path: &'a str,
+    /// Why.
+    pub cause: ValueCause,
+}
+
+/// Where the value of an option stands.
+#[derive(Clone, Copy, Debug)]
+pub(crate) enum Source {
+    /// The option is passed over.
+    Nowhere,
+    /// On the line.
+    Line,
+    /// In a file that the line names.
+    File,
+    /// In a file of pairs of names.
+    NameMap,
+}
+
+/// What a line asks for that gives this, with the values that stand in files.
+pub(crate) fn resolved<'a, F: TextFiles>(
+    alloc: Global,
+    files: &F,
+    given: &[Given<'a>],
+    shrinks: bool,
+) -> Result<Vec<AskedOption>, ValueRefused<'a>>
+    ensures { IfOk result (λ asked. AreResolved (F.contents files.now) shrinks
+        (map given_model given.now) (map asked_model asked.items)) }
+{
+    let mut asked = Vec::new(alloc);
+    for one in given {
+        put_one(alloc, files, one, shrinks, &mut asked)?;
+    }
+    Ok(asked)
+}
+
+/// Puts what an option asks for behind others, or tells which option it is whose value wasn't read.
+fn put_one<'a, F: TextFiles>(
+    alloc: Global,
+    files: &F,
+    one: &Given<'a>,
+    shrinks: bool,
+    asked: &mut Vec<AskedOption>,
+) -> Result<(), ValueRefused<'a>>
+    ensures { OnOk result (IsPut (F.contents files.now) shrinks (given_model one.now)
+        (map asked_model asked.old.items) (map asked_model asked.new.items)) }
+{
+    match put_resolved(alloc, files, one, shrinks, asked) {
+        Ok(()) => Ok(()),
+        Err(cause) => Err(refused(one, cause)),
+    }
+}
+
+/// The refusal of an option whose value wasn't read.
+fn refused<'a>(one: &Given<'a>, cause: ValueCause) -> ValueRefused<'a> {
+    ValueRefused {
+        option: one.name,
+        path: file_named(one.first),
+        cause,
+    }
+}
+
+/// The path of the file that a value names behind its `@`; all of it where it names none.
+fn file_named(value: &str) -> &str
+    ensures { result.now ≡ path_named value.entry.now }
+{
+    match value.split_once('@') {
+        Some((_, path)) => path,
+        None => value,
+    }
+}
+
+/// Puts what an option asks for behind others.
+fn put_resolved<'a, F: TextFiles>(
+    alloc: Global,
+    files: &F,
+    one: &Given<'a>,
+    shrinks: bool,
+    asked: &mut Vec<AskedOption>,
+) -> Result<(), ValueCause>
+    ensures { OnOk result (IsPut (F.contents files.now) shrinks (given_model one.now)
+        (map asked_model asked.old.items) (map asked_model asked.new.items)) }
+{
+    match source_of(one, shrinks) {
+        Source::Nowhere => Ok(()),
+        Source::Line => put_settled(alloc, one, one.first, asked),
+        Source::File => put_read(alloc, files, one, asked),
+        Source::NameMap => put_pairs(alloc, files, one, asked),
+    }
+}
+
+/// Where the value of an option stands, of a line that lets the run path shrink or not.
+fn source_of(one: &Given<'_>, shrinks: bool) -> Source
+    ensures { result ≡ source_by shrinks (given_model one.now) }
+{
+    if is_passed_over(one, shrinks) {
+        return Source::Nowhere;
+    }
+    if one.name == "--rename-dynamic-symbols" {
+        return Source::NameMap;
+    }
+    if takes_file(one.name) && one.first.as_bytes().first() == Some(&b'@') {
+        return Source::File;
+    }
+    Source::Line
+}
+
+/// Whether an option asks for nothing: a run path is neither set nor added to nor removed where it shrinks, an interpreter
+/// without a name is none, and what is added is aligned by the file's machine.
+fn is_passed_over(one: &Given<'_>, shrinks: bool) -> bool
+    ensures { result ≡ is_passed shrinks (given_model one.now) }
+{
+    if one.name == "--set-interpreter" {
+        return one.first.is_empty();
+    }
+    one.name == "--page-size" || (shrinks && is_run_path(one.name))
+}
+
+/// Whether an option sets, removes or adds to the run path.
+fn is_run_path(name: &str) -> bool
+    ensures { result ≡ sets_run_path name.now }
+{
+    name == "--remove-rpath" || name == "--set-rpath" || name == "--add-rpath"
+}
+
+/// Whether the value of an option may stand in a file, which is named behind a `@`.
+#[tactic(auto, unfolding(crate::specs::Values::takes_file))]
+fn takes_file(name: &str) -> bool
+    ensures { result ≡ may_stand_in_file name.now }
+{
+    match name {
+        "--set-interpreter"
+        | "--set-os-abi"
+        | "--set-soname"
+        | "--set-rpath"
+        | "--add-rpath"
+        | "--add-needed"
+        | "--remove-needed"
+        | "--clear-symbol-version"
+        | "--output" => true,
+        _ => false,
+    }
+}
+
+/// Puts an option with this as its first value behind others.
+fn put_settled(
+    alloc: Global,
+    one: &Given<'_>,
+    first: &str,
+    asked: &mut Vec<AskedOption>,
+) -> Result<(), ValueCause>
+    ensures { OnOk result (map asked_model asked.new.items ≡ map asked_model asked.old.items
+        ++ settled (given_model one.now) first.now ∷ []) }
+{
+    let first = first_of(alloc, one.name, first)?;
+    let second = String::from_str(alloc, one.second)?;
+    asked.push(AskedOption {
+        name: one.name,
+        first,
+        second,
+    })?;
+    Ok(())
+}
+
+/// The first value of an option by its name: an ABI goes by the name that it has here.
+fn first_of(alloc: Global, name: &str, first: &str) -> Result<String, AllocError>
+    ensures { IfOk result (λ text. string_bytes text ≡ first_asked name.now first.now) }
+{
+    if name == "--set-os-abi" {
+        abi_name(alloc, first)
+    } else {
+        String::from_str(alloc, first)
+    }
+}
+
+/// The name that an ABI has here.
+#[tactic(auto, unfolding(crate::specs::Values::abi_by))]
+fn abi_name(alloc: Global, name: &str) -> Result<String, AllocError>
+    ensures { IfOk result (λ here. string_bytes here ≡ abi_asked name.now) }
+{
+    let small = name.trim().to_ascii_lowercase(alloc)?;
+    let here = match small.as_str() {
+        "system v" | "system-v" => "sysv",
+        "hp-ux" => "hpux",
+        "gnu" => "linux",
+        "gnu hurd" | "gnu-hurd" => "hurd",
+        other => other,
+    };
+    String::from_str(alloc, here)
+}
+
+/// Puts an option whose value stands in a file behind others.
+fn put_read<'a, F: TextFiles>(
+    alloc: Global,
+    files: &F,
+    one: &Given<'a>,
+    asked: &mut Vec<AskedOption>,
+) -> Result<(), ValueCause>
+    ensures { OnOk result (IsPutFrom File (F.contents files.now) (given_model one.now)
+        (map asked_model asked.old.items) (map asked_model asked.new.items)) }
+{
+    let bytes = files.bytes(alloc, file_named(one.first))?;
+    let text = text_of(bytes)?;
+    put_settled(alloc, one, text.as_str(), asked)
+}
+
+/// Bytes as a text.
+fn text_of(bytes: Vec<u8>) -> Result<String, ValueCause>
+    ensures { IfOk result (λ text. string_bytes text ≡ bytes.items) }
+{
+    match String::from_utf8(bytes) {
+        Ok(text) => Ok(text),
+        Err(_) => Err(ValueCause::NotText),
+    }
+}
+
+/// Puts an option for each pair of a map of names behind others.
+fn put_pairs<'a, F: TextFiles>(
+    alloc: Global,
+    files: &F,
+    one: &Given<'a>,
+    asked: &mut Vec<AskedOption>,
+) -> Result<(), ValueCause>
+    ensures { OnOk result (IsPutFrom NameMap (F.contents files.now) (given_model one.now)
+        (map asked_model asked.old.items) (map asked_model asked.new.items)) }
+{
+    let bytes = files.bytes(alloc, one.first)?;
+    let text = text_of(spaced(alloc, bytes.as_slice())?)?;
+    let pairs = pairs_in(alloc, text.as_str())?;
+    put_renames(alloc, one.name, pairs.as_slice(), asked)
+}
+
+/// Puts an option of this name for each pair behind others.
+fn put_renames(
+    alloc: Global,
+    name: &'static str,
+    pairs: &[NamePair<'_>],
+    asked: &mut Vec<AskedOption>,
+) -> Result<(), ValueCause>
+    ensures { OnOk result (map asked_model asked.new.items ≡ map asked_model asked.old.items
+        ++ map (rename_asked name.now) (map lent_pair pairs.now)) }
+{
+    for pair in pairs {
+        put_rename(alloc, name, pair, asked)?;
+    }
+    Ok(())
+}
+
+/// Puts an option of this name for a pair behind others.
+fn put_rename(
+    alloc: Global,
+    name: &'static str,
+    pair: &NamePair<'_>,
+    asked: &mut Vec<AskedOption>,
+) -> Result<(), ValueCause>
+    ensures { OnOk result (map asked_model asked.new.items ≡ map asked_model asked.old.items
+        ++ rename_asked name.now (lent_pair pair.now) ∷ []) }
+{
+    let first = String::from_str(alloc, pair.old)?;
+    let second = String::from_str(alloc, pair.new)?;
+    asked.push(AskedOption {
+        name,
+        first,
+        second,
+    })?;
+    Ok(())
+}
