@@ -1,7 +1,7 @@
 //! Edits of a file, each by its own call.
-use arwen_cli::elf::{ElfContainer, ElfEdit, ElfError};
 use std::alloc::{AllocError, Global};
 use std::collections::HashMap;
+use test_cases_files::elf::{ElfContainer, ElfEdit, ElfError};
 
 /// Does an edit by its own call.
 pub(crate) fn call(

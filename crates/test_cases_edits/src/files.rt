@@ -3,8 +3,8 @@ use crate::calls::call;
 use crate::paths::{answers_of, put_removed};
 use crate::shown::{put_shown, put_symbols};
 use crate::words::put_fault;
-use arwen_cli::elf::{ElfBatchError, ElfContainer, ElfEdit, ElfError, ModifyCause};
 use std::alloc::{AllocError, Global};
+use test_cases_files::elf::{ElfBatchError, ElfContainer, ElfEdit, ElfError, ModifyCause};
 use test_cases_files::words::{edits_of, split_parts, texts_of};
 
 /// How a file is edited by words.

@@ -1,11 +1,11 @@
 //! Edits of a list, one after the other.
 use crate::entries::{entries_of, put_list, put_text};
 use crate::words::put_fault;
-use arwen_cli::elf::ElfEdit;
 use elf_edits::abi::{abi_number, with_nul};
 use elf_edits::{Cause, Facts, NewList, cause_of, edit_list};
 use elf_image::Dynamic;
 use std::alloc::{AllocError, Global};
+use test_cases_files::elf::ElfEdit;
 use test_cases_files::words::{edits_of, split_parts, texts_of};
 
 /// What is known of a list that stands alone.

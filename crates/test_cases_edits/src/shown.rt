@@ -1,8 +1,8 @@
 //! What a file shows.
 use crate::entries::{put_brief, put_list, put_text};
-use arwen_cli::elf::{ElfContainer, ElfError};
 use elf_image::{Builder, ElfFault, Symbol, VersionId};
 use std::alloc::{AllocError, Global};
+use test_cases_files::elf::{ElfContainer, ElfError};
 
 /// Puts down the dynamic list of a file.
 pub(crate) fn show_list(alloc: Global, bytes: &[u8], out: &mut String) -> Result<(), AllocError> {

@@ -1,6 +1,6 @@
 //! What words are read as.
-use arwen_cli::cli::{EditsError, KeyValueError, parse_key_val};
 use std::alloc::{AllocError, Global};
+use test_cases_files::cli::{EditsError, KeyValueError, parse_key_val};
 use test_cases_files::words::edits_of;
 
 /// Puts down the edits that words are, or the fault.

@@ -6,5 +6,6 @@ mod files;
 mod running;
 pub mod words;
 
+pub use arwen_cli::{cli, elf, macho};
 pub use files::{read_file, text_of};
 pub use running::{Cases, run_cases};

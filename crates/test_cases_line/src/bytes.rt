@@ -2,13 +2,13 @@
 use crate::changes::print_rows;
 use crate::faults::{tell, tell_answer};
 use crate::runs::file_bytes;
-use arwen_cli::cli::{
-    ArwenError, Command, ElfCommand, ElfCommandError, MachoCommand, MachoCommandError, Signing,
-    run_elf, run_macho,
-};
 use std::io;
 use std::io::{Cursor, Write};
 use std::rt::Files;
+use test_cases_files::cli::{
+    ArwenError, Command, ElfCommand, ElfCommandError, MachoCommand, MachoCommandError, Signing,
+    run_elf, run_macho,
+};
 
 /// What a command for ELF files answers: new bytes where it is an edit that changes some.
 type Answer = Result<Option<Vec<u8>>, ArwenError>;

@@ -1,8 +1,8 @@
 //! What is printed of an answer.
-use arwen_cli::cli::{ArwenError, fault_line};
 use std::alloc::AllocError;
 use std::io;
 use std::rt::Files;
+use test_cases_files::cli::{ArwenError, fault_line};
 
 /// Prints the status, and the first line of a fault.
 pub(crate) fn tell_answer<R: Print, T>(rt: &R, answer: &Result<T, ArwenError>) -> io::Result<()> {

@@ -1,9 +1,9 @@
 //! The library as a caller uses it: a file is read, edited in a batch, and written.
-use arwen_cli::cli::ArwenError;
-use arwen_cli::macho::{MachoContainer, MachoEdit};
 use std::alloc::{AllocError, Global};
 use std::fs;
 use std::rt::Files;
+use test_cases_files::cli::ArwenError;
+use test_cases_files::macho::{MachoContainer, MachoEdit};
 
 /// Gives a library a further run path and another install id: both, or neither where one is refused.
 pub(crate) fn relocate<R: Files + AllocGlobal>(

@@ -1,7 +1,9 @@
 //! Commands for ELF files, each done by the function of its own module.
 
-use arwen_cli::cli::{ArwenError, Command, ElfCommand, ElfCommandError, elf, macho_execute, show};
 use std::rt::Files;
+use test_cases_files::cli::{
+    ArwenError, Command, ElfCommand, ElfCommandError, elf, macho_execute, show,
+};
 
 /// Does what a command asks.
 pub(crate) fn execute<R: Files + Print + Eprint + AllocGlobal>(
@@ -60,6 +62,10 @@ fn execute_words<R: Files + Print + Eprint + AllocGlobal>(
         ElfCommand::RenameDynamicSymbols(args) => { elf::rename_dynamic_symbols::execute(rt, args) }
         ElfCommand::Apply(args) => elf::apply::execute(rt, args),
         ElfCommand::ShrinkRpath(args) => elf::shrink_rpath::execute(rt, args),
+        ElfCommand::RenameSymbols(args) => elf::rename_symbols::execute(rt, args),
+        ElfCommand::DeleteSymbols(args) => elf::delete_symbols::execute(rt, args),
+        ElfCommand::RenameSections(args) => elf::rename_sections::execute(rt, args),
+        ElfCommand::DeleteSections(args) => elf::delete_sections::execute(rt, args),
         other => execute_print(rt, other),
     }
 }

@@ -1,12 +1,12 @@
 //! The notes of commands on files, which stay as they are.
 use crate::faults::tell;
-use arwen_cli::cli::{
-    ArwenError, Command, ElfCommand, MachoCommand, Notes, Signing, edit_path, patch_path,
-};
 use byte_store::MemoryFile;
 use std::alloc::Global;
 use std::io;
 use std::rt::Files;
+use test_cases_files::cli::{
+    ArwenError, Command, ElfCommand, MachoCommand, Notes, Signing, edit_path, patch_path,
+};
 use test_cases_files::read_file;
 
 /// Prints the notes of a command, done to a copy of the bytes of its file, or the fault.

@@ -2,10 +2,10 @@
 use crate::bytes;
 use crate::faults::tell;
 use crate::notes::print_notes;
-use arwen_cli::cli::{ArwenError, Command, parse_line};
 use std::alloc::AllocError;
 use std::io;
 use std::rt::Files;
+use test_cases_files::cli::{ArwenError, Command, parse_line};
 use test_cases_files::words::split_words;
 
 /// The words of a line, split again where memory was refused.

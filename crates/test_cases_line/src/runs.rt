@@ -3,9 +3,9 @@ use crate::changes::print_changes;
 use crate::faults::tell_named;
 use crate::reading::{command_of, words_of};
 use crate::{library, modules};
-use arwen_cli::cli::{ArwenError, execute};
 use std::rt::Files;
 use std::{fs, io};
+use test_cases_files::cli::{ArwenError, execute};
 
 /// The file that lines are run on.
 const FILE: &str = "file";

@@ -1,11 +1,11 @@
 //! The plan of a file after edits.
 use crate::lines::put_plan;
 use crate::steps::{put_fault, put_steps};
-use arwen_cli::cli::EditsError;
-use arwen_cli::elf::{ElfBatchError, ElfEdit, ElfError, ModifyCause, Writer};
 use elf_image::Builder;
 use elf_layout::lay_out;
 use std::alloc::{AllocError, Global};
+use test_cases_files::cli::EditsError;
+use test_cases_files::elf::{ElfBatchError, ElfEdit, ElfError, ModifyCause, Writer};
 use test_cases_files::words::edits_of;
 
 /// What is put down of an edited file.

@@ -1,9 +1,7 @@
 //! What is written by calls that are handed a plan.
-ghost use Rattle.std.specs.Prelude.{◌≡◌, IsTrue};
-ghost use Rattle.elf_image.specs.Kept.{image_at_read};
+ghost use Rattle.std.specs.Prelude.{IsTrue};
 ghost use Rattle.elf_layout_plan.specs.Plan.{IsPlan, resized};
 ghost use Rattle.elf_layout_plan.specs.Refusals.{do_sizes_of_image_fit};
-ghost use Rattle.elf_write_spec.specs.Whole.{IsWhole};
 
 use crate::Runtime;
 use crate::written::makes;
@@ -53,7 +51,6 @@ fn made_by(
     plan: &Plan,
     new: &[u8],
 ) -> Result<[bool; 3], LayoutFault>
-    requires whole { IsWhole (image_at_read image.now) image.now }
     requires planned { IsPlan (resized image.now) plan.now }
     requires sized { IsTrue (do_sizes_of_image_fit image.now) }
 {
@@ -71,7 +68,6 @@ fn do_bytes_agree(
     plan: &Plan,
     new: &[u8],
 ) -> Result<bool, LayoutFault>
-    requires whole { IsWhole (image_at_read image.now) image.now }
     requires planned { IsPlan (resized image.now) plan.now }
     requires sized { IsTrue (do_sizes_of_image_fit image.now) }
 {
@@ -86,7 +82,6 @@ fn do_pieces_agree(
     plan: &Plan,
     new: &[u8],
 ) -> Result<bool, LayoutFault>
-    requires whole { IsWhole (image_at_read image.now) image.now }
     requires planned { IsPlan (resized image.now) plan.now }
     requires sized { IsTrue (do_sizes_of_image_fit image.now) }
 {
@@ -101,7 +96,6 @@ fn do_pieces_of_read_agree(
     plan: &Plan,
     new: &[u8],
 ) -> Result<bool, LayoutFault>
-    requires whole { IsWhole (image_at_read image.now) image.now }
     requires planned { IsPlan (resized image.now) plan.now }
     requires sized { IsTrue (do_sizes_of_image_fit image.now) }
 {
