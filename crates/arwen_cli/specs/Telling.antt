@@ -1,7 +1,7 @@
 -- What the program says of a fault.
 use Rattle.std.specs.Prelude.{ℕ, ◌≡◌, ◌++◌, ◌∷◌, [], Bool, true, false, if◌then◌else◌, List, Option, Some, None, codes, string_bytes}
-use Rattle.arwen_cli_facts.specs.Reasons.{TellsWords, elf_words, file_line, macho_words}
-use Rattle.arwen_cli_facts.specs.declared.refusal.Told.{Told}
+use Rattle.arwen_cli_show.specs.Reasons.{TellsWords, elf_words, file_line, macho_words}
+use Rattle.arwen_cli_show.specs.Told.{Told}
 use Rattle.arwen_cli_overlaps.specs.Overlaps.{TellsOverlap}
 use Rattle.byte_store.specs.Known.{IsAll}
 use Rattle.command_words.specs.Rows.{Text}

@@ -3,7 +3,6 @@ pub use arwen_elf::elf::{
     BuilderExt, ElfBatchError, ElfContainer, ElfEdit, ElfError, ModifyCause, Needed, ProbeAnswer,
     Reason, Removed, Task, Writer, changes, container, rewriter,
 };
-pub use arwen_elf::machine_of;
+pub use arwen_elf::{CountedWrite, Sink, machine_of, write_all_counted};
 pub use elf_apply::error::Result;
 pub use elf_format::ElfFault;
-pub use elf_write::{CountedWrite, Sink, write_all_counted};

@@ -10,8 +10,8 @@ use Rattle.elf_image.specs.Dynamic.{Auto, Entry, Integer, Text}
 use Rattle.elf_image.specs.Options.{first_there}
 use Rattle.elf_image.specs.Image.{Image, ImageSection, image_of, shown}
 use Rattle.arwen_elf.specs.Prints.{before_nul, lossily}
-use Rattle.arwen_elf_writer.specs.Reads.{entries_shown, needed_shown, soname_shown, text_if}
-use Rattle.arwen_elf_writer.specs.WriterModel.{ShowsBothViews}
+use Rattle.arwen_elf.specs.Reads.{entries_shown, needed_shown, soname_shown, text_if}
+use Rattle.arwen_elf.specs.WriterModel.{ShowsBothViews}
 use Rattle.arwen_cli_facts.specs.Texts.{text_model, texts_model}
 use Rattle.arwen_cli_facts.specs.declared.elf.ElfKind.{ElfKind}
 use Rattle.arwen_cli_facts.specs.declared.elf.ElfNames.{ElfNames}

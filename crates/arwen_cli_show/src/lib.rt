@@ -18,4 +18,7 @@ pub mod show;
 pub use crate::args::{Args, ArgsFault, HELP, parse_args};
 pub use crate::command::{ShowCommandError, execute, show_paths};
 pub use crate::show::{Style, show_bytes};
-pub use arwen_cli_facts::{ShowError, Summary, summarize};
+pub use arwen_cli_facts::{
+    ElfCauses, MachoCauses, ShowError, Summary, Told, bracket_of, elf_words, file_line,
+    macho_words, rule_of, summarize,
+};

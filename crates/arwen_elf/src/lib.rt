@@ -4,4 +4,5 @@
 
 pub mod elf;
 
+pub use arwen_elf_writer::{CountedWrite, Sink, write_all_counted};
 pub use elf_image::machine_of;

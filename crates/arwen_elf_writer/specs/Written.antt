@@ -14,7 +14,7 @@ use Rattle.elf_layout.specs.Refused.{IsNoLayout}
 use Rattle.elf_write_spec.specs.Output.{AreHeadersApart}
 use Rattle.elf_write_spec.specs.WrittenFile.{IsWrittenOf}
 use Rattle.elf_write.specs.Counted.{Stops}
-use Rattle.elf_write_contents.specs.Numbers.{do_numbers_fit}
+use Rattle.elf_write.specs.Numbers.{do_numbers_fit}
 use Rattle.elf_apply.specs.declared.error.ElfError.{ElfError}
 use Rattle.elf_apply.specs.declared.error.ElfError.TheVariants.{Io, Memory, Modify, Write}
 use Rattle.elf_apply.specs.declared.error.ModifyCause.TheVariants.{Overlap}

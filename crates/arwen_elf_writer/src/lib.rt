@@ -11,3 +11,4 @@ pub mod writer;
 
 pub use crate::new_file::NotWritten;
 pub use crate::writer::{Needed, Writer};
+pub use elf_write::{CountedWrite, Sink, write_all_counted};

@@ -19,8 +19,8 @@ use Rattle.elf_image.specs.Image.{Image, image_of, shown}
 use Rattle.elf_image.specs.ReadImage.{ReadImagesHoldParts}
 use Rattle.elf_apply.specs.Causes.{RefusesRead}
 use Rattle.elf_apply.specs.Told.{IsRefusedAt, IsRefusedFor, Refuses, RefusesAt, cause_told}
-use Rattle.arwen_elf_writer.specs.WriterModel.{ShowsBothViews}
-use Rattle.arwen_elf_writer.specs.Written.{IsImageWritten, IsNoImage}
+use Rattle.arwen_elf.specs.WriterModel.{ShowsBothViews}
+use Rattle.arwen_elf.specs.Written.{IsImageWritten, IsNoImage}
 use Rattle.elf_apply.specs.declared.error.ElfError.{ElfError}
 use Rattle.elf_apply.specs.declared.error.ElfError.TheVariants as elf
 use Rattle.elf_commands.specs.ElfAsked.{one, shrinking}

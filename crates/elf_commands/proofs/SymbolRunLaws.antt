@@ -15,7 +15,7 @@ use Rattle.elf_image.specs.ReadImage.{ReadImagesHoldParts}
 use Rattle.elf_apply.specs.SymbolsTaken.{RefusesSymbolEdit}
 use Rattle.elf_apply.specs.declared.error.ElfError.{ElfError}
 use Rattle.elf_apply.specs.declared.error.ElfError.TheVariants as elf
-use Rattle.arwen_elf_writer.specs.Written.{IsImageWritten, IsNoImage}
+use Rattle.arwen_elf.specs.Written.{IsImageWritten, IsNoImage}
 use Rattle.elf_symbol_edits.specs.Cause.{step}
 use Rattle.elf_symbol_edits.specs.Laws.{SymbolEditsKeep}
 use Rattle.elf_symbol_edits.specs.SymbolEdit.{SymbolEdit}

@@ -4,7 +4,7 @@ use Rattle.std.specs.declared.alloc.Global.{Global}
 use Rattle.std.specs.declared.vec.Vec.{Vec}
 use Rattle.elf_apply.specs.SymbolsTaken.{RefusesSymbolEdit}
 use Rattle.elf_apply.specs.Told.{RefusesAt}
-use Rattle.arwen_elf_writer.specs.Written.{IsImageWritten, IsNoImage}
+use Rattle.arwen_elf.specs.Written.{IsImageWritten, IsNoImage}
 use Rattle.elf_apply.specs.declared.batch.ElfBatchError.{ElfBatchError}
 use Rattle.elf_apply.specs.declared.error.ElfError.{ElfError}
 use Rattle.elf_apply.specs.declared.error.ElfError.TheVariants as elf

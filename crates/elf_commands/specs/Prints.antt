@@ -8,7 +8,7 @@ use Rattle.elf_apply.specs.declared.error.ElfError.TheVariants as elf
 use Rattle.elf_image.specs.Image.{Image, image_of, shown}
 use Rattle.elf_image.specs.Views.{View}
 use Rattle.elf_format.specs.declared.fault.ElfFault.{ElfFault}
-use Rattle.elf_write.specs.Counted.{Stops}
+use Rattle.arwen_elf.specs.Counted.{Stops}
 use Rattle.elf_commands.specs.declared.error.ElfCommandError.{ElfCommandError}
 use Rattle.elf_commands.specs.declared.error.ElfCommandError.TheVariants.{Elf, Io, Memory}
 use Rattle.elf_commands.specs.Meaning.{ElfMeaning, apply_elf, edit_elf, print_exec_stack, print_interpreter, print_needed}

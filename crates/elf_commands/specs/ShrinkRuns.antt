@@ -18,7 +18,7 @@ use Rattle.elf_apply.specs.declared.error.ElfError.{ElfError}
 use Rattle.elf_edits_shrink.specs.declared.removal.Removed.{Removed}
 use Rattle.elf_format.specs.declared.fault.ElfFault.{ElfFault}
 use Rattle.elf_image.specs.Image.{Image, image_of, shown}
-use Rattle.arwen_elf_writer.specs.Written.{IsImageWritten, IsNoImage}
+use Rattle.arwen_elf.specs.Written.{IsImageWritten, IsNoImage}
 use Rattle.elf_commands.specs.ElfAsked.{elf_asked, one}
 use Rattle.elf_commands.specs.ElfEngine.{AreChanged, IsElfEdited, LeavesElf, RunsElf, TellsEdit, TellsNoImage, TellsRun, TellsSymbols}
 use Rattle.elf_commands.specs.ElfErrors.{answer_to_elf}

@@ -9,7 +9,7 @@ use Rattle.byte_store.specs.declared.composed.Difference.{Difference}
 use Rattle.byte_store.specs.declared.writing.Left.{Left}
 use Rattle.elf_image.specs.Image.{Image}
 use Rattle.elf_symbol_edits.specs.SymbolEdit.{SymbolEdit}
-use Rattle.arwen_elf_writer.specs.Written.{IsImageWritten}
+use Rattle.arwen_elf.specs.Written.{IsImageWritten}
 use Rattle.elf_commands.specs.ElfEngine.{AreChanged, MakesSymbols, TellsSymbols}
 use Rattle.elf_commands.specs.Meaning.{ElfMeaning, symbols_elf}
 use Rattle.elf_commands.specs.declared.error.ElfCommandError.{ElfCommandError}

@@ -3,7 +3,7 @@ use Rattle.std.specs.Prelude.{ℕ, ◌≡◌, ◌⊎◌, List, [], ◌∷◌, �
 use Rattle.std.specs.Prelude.{if◌then◌else◌, nat_eq}
 use Rattle.std.specs.List.{ends_with, flat_map, starts_with}
 use Rattle.std.specs.Str.Lossy.{utf8_lossy}
-use Rattle.arwen_elf_writer.specs.Reads.{entries_shown}
+use Rattle.arwen_elf.specs.Reads.{entries_shown}
 use Rattle.elf_edits.specs.Edit.{Answer}
 use Rattle.elf_edits_shrink.specs.Questions.{shrink_questions}
 use Rattle.elf_edits.specs.Shrunk.{NoLibrary, Prefix, Reason, Removal}

@@ -16,3 +16,4 @@ pub use crate::gnu::{GnuSizes, build_gnu_hash};
 pub use crate::hashes::gnu_hashes;
 pub use crate::order::order_for_gnu_hash;
 pub use crate::versions::build_versym;
+pub use elf_tables::TableFault;

@@ -32,7 +32,7 @@ use Rattle.elf_layout_plan.specs.ApartLaws.{PlansAreApart, PlansShowNotes}
 use Rattle.elf_write_spec.proofs.ForCallers.FilesWritten.{files_are_written, files_by_plan}
 use Rattle.elf_write_strings.specs.declared.made.Made.{Made}
 use Rattle.elf_write_strings.specs.WrittenStrings.{strings_at}
-use Rattle.elf_write_symbols.specs.Renumbering.{do_symbols_fit}
+use Rattle.elf_write_contents.specs.Renumbering.{do_symbols_fit}
 use Rattle.elf_write_contents.specs.Inner.{AreContents, AreHeaders, ArePromised, AreRaw, IsMadeContent, IsPlanned, IsPlannedFile, output_of}
 use Rattle.elf_write_contents.specs.Numbers.{do_records_fit}
 use Rattle.elf_write_contents.proofs.ForCallers.{shows_none, shows_texts}

@@ -5,3 +5,4 @@ pub mod HeaderSteps
 pub mod Inner
 pub mod Numbers
 pub mod PreparedSteps
+pub use Rattle.elf_write_symbols.specs.Renumbering

@@ -4,8 +4,7 @@ ghost use Rattle.arwen_cli.specs.Fault.{answer_to, answer_to_batch, answer_to_el
 ghost use Rattle.arwen_cli.specs.Fault.{answer_to_read, answer_to_words, fault_told, status_of, words_told};
 ghost use Rattle.arwen_cli.specs.declared.cli.error.ArwenError.TheVariants.{Io, Memory};
 
-use arwen_cli_facts::{ElfCauses, MachoCauses};
-use arwen_cli_show::ShowCommandError;
+use arwen_cli_show::{ElfCauses, MachoCauses, ShowCommandError};
 use arwen_elf::elf::{ElfBatchError, ElfError};
 use arwen_macho::macho::{MachoBatchError, MachoError};
 use byte_store::ReadError;

@@ -13,11 +13,11 @@ ghost use Rattle.arwen_elf_writer.specs.Written.{AnswersBytes, AnswersPieces, An
 
 use crate::elf::rewriter::new_file::NotWritten;
 use crate::elf::rewriter::writer::{Needed, Writer};
+use arwen_elf_writer::CountedWrite;
 use bstr::ByteSlice;
 use byte_store::{Creates, Difference};
 use elf_apply::error::{ElfError, Result};
 use elf_image::constants::PF_X;
-use elf_write::CountedWrite;
 use std::alloc::{AllocError, Global};
 use std::io::Write;
 use std::rt::Files;

@@ -1,7 +1,7 @@
 use Rattle.std.proofs.Common.{◌≡◌, ◌++◌, map}
 use Rattle.elf_image.specs.Image.{shown}
-use Rattle.arwen_elf_writer.specs.Reads.{needed_shown}
-use Rattle.arwen_elf_writer.specs.WriterModel.{needed_left}
+use Rattle.arwen_elf.specs.Reads.{needed_shown}
+use Rattle.arwen_elf.specs.WriterModel.{needed_left}
 use Rattle.arwen_cli_facts.specs.ElfFacts.{library_facts, library_model}
 use Rattle.arwen_cli_facts.proofs.elf.needed_libraries.Given as goal
 

@@ -2,7 +2,7 @@
 use Rattle.std.proofs.Common.{◌∷◌, [], map, sym}
 use Rattle.elf_image.specs.Answers.{borrowed}
 use Rattle.elf_image.specs.ImageModel.{entry_model}
-use Rattle.arwen_elf_writer.specs.Reads.{text_if}
+use Rattle.arwen_elf.specs.Reads.{text_if}
 use Rattle.arwen_cli_facts.specs.ElfFacts.{text_tagged}
 use Rattle.arwen_cli_facts.proofs.FirstSteps.{first_found, goes_past, none_found}
 use Rattle.arwen_cli_facts.proofs.elf.text_of_tag.Goals as goal

@@ -1,7 +1,7 @@
 -- The line has the path of the command.
 use Rattle.std.proofs.Common.{List, Option, ℕ, sym, subst, string_bytes}
 use Rattle.std.proofs.lemmas.Result.{IfOk-weaker}
-use Rattle.arwen_cli_facts.specs.Texts.{text_model}
+use Rattle.arwen_cli_show.specs.Texts.{text_model}
 use Rattle.arwen_cli.specs.Telling.{IsCausesText, IsLineWith}
 use Rattle.arwen_cli.proofs.cli.telling.named_line.Goals as goal
 
