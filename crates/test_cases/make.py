@@ -189,6 +189,18 @@ def small(form):
     return data + form.section_header(named[b".shstrtab"], SHT_STRTAB, 0, 0, 320, len(names), 0, 1, 0)
 
 
+def commented(form):
+    """The same with a comment behind what is loaded, whose name is the last one."""
+    data = bytearray(small(form))
+    data[40:48] = form.pack("Q", 368)
+    data[60:64] = form.pack("HH", 5, 4)
+    names, named = string_table([b".dynstr", b".dynamic", b".shstrtab", b".comment"])
+    headers = bytes(data[352:544])
+    headers += form.section_header(named[b".comment"], SHT_PROGBITS, 0, 0, 320, 4, 0, 1, 0)
+    headers += form.section_header(named[b".shstrtab"], SHT_STRTAB, 0, 0, 324, len(names), 0, 1, 0)
+    return bytes(data[:320]) + (b"none" + names).ljust(48, b"\0") + headers
+
+
 def laid(form, parts, named, rest):
     """The file's bytes: header, segment headers, the parts in turn, section headers."""
     count, stack, abi, kind = rest
@@ -260,6 +272,7 @@ def elfs():
         "elf-lossy": elf(big32, [(DT_NEEDED, b"lib\xff.so"), (DT_SONAME, b"")]),
         "elf-bare": elf(little64),
         "elf-small": small(little64),
+        "elf-comment": commented(little64),
         "paths-64-little": elf(little64, shrinking()),
         "paths-64-big": elf(big64, shrinking()),
         "paths-32-little": elf(little32, shrinking()),

@@ -1,6 +1,6 @@
 //! The bytes of a file after edits.
 ghost use Rattle.std.specs.Prelude.{◌≡◌, ◌⊎◌, Err, IfErr, IfOk, IsOk, MatchResult, map, string_bytes};
-ghost use Rattle.elf_commands.specs.ElfAsked.{several};
+ghost use Rattle.elf_commands.specs.ElfAsked.{asked_of_words};
 ghost use Rattle.elf_commands.specs.ElfEngine.{TellsEdit, bytes_left};
 ghost use Rattle.elf_commands.specs.declared.error.ElfCommandError.TheVariants.{Memory as no_memory};
 ghost use Rattle.elf_commands.specs.ElfWords.{elf_edits_of};
@@ -89,7 +89,7 @@ pub fn edited(alloc: Global, bytes: &[u8], words: &[u8]) -> Result<Vec<u8>, Edit
 fn edited_elf(alloc: Global, bytes: &[u8], words: Vec<String>) -> Result<Vec<u8>, ElfCommandError>
     ensures { MatchResult result
         (λ new. IsElfMade (map string_bytes words.items) bytes.now new.items)
-        (λ e. TellsEdit (several (elf_edits_of (map string_bytes words.items))) bytes.now e) }
+        (λ e. TellsEdit (asked_of_words (elf_edits_of (map string_bytes words.items))) bytes.now e) }
 {
     let command = ElfCommand::Apply(elf::apply::Args {
         path_to_binary: String::new(alloc),

@@ -26,7 +26,9 @@ pub use elf_commands::elf::{
     FileProbe, Probe, edit_path, edit_store, print_path, print_store, run_elf, shrink_path,
     shrink_store,
 };
-pub use elf_commands::{ElfCommand, ElfCommandError, elf, parse_elf_edits};
+pub use elf_commands::{
+    ElfCommand, ElfCommandError, GroupEdit, SymbolTexts, elf, parse_elf_edits, plain_edits,
+};
 pub use error::{ArwenError, FaultLine};
 pub use file::read_bytes;
 pub use line::parse_line;

@@ -1,5 +1,5 @@
 -- What edits of an ELF file keep and show, and which answers tell why there are no bytes.
-use Rattle.std.proofs.Common.{◌≡◌, ◌+◌, [], ◌∷◌, ◌∙◌, Bool, ℕ, List, Option, Some, Result, Ok, Err, true, false, refl, sym, ap, subst, inl, inr}
+use Rattle.std.proofs.Common.{◌≡◌, ◌+◌, [], ◌∷◌, ◌∙◌, Bool, ℕ, List, Option, None, Some, Result, Ok, Err, true, false, refl, sym, ap, subst, inl, inr}
 use Rattle.std.specs.Prelude.{IfOk, IsOkAnd}
 use Rattle.std.specs.declared.alloc.Global.{Global}
 use Rattle.std.specs.declared.vec.Vec.{Vec}
@@ -19,13 +19,12 @@ use Rattle.elf_write_spec.specs.WrittenFile.{IsWrittenOf}
 use Rattle.elf_apply.specs.declared.batch.ElfBatchError.{ElfBatchError}
 use Rattle.elf_apply.specs.declared.error.ElfError.{ElfError}
 use Rattle.elf_apply.specs.declared.error.ElfError.TheVariants as elf
-use Rattle.elf_symbol_edits.specs.SymbolEdit.{SymbolEdit}
-use Rattle.elf_commands.specs.ElfAsked.{ElfAsked, of_symbols, one, printing, several, shrinking}
+use Rattle.elf_commands.specs.ElfAsked.{ElfAsked, in_turn, of_symbols, one, printing, several, shrinking}
 use Rattle.elf_commands.specs.ElfStores.{ChangesNothing}
 use Rattle.byte_store.specs.Composed.{made_of}
 use Rattle.byte_store.specs.declared.composed.Difference.{Difference}
 use Rattle.command_words.specs.Rows.{Text}
-use Rattle.elf_commands.specs.ElfEngine.{AreChanged, AreEditsAsked, IsElfEdited, LeavesElf, Makes, MayFailAs, ShowsEdits, TellsEachFile, TellsEdit, TellsElfOf, TellsNoImage, TellsRun, bytes_left, elf_refusal}
+use Rattle.elf_commands.specs.ElfEngine.{AreChanged, AreEditsAsked, IsBatchEdited, IsElfEdited, LeavesBatch, LeavesElf, Makes, MayFailAs, ShowsEdits, TellsEachFile, TellsEdit, TellsElfOf, TellsNoImage, TellsRun, bytes_left, elf_refusal}
 use Rattle.elf_commands.specs.ElfErrors.{answer_to_elf, answer_to_elf_fault}
 use Rattle.elf_commands.specs.Prints.{PrintMayFail, TellsElf}
 use Rattle.elf_commands.specs.declared.error.ElfCommandError.{ElfCommandError}
@@ -39,9 +38,9 @@ if_ok_and P (Err e) holds = tt
 -- ## What edits keep
 
 -- what no edit changes
-record KeepsFile (old new : Image) : Type 0 where
-  source : new.source ≡ old.source
-  machine : new.header.e_machine ≡ old.header.e_machine
+pub record KeepsFile (old new : Image) : Type 0 where
+  pub source : new.source ≡ old.source
+  pub machine : new.header.e_machine ≡ old.header.e_machine
 
 step_keeps : EditsShow → (edit : Edit) (old new : Image) → step edit old ≡ Ok new → KeepsFile old new
 step_keeps edits_show edit old new is =
@@ -56,7 +55,7 @@ then_keeps edits_show done edit old new rest (Ok mid) is others runs =
     record { source = last.source ∙ first.source; machine = last.machine ∙ first.machine }
 then_keeps edits_show done edit old new rest (Err cause) is others runs = absurd (cc)
 
-run_keeps : EditsShow → (done : ℕ) (edits : List Edit) (old new : Image) → run_from done edits old ≡ Ok new → KeepsFile old new
+pub run_keeps : EditsShow → (done : ℕ) (edits : List Edit) (old new : Image) → run_from done edits old ≡ Ok new → KeepsFile old new
 unfolding run_from
 run_keeps edits_show done [] old new runs =
     let same : new ≡ old = cc in
@@ -90,10 +89,27 @@ shows_edits edits_show batches edits file new read made views runs written =
       by_loader = written.by_loader;
     }
 
+-- what is said of a batch is said of the command that asks for it
+leaves_as_asked : (a : ElfAsked) (edits : List Edit) (file new : List ℕ) → AreEditsAsked a edits → LeavesBatch a file new → LeavesElf a file new
+leaves_as_asked (one edit) edits file new are leaves = leaves
+leaves_as_asked (several read) edits file new are leaves = leaves
+leaves_as_asked (shrinking prefixes) edits file new are leaves = absurd are
+leaves_as_asked (of_symbols edit) edits file new are leaves = absurd are
+leaves_as_asked (in_turn asked) edits file new are leaves = absurd are
+leaves_as_asked printing edits file new are leaves = absurd are
+
+edited_as_asked : (a : ElfAsked) (edits : List Edit) (file : List ℕ) (answer : Option (Vec ℕ Global)) → AreEditsAsked a edits → IsBatchEdited a file answer → IsElfEdited a file answer
+edited_as_asked (one edit) edits file answer are edited = edited
+edited_as_asked (several read) edits file answer are edited = edited
+edited_as_asked (shrinking prefixes) edits file answer are edited = absurd are
+edited_as_asked (of_symbols edit) edits file answer are edited = absurd are
+edited_as_asked (in_turn asked) edits file answer are edited = absurd are
+edited_as_asked printing edits file answer are edited = absurd are
+
 -- what the edited image is written to is left
 image_left : EditsShow → BatchesAreTheirEdits → (a : ElfAsked) (edits : List Edit) (file new : List ℕ) (read made : Image) → AreEditsAsked a edits
     → image_of file ≡ Ok read → ShowsBothViews file read → run edits read ≡ Ok made → IsImageWritten made new → LeavesElf a file new
-image_left edits_show batches a edits file new read made are is views runs written = record {
+image_left edits_show batches a edits file new read made are is views runs written = leaves_as_asked a edits file new are (record {
   edits = edits;
   are = are;
   left = record {
@@ -102,7 +118,7 @@ image_left edits_show batches a edits file new read made are is views runs writt
     written = written;
     shows = λ other. shows_edits edits_show batches edits file new read made views runs (written.edited other);
   };
-}
+})
 
 -- the file is left as it was
 leaves_file : EditsShow → BatchesAreTheirEdits → ReadImagesHoldParts → (a : ElfAsked) (edits : List Edit) (file : List ℕ) (read made : Image) → AreEditsAsked a edits
@@ -114,7 +130,7 @@ leaves_file edits_show batches hold_parts a edits file read made are is views ru
 -- the bytes of an edited image
 pub edited_to : EditsShow → BatchesAreTheirEdits → (a : ElfAsked) (edits : List Edit) (file : List ℕ) (read made : Image) (new : Vec ℕ Global) → AreEditsAsked a edits
     → image_of file ≡ Ok read → ShowsBothViews file read → run edits read ≡ Ok made → made.changed ≡ true → IsWrittenOf made new.items → IsElfEdited a file (Some new)
-edited_to edits_show batches a edits file read made new are is views runs other written = record {
+edited_to edits_show batches a edits file read made new are is views runs other written = edited_as_asked a edits file (Some new) are (record {
   edits = edits;
   are = are;
   edited = record {
@@ -123,7 +139,7 @@ edited_to edits_show batches a edits file read made new are is views runs other 
     unchanged = λ same. absurd (cc);
     changed = λ _. (new, refl, written, shows_edits edits_show batches edits file new.items read made views runs written);
   };
-}
+})
 
 module _ (a : ElfAsked) (edits : List Edit) (file : List ℕ) (read made : Image) (answer : Option (Vec ℕ Global)) (are : AreEditsAsked a edits) (is : image_of file ≡ Ok read) (runs : run edits read ≡ Ok made) (changed : AreChanged made answer) where
   -- the answer for an edited image is that for its file
@@ -137,7 +153,7 @@ module _ (a : ElfAsked) (edits : List Edit) (file : List ℕ) (read made : Image
           subst P (sym is_new) (edited_to edits_show batches a edits file read made new are is views runs other written)
       by_mark false same =
           let P : Option (Vec ℕ Global) → Type 0 = λ o. IsElfEdited a file o in
-          subst P (sym (changed.same same)) (record {
+          subst P (sym (changed.same same)) (edited_as_asked a edits file None are (record {
             edits = edits;
             are = are;
             edited = record {
@@ -146,7 +162,7 @@ module _ (a : ElfAsked) (edits : List Edit) (file : List ℕ) (read made : Image
               unchanged = λ _. refl;
               changed = λ other. absurd (cc);
             };
-          })
+          }))
 
   pub answer_left : EditsShow → BatchesAreTheirEdits → ReadImagesHoldParts → ShowsBothViews file read → LeavesElf a file (bytes_left file answer)
   answer_left edits_show batches hold_parts views = by_mark made.changed refl
@@ -187,6 +203,7 @@ tells_refused (several read_as) edits file read e are is refuses =
     subst (λ r. TellsEdit (several r) file (elf_refusal (several r) e)) (sym are) (several_refused edits file read e e.fault is refuses)
 tells_refused (shrinking prefixes) edits file read e are is refuses = absurd are
 tells_refused (of_symbols edit) edits file read e are is refuses = absurd are
+tells_refused (in_turn asked) edits file read e are is refuses = absurd are
 tells_refused printing edits file read e are is refuses = absurd are
 
 -- the edited image has no bytes
@@ -211,6 +228,7 @@ tells_no_image (several read_as) edits file made e are makes none = subst (λ r.
     unwritten edits file made elf.InvalidDtNeededEncoding makes none = inr (record { made = made; makes = makes; none = none })
 tells_no_image (shrinking prefixes) edits file made e are makes none = absurd are
 tells_no_image (of_symbols edit) edits file made e are makes none = absurd are
+tells_no_image (in_turn asked) edits file made e are makes none = absurd are
 tells_no_image printing edits file made e are makes none = absurd are
 
 pub tells_no_bytes : (a : ElfAsked) (edits : List Edit) (file : List ℕ) (made : Image) (e : ElfCommandError) → AreEditsAsked a edits → Makes edits file made → TellsNoImage made e → TellsEdit a file e
@@ -254,22 +272,6 @@ only_memory prefixes file (Elf e) tells = absurd (no_fault_yet prefixes file e t
 only_memory prefixes file (ElfBatch e) tells = absurd tells
 only_memory prefixes file (Io e) tells = absurd tells
 
--- nor has one that edits symbols or sections edits that could fail
-no_edits_fail : (edit : SymbolEdit) (file : List ℕ) (e : ElfError) → TellsElfOf (of_symbols edit) file e → ⊥
-no_edits_fail edit file elf.Memory tells = tells
-no_edits_fail edit file (elf.Io e) tells = tells
-no_edits_fail edit file (elf.Parse fault) tells = tells
-no_edits_fail edit file (elf.Write fault) tells = tells
-no_edits_fail edit file (elf.Modify cause) tells = tells
-no_edits_fail edit file elf.InvalidDtNeededEncoding tells = tells
-
-memory_alone : (edit : SymbolEdit) (file : List ℕ) (e : ElfCommandError) → TellsEdit (of_symbols edit) file e → e ≡ Memory
-memory_alone edit file Memory tells = refl
-memory_alone edit file (Edits wrong) tells = absurd (cc)
-memory_alone edit file (Elf e) tells = absurd (no_edits_fail edit file e tells)
-memory_alone edit file (ElfBatch e) tells = absurd tells
-memory_alone edit file (Io e) tells = absurd tells
-
 prints_tell : {W : Type 0} (file : List ℕ) (old new : W) (e : ElfCommandError) → new ≡ old → TellsEdit printing file e → TellsElf (image_of file) old new e
 prints_tell file old new Memory same tells = same
 prints_tell file old new (Edits wrong) same tells = absurd (cc)
@@ -283,8 +285,8 @@ tells_words (one edit) file old new e same tells = (same, tells file)
 tells_words (several read) file old new e same tells = (same, tells file)
 tells_words (shrinking prefixes) file old new e same tells =
     let P : ElfCommandError → Type 0 = λ x. TellsElf (image_of file) old new x in subst P (sym (only_memory prefixes file e (tells file))) same
-tells_words (of_symbols edit) file old new e same tells =
-    let P : ElfCommandError → Type 0 = λ x. TellsElf (image_of file) old new x in subst P (sym (memory_alone edit file e (tells file))) same
+tells_words (of_symbols edit) file old new e same tells = (same, tells file)
+tells_words (in_turn edits) file old new e same tells = (same, tells file)
 tells_words printing file old new e same tells = prints_tell file old new e same (tells file)
 
 -- ## Why a command may fail
@@ -301,8 +303,16 @@ pub may_fail : (a : ElfAsked) (file : List ℕ) (e : ElfCommandError) → TellsE
 may_fail printing file e tells = prints_fail file e tells
 may_fail (shrinking prefixes) file e tells =
     let P : ElfCommandError → Type 0 = λ x. MayFailAs (shrinking prefixes) x in subst P (sym (only_memory prefixes file e tells)) tt
-may_fail (of_symbols edit) file e tells =
-    let P : ElfCommandError → Type 0 = λ x. MayFailAs (of_symbols edit) x in subst P (sym (memory_alone edit file e tells)) tt
+may_fail (of_symbols edit) file Memory tells = tt
+may_fail (of_symbols edit) file (Io e) tells = tt
+may_fail (of_symbols edit) file (Edits wrong) tells = (file, ([], tells))
+may_fail (of_symbols edit) file (Elf e) tells = (file, ([], tells))
+may_fail (of_symbols edit) file (ElfBatch e) tells = (file, ([], tells))
+may_fail (in_turn edits) file Memory tells = tt
+may_fail (in_turn edits) file (Io e) tells = tt
+may_fail (in_turn edits) file (Edits wrong) tells = (file, ([], tells))
+may_fail (in_turn edits) file (Elf e) tells = (file, ([], tells))
+may_fail (in_turn edits) file (ElfBatch e) tells = (file, ([], tells))
 may_fail (one edit) file Memory tells = tt
 may_fail (one edit) file (Io e) tells = tt
 may_fail (one edit) file (Edits wrong) tells = (file, ([], tells))
@@ -328,6 +338,7 @@ same_edits (one edit) edits others are too = are ∙ sym too
 same_edits (several read) edits others are too = let e : Ok edits ≡ Ok others = sym are ∙ too in cc
 same_edits (shrinking prefixes) edits others are too = absurd are
 same_edits (of_symbols edit) edits others are too = absurd are
+same_edits (in_turn asked) edits others are too = absurd are
 same_edits printing edits others are too = absurd are
 
 -- where the edits find nothing to change, no image that they make is marked

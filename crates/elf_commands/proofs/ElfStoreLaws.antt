@@ -8,7 +8,7 @@ use Rattle.byte_store.specs.declared.difference.ReplaceError.TheVariants as repl
 use Rattle.byte_store.specs.declared.reading.ReadError.{ReadError}
 use Rattle.byte_store.specs.declared.reading.ReadError.TheVariants as read
 use Rattle.arwen_elf.specs.Written.{IsNoDifference}
-use Rattle.elf_commands.specs.ElfAsked.{ElfAsked, of_symbols, one, printing, several, shrinking}
+use Rattle.elf_commands.specs.ElfAsked.{ElfAsked, in_turn, of_symbols, one, printing, several, shrinking}
 use Rattle.elf_edits.specs.Edit.{Edit}
 use Rattle.elf_commands.specs.ElfEngine.{AreEditsAsked, LeavesElf, MayFailAs, TellsEachFile, TellsEdit}
 use Rattle.elf_commands.specs.ElfStores.{FailsElf, IsElfPatched, IsNothing, TellsElfPath}
@@ -25,7 +25,7 @@ words_refused a old mid (Elf e) kept tells = (kept, λ file known. tells file)
 words_refused a old mid (ElfBatch e) kept tells = (kept, λ file known. tells file)
 
 -- edits that leave these bytes of a difference
-leaves_of : (a : ElfAsked) (old : Option (List ℕ)) (loaded file : List ℕ) (d : Difference) → IsAll old loaded → old ≡ Some file → LeavesElf a loaded (made_of loaded d) → LeavesElf a file (made_of file d)
+pub leaves_of : (a : ElfAsked) (old : Option (List ℕ)) (loaded file : List ℕ) (d : Difference) → IsAll old loaded → old ≡ Some file → LeavesElf a loaded (made_of loaded d) → LeavesElf a file (made_of file d)
 leaves_of a old loaded file d all known leaves = let P : List ℕ → Type 0 = λ l. LeavesElf a l (made_of l d) in subst P (all file known) leaves
 
 -- the difference was made
@@ -35,6 +35,7 @@ elf_patched (one edit) edits old new loaded d are all leaves becomes = λ file k
 elf_patched (several read) edits old new loaded d are all leaves becomes = λ file known. (made_of file d, leaves_of (several read) old loaded file d all known leaves, becomes file known)
 elf_patched (shrinking prefixes) edits old new loaded d are all leaves becomes = absurd are
 elf_patched (of_symbols edit) edits old new loaded d are all leaves becomes = absurd are
+elf_patched (in_turn asked) edits old new loaded d are all leaves becomes = absurd are
 elf_patched printing edits old new loaded d are all leaves becomes = absurd are
 
 -- the difference was not made

@@ -1,6 +1,7 @@
+pub mod ForCallers
 pub mod ElfOutcomes
 pub mod ElfStoreLaws
 pub mod FailureLaws
 pub mod NotingLaws
 pub mod ShrinkLaws
-pub mod SymbolRunLaws
+pub mod GroupRunLaws

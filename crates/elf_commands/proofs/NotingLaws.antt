@@ -11,7 +11,7 @@ use Rattle.elf_notes.specs.Lines.{lines_of}
 use Rattle.elf_notes.specs.Notes.{AreFindings, AreLeft, AreNotes}
 use Rattle.elf_notes.specs.declared.findings.Findings.{Findings}
 use Rattle.elf_notes.specs.declared.notes.ElfNotes.{ElfNotes}
-use Rattle.elf_commands.specs.ElfAsked.{ElfAsked, asks_edits, of_symbols, one, printing, several, shrinking}
+use Rattle.elf_commands.specs.ElfAsked.{ElfAsked, asks_edits, in_turn, of_symbols, one, printing, several, shrinking}
 use Rattle.elf_commands.specs.ElfEngine.{AreEditsAsked, TellsEdit}
 use Rattle.elf_commands.specs.Noting.{TellsImage, TellsNotes, TellsUnmade, TellsWanted, TellsWantedAt}
 use Rattle.elf_commands.specs.declared.error.ElfCommandError.{ElfCommandError}
@@ -57,6 +57,7 @@ asks (one edit) edits are = refl
 asks (several read) edits are = refl
 asks (shrinking prefixes) edits are = absurd are
 asks (of_symbols edit) edits are = absurd are
+asks (in_turn asked) edits are = absurd are
 asks printing edits are = absurd are
 
 -- what is told of all the bytes of a store

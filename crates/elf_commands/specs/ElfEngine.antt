@@ -1,8 +1,7 @@
 -- What edits make of the bytes of an ELF file, and why they make none.
-use Rattle.std.specs.Prelude.{ℕ, ◌≡◌, ◌⊎◌, List, [], ◌∷◌, Option, Some, None, Ok, Err, false, true, ⊤}
+use Rattle.std.specs.Prelude.{ℕ, ◌≡◌, ◌⊎◌, List, [], ◌∷◌, Option, Some, None, Ok, Err, false, true, map, ⊤}
 use Rattle.std.specs.declared.alloc.Global.{Global}
 use Rattle.std.specs.declared.vec.Vec.{Vec}
-use Rattle.elf_apply.specs.SymbolsTaken.{RefusesSymbolEdit}
 use Rattle.elf_apply.specs.Told.{RefusesAt}
 use Rattle.arwen_elf.specs.Written.{IsImageWritten, IsNoImage}
 use Rattle.elf_apply.specs.declared.batch.ElfBatchError.{ElfBatchError}
@@ -17,10 +16,11 @@ use Rattle.elf_image.specs.Views.{View, dynamic_symbol_count, loader_view, secti
 use Rattle.elf_image.specs.Kept.{image_at_read}
 use Rattle.elf_write_spec.specs.Final.{final_view}
 use Rattle.elf_write_spec.specs.WrittenFile.{IsWrittenOf}
-use Rattle.elf_symbol_edits.specs.Cause.{step as symbol_step}
-use Rattle.elf_symbol_edits.specs.SymbolEdit.{SymbolEdit}
-use Rattle.elf_commands.specs.ElfAsked.{ElfAsked, answered, asks_edits, elf_asked, of_symbols, one, printing, several, shrinking}
+use Rattle.elf_commands_groups.specs.Groups.{GroupEdit, MakeInTurn, RefuseInTurn, group_model, symbols}
+use Rattle.elf_commands.specs.ElfAsked.{ElfAsked, answered, asks_edits, asks_in_turn, elf_asked, in_turn, of_symbols, one, printing, several, shrinking}
 use Rattle.elf_commands.specs.ElfWords.{edits_model}
+use Rattle.elf_commands.specs.declared.asked.AskedEdits.{AskedEdits}
+use Rattle.elf_commands.specs.declared.asked.AskedEdits.TheVariants as asked
 use Rattle.elf_commands.specs.ElfErrors.{answer_to_elf, answer_to_elf_batch}
 use Rattle.elf_commands.specs.Meaning.{ElfMeaning}
 use Rattle.elf_commands.specs.Prints.{PrintMayFail, Prints, TellsElf}
@@ -59,11 +59,30 @@ pub record IsEditedTo (edits : List Edit) (file new : List ℕ) : Type 0 where
   pub written : IsImageWritten made new
   pub shows : made.changed ≡ true → ShowsEdits edits file new made
 
--- The image that an edit of symbols or sections makes of a file.
-pub record MakesSymbols (edit : SymbolEdit) (file : List ℕ) (made : Image) : Type 0 where
+-- new bytes of an image that was changed, and none of one that wasn't
+pub record AreChanged (made : Image) (answer : Option (Vec ℕ Global)) : Type 0 where
+  pub same : made.changed ≡ false → answer ≡ None
+  pub other : made.changed ≡ true → (new : Vec ℕ Global) × (answer ≡ Some new) × IsWrittenOf made new.items
+
+-- ---- edits of both kinds, one after the other
+
+-- The image that they make of a file.
+pub record MakesInTurn (edits : List GroupEdit) (file : List ℕ) (made : Image) : Type 0 where
   pub read : Image
   pub is_read : image_of file ≡ Ok read
-  pub makes : symbol_step edit read ≡ Ok made
+  pub make : MakeInTurn edits read made
+
+-- An answer to them: no bytes where the image is as it was, else those of the edited image.
+pub record AreEditedInTurn (edits : List GroupEdit) (file : List ℕ) (answer : Option (Vec ℕ Global)) : Type 0 where
+  pub made : Image
+  pub makes : MakesInTurn edits file made
+  pub changed : AreChanged made answer
+
+-- The bytes that they leave of a file: those of the image that they make of it.
+pub record LeaveInTurn (edits : List GroupEdit) (file new : List ℕ) : Type 0 where
+  pub made : Image
+  pub makes : MakesInTurn edits file made
+  pub written : IsImageWritten made new
 
 -- ---- which answer tells why there are no bytes; want of memory may be answered in any case
 
@@ -84,17 +103,33 @@ abbrev pub IsUnread : List ℕ → ElfError → Type 0
 IsUnread file (elf.Parse fault) = image_of file ≡ Err fault
 IsUnread file e = ⊥
 
+-- of edits in turn the one with this number is refused
+pub record AreRefusedInTurn (edits : List GroupEdit) (file : List ℕ) (index : ℕ) (e : ElfError) : Type 0 where
+  pub read : Image
+  pub is_read : image_of file ≡ Ok read
+  pub refused : RefuseInTurn edits read index e
+
+-- the image that they make has no bytes
+pub record AreUnwritten (edits : List GroupEdit) (file : List ℕ) (e : ElfError) : Type 0 where
+  pub made : Image
+  pub makes : MakesInTurn edits file made
+  pub none : IsNoImage made e
+
 -- an error of a file
 abbrev pub TellsElfOf : ElfAsked → List ℕ → ElfError → Type 0
 TellsElfOf a file elf.Memory = ⊥
 TellsElfOf (one edit) file e =
     IsUnread file e ⊎ (((index : ℕ) × IsRefusedAt (edit ∷ []) file index e) ⊎ IsNotWritten (edit ∷ []) file e)
 TellsElfOf (several (Ok edits)) file e = IsUnread file e ⊎ IsNotWritten edits file e
+TellsElfOf (of_symbols edit) file e =
+    IsUnread file e ⊎ (((index : ℕ) × AreRefusedInTurn (symbols edit ∷ []) file index e) ⊎ AreUnwritten (symbols edit ∷ []) file e)
+TellsElfOf (in_turn edits) file e = IsUnread file e ⊎ AreUnwritten edits file e
 TellsElfOf a file e = ⊥
 
 -- an error of one of several edits
 abbrev pub TellsBatchOf : ElfAsked → List ℕ → ElfBatchError → Type 0
 TellsBatchOf (several (Ok edits)) file e = IsRefusedAt edits file e.index e.fault
+TellsBatchOf (in_turn edits) file e = AreRefusedInTurn edits file e.index e.fault
 TellsBatchOf a file e = ⊥
 
 abbrev pub TellsEdit : ElfAsked → List ℕ → ElfCommandError → Type 0
@@ -104,53 +139,53 @@ TellsEdit a file (Elf e) = TellsElfOf a file e
 TellsEdit a file (ElfBatch e) = TellsBatchOf a file e
 TellsEdit a file e = ⊥
 
--- an edit of symbols or sections is refused
-pub record IsSymbolEditRefused (edit : SymbolEdit) (file : List ℕ) (e : ElfError) : Type 0 where
-  pub read : Image
-  pub is_read : image_of file ≡ Ok read
-  pub refused : RefusesSymbolEdit e (symbol_step edit read)
-
--- the image that it makes has no bytes
-pub record IsSymbolEditUnwritten (edit : SymbolEdit) (file : List ℕ) (e : ElfError) : Type 0 where
-  pub made : Image
-  pub makes : MakesSymbols edit file made
-  pub none : IsNoImage made e
-
-abbrev pub TellsSymbols : SymbolEdit → List ℕ → ElfCommandError → Type 0
-TellsSymbols edit file Memory = ⊤
-TellsSymbols edit file (Elf e) = IsUnread file e ⊎ (IsSymbolEditRefused edit file e ⊎ IsSymbolEditUnwritten edit file e)
-TellsSymbols edit file e = ⊥
-
--- new bytes of an image that was changed, and none of one that wasn't
-pub record AreChanged (made : Image) (answer : Option (Vec ℕ Global)) : Type 0 where
-  pub same : made.changed ≡ false → answer ≡ None
-  pub other : made.changed ≡ true → (new : Vec ℕ Global) × (answer ≡ Some new) × IsWrittenOf made new.items
-
 -- the error is that of an image that has no bytes
 abbrev pub TellsNoImage : Image → ElfCommandError → Type 0
 TellsNoImage made e = (cause : ElfError) × IsNoImage made cause × (e ≡ answer_to_elf cause)
 
 -- ---- a run over bytes
 
--- edits that are asked for
+-- the edits of a batch that are asked for
 abbrev pub AreEditsAsked : ElfAsked → List Edit → Type 0
 AreEditsAsked (one edit) edits = edits ≡ edit ∷ []
 AreEditsAsked (several read) edits = read ≡ Ok edits
 AreEditsAsked (shrinking prefixes) edits = ⊥
 AreEditsAsked (of_symbols edit) edits = ⊥
+AreEditsAsked (in_turn asked) edits = ⊥
 AreEditsAsked printing edits = ⊥
 
--- new bytes, or none, are what the edits make that a command asks for
-pub record IsElfEdited (a : ElfAsked) (file : List ℕ) (answer : Option (Vec ℕ Global)) : Type 0 where
+-- the edits that are asked for where some of them are of symbols or sections
+abbrev pub AreAskedInTurn : ElfAsked → List GroupEdit → Type 0
+AreAskedInTurn (of_symbols edit) edits = edits ≡ symbols edit ∷ []
+AreAskedInTurn (in_turn asked) edits = edits ≡ asked
+AreAskedInTurn (one edit) edits = ⊥
+AreAskedInTurn (several read) edits = ⊥
+AreAskedInTurn (shrinking prefixes) edits = ⊥
+AreAskedInTurn printing edits = ⊥
+
+-- new bytes, or none, are what the edits of a batch make that a command asks for
+pub record IsBatchEdited (a : ElfAsked) (file : List ℕ) (answer : Option (Vec ℕ Global)) : Type 0 where
   pub edits : List Edit
   pub are : AreEditsAsked a edits
   pub edited : IsEditedBy edits file answer
 
--- the bytes that a command that edits leaves
-pub record LeavesElf (a : ElfAsked) (file new : List ℕ) : Type 0 where
+-- the bytes that a batch leaves
+pub record LeavesBatch (a : ElfAsked) (file new : List ℕ) : Type 0 where
   pub edits : List Edit
   pub are : AreEditsAsked a edits
   pub left : IsEditedTo edits file new
+
+-- new bytes, or none, are what the edits make that a command asks for
+abbrev pub IsElfEdited : ElfAsked → List ℕ → Option (Vec ℕ Global) → Type 0
+IsElfEdited (of_symbols edit) file answer = AreEditedInTurn (symbols edit ∷ []) file answer
+IsElfEdited (in_turn edits) file answer = AreEditedInTurn edits file answer
+IsElfEdited a file answer = IsBatchEdited a file answer
+
+-- the bytes that a command that edits leaves
+abbrev pub LeavesElf : ElfAsked → List ℕ → List ℕ → Type 0
+LeavesElf (of_symbols edit) file new = LeaveInTurn (symbols edit ∷ []) file new
+LeavesElf (in_turn edits) file new = LeaveInTurn edits file new
+LeavesElf a file new = LeavesBatch a file new
 
 -- the bytes that there are after an answer
 abbrev pub bytes_left : List ℕ → Option (Vec ℕ Global) → List ℕ
@@ -161,13 +196,18 @@ bytes_left file (Some new) = new.items
 abbrev pub RunsElf : ElfMeaning → ElfAsked → List ℕ → Option (Vec ℕ Global) → Option (List ℕ) → Option (List ℕ) → Type 0
 RunsElf meaning printing file answer old new = (answer ≡ None) × Prints meaning (image_of file) old new
 RunsElf meaning (shrinking prefixes) file answer old new = (answer ≡ None) × Prints meaning (image_of file) old new
-RunsElf meaning (of_symbols edit) file answer old new = (answer ≡ None) × Prints meaning (image_of file) old new
 RunsElf meaning a file answer old new = IsElfEdited a file answer × (new ≡ old)
 
--- the edits of a command; none of one that prints, asks first what is found, or edits symbols or sections
+-- the edits of a batch that a command asks for; none of one that prints, asks first what is found, or edits symbols or sections
 abbrev pub AreAskedIf : ElfAsked → Option (Vec ElfEdit Global) → Type 0
 AreAskedIf a (Some edits) = AreEditsAsked a (edits_model edits.items)
 AreAskedIf a None = asks_edits a ≡ false
+
+-- the edits that a command asks for, be it of a batch or in turn
+abbrev pub AreAsked : ElfAsked → AskedEdits → Type 0
+AreAsked a (asked.Batch edits) = AreEditsAsked a (edits_model edits.items)
+AreAsked a (asked.InTurn edits) = AreAskedInTurn a (map group_model edits.items)
+AreAsked a asked.Nothing = (asks_edits a ≡ false) × (asks_in_turn a ≡ false)
 
 -- an error tells the outcome of each file, since no file was looked at
 abbrev pub TellsEachFile : ElfAsked → ElfCommandError → Type 0
@@ -177,12 +217,12 @@ TellsEachFile a e = (file : List ℕ) → TellsEdit a file e
 abbrev pub TellsRun : {W : Type 0} → ElfAsked → List ℕ → W → W → ElfCommandError → Type 0
 TellsRun printing file old new e = TellsElf (image_of file) old new e
 TellsRun (shrinking prefixes) file old new e = TellsElf (image_of file) old new e
-TellsRun (of_symbols edit) file old new e = TellsElf (image_of file) old new e
 TellsRun a file old new e = (new ≡ old) × TellsEdit a file e
 
 -- a refused edit as it is answered to a command: of several it is told which one is refused
 abbrev pub elf_refusal : ElfAsked → ElfBatchError → ElfCommandError
 elf_refusal (several read) e = answer_to_elf_batch e
+elf_refusal (in_turn edits) e = answer_to_elf_batch e
 elf_refusal a e = answer_to_elf e.fault
 
 -- ---- why a command may fail. No clause can say that a file can be read or written
@@ -191,7 +231,6 @@ abbrev pub MayFailAs : ElfAsked → ElfCommandError → Type 0
 MayFailAs printing e = PrintMayFail e
 MayFailAs a Memory = ⊤
 MayFailAs a (Io e) = ⊤
-MayFailAs (of_symbols edit) e = (file : List ℕ) × TellsSymbols edit file e
 MayFailAs a e = (file : List ℕ) × ((found : List Answer) × TellsEdit (answered found a) file e)
 
 abbrev pub ElfMayFail : ElfMeaning → ElfCommandError → Type 0

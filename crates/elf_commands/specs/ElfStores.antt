@@ -5,18 +5,17 @@ use Rattle.byte_store.specs.Composed.{made_of, owned_patches}
 use Rattle.byte_store.specs.Fault.{IsLeft}
 use Rattle.byte_store.specs.declared.composed.Difference.{Difference}
 use Rattle.byte_store.specs.declared.writing.Left.{Left}
-use Rattle.elf_commands.specs.ElfAsked.{ElfAsked, of_symbols, printing, shrinking}
+use Rattle.elf_commands.specs.ElfAsked.{ElfAsked, printing, shrinking}
 use Rattle.elf_edits.specs.Edit.{Edit}
 use Rattle.elf_image.specs.Image.{Image}
 use Rattle.elf_commands.specs.ElfEngine.{AreEditsAsked, LeavesElf, Makes, TellsEdit}
 use Rattle.elf_commands.specs.declared.error.ElfCommandError.{ElfCommandError}
 use Rattle.elf_commands.specs.declared.error.ElfCommandError.TheVariants.{Io}
 
--- known bytes become those that the edits leave that are asked for; those of a command that prints, asks first what is found, or edits symbols or sections, stay
+-- known bytes become those that the edits leave that are asked for; those of a command that prints, or asks first what is found, stay
 abbrev pub IsElfPatched : ElfAsked → Option (List ℕ) → Option (List ℕ) → Type 0
 IsElfPatched printing old new = Stays old new
 IsElfPatched (shrinking prefixes) old new = Stays old new
-IsElfPatched (of_symbols edit) old new = Stays old new
 IsElfPatched a old new = (file : List ℕ) → old ≡ Some file
     → (made : List ℕ) × LeavesElf a file made × (new ≡ Some made)
 

@@ -8,5 +8,3 @@ pub mod Meaning
 pub mod Noting
 pub mod Prints
 pub mod ShrinkRuns
-pub mod SymbolRuns
-pub mod SymbolTexts

@@ -100,10 +100,10 @@ elf_lines = edit_line (codes "add-debug-tag") (by_none AddDebugEntry)
     ∷ other_line (codes "apply") (by_words (λ path words. Ok (apply_elf path words)))
     ∷ other_line (codes "shrink-rpath")
     (by_options (codes "allowed-rpath-prefixes") 97 (λ path prefixes. Ok (shrink_elf path prefixes)))
-    ∷ other_line (codes "rename-symbols") (by_new_names RenameAllSymbols)
-    ∷ other_line (codes "delete-symbols") (by_names DeleteAllSymbols)
-    ∷ other_line (codes "rename-sections") (by_new_names RenameSections)
-    ∷ other_line (codes "delete-sections") (by_names DeleteSections)
+    ∷ edit_line (codes "rename-symbols") (by_new_names RenameAllSymbols)
+    ∷ edit_line (codes "delete-symbols") (by_names DeleteAllSymbols)
+    ∷ edit_line (codes "rename-sections") (by_new_names RenameSections)
+    ∷ edit_line (codes "delete-sections") (by_names DeleteSections)
     ∷ print_line (codes "print-rpath") print_rpath
     ∷ print_line (codes "print-needed") print_needed
     ∷ print_line (codes "print-soname") print_soname

@@ -20,10 +20,9 @@ use Rattle.elf_format.specs.declared.fault.ElfFault.{ElfFault}
 use Rattle.elf_image.specs.Image.{Image, image_of, shown}
 use Rattle.arwen_elf.specs.Written.{IsImageWritten, IsNoImage}
 use Rattle.elf_commands.specs.ElfAsked.{elf_asked, one}
-use Rattle.elf_commands.specs.ElfEngine.{AreChanged, IsElfEdited, LeavesElf, RunsElf, TellsEdit, TellsNoImage, TellsRun, TellsSymbols}
+use Rattle.elf_commands.specs.ElfEngine.{AreChanged, IsElfEdited, LeavesElf, RunsElf, TellsEdit, TellsNoImage, TellsRun}
 use Rattle.elf_commands.specs.ElfErrors.{answer_to_elf}
-use Rattle.elf_commands.specs.Meaning.{ElfMeaning, shrink_elf, symbols_elf}
-use Rattle.elf_commands.specs.SymbolRuns.{IsSymbolsEdited}
+use Rattle.elf_commands.specs.Meaning.{ElfMeaning, shrink_elf}
 use Rattle.command_words.specs.Rows.{Text}
 use Rattle.elf_commands_probe.specs.Shrinking.{AreFound, Finding, removal_lines}
 use Rattle.elf_commands.specs.declared.error.ElfCommandError.{ElfCommandError}
@@ -135,11 +134,9 @@ TellsShrunkPath finds prefixes known e = (file : List ℕ) → known ≡ Some fi
 -- what a run makes and prints, where these answers are handed in
 abbrev pub RunsCommand : ElfMeaning → List Answer → List ℕ → Option (Vec ℕ Global) → Option (List ℕ) → Option (List ℕ) → Type 0
 RunsCommand (shrink_elf path prefixes) found file answer old new = RunsShrink (ShrinkRunPath prefixes found) file answer old new
-RunsCommand (symbols_elf edit path) found file answer old new = IsSymbolsEdited edit file answer × (new ≡ old)
 RunsCommand meaning found file answer old new = RunsElf meaning (elf_asked meaning) file answer old new
 
 -- an error of a run
 abbrev pub TellsCommand : {W : Type 0} → ElfMeaning → List Answer → List ℕ → W → W → ElfCommandError → Type 0
 TellsCommand (shrink_elf path prefixes) found file old new e = TellsShrink (ShrinkRunPath prefixes found) file old new e
-TellsCommand (symbols_elf edit path) found file old new e = (new ≡ old) × TellsSymbols edit file e
 TellsCommand meaning found file old new e = TellsRun (elf_asked meaning) file old new e

@@ -10,11 +10,10 @@ use crate::elf::{
     remove_rpath, rename_dynamic_symbols, rename_sections, rename_symbols, replace_needed,
     set_execstack, set_interpreter, set_os_abi, set_page_size, set_rpath, set_soname, shrink_rpath,
 };
-use crate::symbol_texts::SymbolTexts;
-use crate::texts::{bytes_of, pairs_copied, texts_of};
 use command_words::{
     Row, Value, ValueError, ValueForm, ValueOption, Values, copied, number_of, pairs_of,
 };
+use elf_commands_groups::{GroupEdit, SymbolTexts, bytes_of, pairs_copied, texts_of};
 use elf_edits::ElfEdit;
 use std::alloc::{AllocError, Global};
 use std::slice;
@@ -86,9 +85,10 @@ impl ElfCommand {
     ghost use Rattle.std.specs.Prelude.{◌≡◌, Some as some, IfErr, IfOk, map, option_map, string_bytes};
     ghost use Rattle.elf_edits.specs.EditModel.{edit_model};
     ghost use Rattle.elf_commands.specs.ElfAsked.{elf_asked, is_printing};
-    ghost use Rattle.elf_commands.specs.ElfWords.{elf_edit_asked};
+    ghost use Rattle.elf_commands.specs.ElfWords.{elf_edit_asked, group_edit_asked, symbols_asked};
     ghost use Rattle.elf_commands.specs.Meaning.{elf_file_of, elf_lines, elf_command_model, reading_of};
-    ghost use Rattle.elf_commands.specs.SymbolTexts.{symbol_texts_model, symbols_asked};
+    ghost use Rattle.elf_commands_groups.specs.Groups.{group_model};
+    ghost use Rattle.elf_commands_groups.specs.SymbolTexts.{symbol_texts_model};
     ghost use Rattle.command_words.specs.Rows.{given_model, meant_with, options, path, text, words as words_given};
     ghost use Rattle.command_words.specs.WordValues.{TellsNoValue};
 
@@ -252,8 +252,22 @@ impl ElfCommand {
     }
 
     /// The edit that the command asks for; `None` for `apply`, which asks for several, for
-    /// `shrink-rpath`, which asks for one by what is found, for one of symbols or sections, and for a command that prints.
-    pub(crate) fn edit(&self, alloc: Global) -> Result<Option<ElfEdit>, AllocError>
+    /// `shrink-rpath`, which asks for one by what is found, and for a command that prints.
+    pub(crate) fn group_edit(&self, alloc: Global) -> Result<Option<GroupEdit>, AllocError>
+        ensures { IfOk result (λ edit.
+            option_map group_model edit ≡ group_edit_asked (elf_command_model self.now)) }
+    {
+        if let Some(edit) = self.edit(alloc)? {
+            return Ok(Some(GroupEdit::Plain(edit)));
+        }
+        match self.symbol_edit(alloc)? {
+            Some(texts) => Ok(Some(GroupEdit::Symbols(texts))),
+            None => Ok(None),
+        }
+    }
+
+    /// The edit that the command asks for and that a batch takes; `None` for any other command.
+    fn edit(&self, alloc: Global) -> Result<Option<ElfEdit>, AllocError>
         ensures { IfOk result (λ edit.
             option_map edit_model edit ≡ elf_edit_asked (elf_command_model self.now)) }
     {
@@ -294,7 +308,7 @@ impl ElfCommand {
     }
 
     /// The edit of symbols or sections that the command asks for; `None` for any other command.
-    pub(crate) fn symbol_edit(&self, alloc: Global) -> Result<Option<SymbolTexts>, AllocError>
+    fn symbol_edit(&self, alloc: Global) -> Result<Option<SymbolTexts>, AllocError>
         ensures { IfOk result (λ edit. option_map symbol_texts_model edit
             ≡ symbols_asked (elf_command_model self.now)) }
     {
@@ -387,6 +401,10 @@ const ELF_EDITS: &str = "Edits:
   remove-needed [OLD]...
   replace-needed [OLD=NEW]...
   rename-dynamic-symbols [OLD=NEW]...
+  rename-symbols [OLD=NEW]...
+  delete-symbols [NAME]...
+  rename-sections [OLD=NEW]...
+  delete-sections [NAME]...
 
 Example:
   arwen elf apply libgreet.so set-soname libgreet.so.1 + add-rpath /opt/lib
@@ -577,7 +595,7 @@ pub static ELF_ROWS: [Row; 29] = [
             name: "OLD=NEW",
             help: "Pairs of an old and a new name",
         }),
-        is_edit: false,
+        is_edit: true,
         more: "",
     },
     Row {
@@ -587,7 +605,7 @@ pub static ELF_ROWS: [Row; 29] = [
             name: "NAME",
             help: "Names of the symbols",
         }),
-        is_edit: false,
+        is_edit: true,
         more: "",
     },
     Row {
@@ -597,7 +615,7 @@ pub static ELF_ROWS: [Row; 29] = [
             name: "OLD=NEW",
             help: "Pairs of an old and a new name",
         }),
-        is_edit: false,
+        is_edit: true,
         more: "",
     },
     Row {
@@ -607,7 +625,7 @@ pub static ELF_ROWS: [Row; 29] = [
             name: "NAME",
             help: "Names of the sections",
         }),
-        is_edit: false,
+        is_edit: true,
         more: "",
     },
     Row {

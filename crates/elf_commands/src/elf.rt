@@ -6,26 +6,25 @@ ghost use Rattle.elf_commands.specs.Prints.{PrintMayFail};
 
 mod editing;
 mod engine;
+mod in_turn;
 mod noting;
 mod printing;
 mod shrinking;
 mod standard_error;
-mod symbols;
 
+pub use crate::asked::edits_asked;
 use crate::command::ElfCommand;
 use crate::error::ElfCommandError;
 use command_words::Notes;
 pub use editing::{edit_path, edit_store};
 use editing::{edit_file, edit_telling};
 pub use elf_commands_probe::{FileProbe, Probe};
-pub use engine::{edits_asked, run_elf};
+pub use engine::run_elf;
 use printing::print_file;
 pub use printing::{print_path, print_store};
 use shrinking::shrink_file;
 pub use shrinking::{shrink_path, shrink_store};
 use std::rt::Files;
-use symbols::edit_symbols_file;
-pub use symbols::{edit_symbols_path, edit_symbols_store};
 
 /// Does what is asked of an ELF file, and tells no notes. What is printed goes to the standard output, and which
 /// directories `shrink-rpath` leaves out to the standard error.
@@ -49,15 +48,11 @@ pub fn execute_telling<R: Files + Print + Eprint + AllocGlobal>(
 {
     match elf {
         ElfCommand::ShrinkRpath(args) => shrink_file(rt, args),
-        ElfCommand::RenameSymbols(args) => rename_symbols::execute(rt, args),
-        ElfCommand::DeleteSymbols(args) => delete_symbols::execute(rt, args),
-        ElfCommand::RenameSections(args) => rename_sections::execute(rt, args),
-        ElfCommand::DeleteSections(args) => delete_sections::execute(rt, args),
         other => execute_unprobed(rt, other, notes),
     }
 }
 
-/// The same of a command that looks for no libraries, and edits no symbols or sections.
+/// The same of a command that looks for no libraries.
 fn execute_unprobed<R: Files + Print + Eprint + AllocGlobal>(
     rt: &R,
     elf: ElfCommand,
@@ -497,7 +492,7 @@ pub mod shrink_rpath {
 
 /// `rename-symbols`: gives symbols other names, all at once, for link editors and for the loader (gABI, Symbol Table, st_name).
 pub mod rename_symbols {
-    use super::{ElfCommand, ElfCommandError, Files, edit_symbols_file};
+    use super::{ElfCommand, ElfCommandError, Files, edit_file};
 
     /// The word that names the command.
     pub const NAME: &str = "rename-symbols";
@@ -515,13 +510,13 @@ pub mod rename_symbols {
     pub fn execute<R: Files + AllocGlobal>(rt: &R, args: Args) -> Result<(), ElfCommandError>
         ensures { IfErr result (ElfMayFail (elf_command_model (ElfCommand.RenameSymbols args))) }
     {
-        edit_symbols_file(rt, ElfCommand::RenameSymbols(args))
+        edit_file(rt, ElfCommand::RenameSymbols(args))
     }
 }
 
 /// `delete-symbols`: deletes symbols, for link editors and for the loader (gABI, Symbol Table).
 pub mod delete_symbols {
-    use super::{ElfCommand, ElfCommandError, Files, edit_symbols_file};
+    use super::{ElfCommand, ElfCommandError, Files, edit_file};
 
     /// The word that names the command.
     pub const NAME: &str = "delete-symbols";
@@ -539,13 +534,13 @@ pub mod delete_symbols {
     pub fn execute<R: Files + AllocGlobal>(rt: &R, args: Args) -> Result<(), ElfCommandError>
         ensures { IfErr result (ElfMayFail (elf_command_model (ElfCommand.DeleteSymbols args))) }
     {
-        edit_symbols_file(rt, ElfCommand::DeleteSymbols(args))
+        edit_file(rt, ElfCommand::DeleteSymbols(args))
     }
 }
 
 /// `rename-sections`: gives sections other names, all at once (gABI, Sections, sh_name).
 pub mod rename_sections {
-    use super::{ElfCommand, ElfCommandError, Files, edit_symbols_file};
+    use super::{ElfCommand, ElfCommandError, Files, edit_file};
 
     /// The word that names the command.
     pub const NAME: &str = "rename-sections";
@@ -563,13 +558,13 @@ pub mod rename_sections {
     pub fn execute<R: Files + AllocGlobal>(rt: &R, args: Args) -> Result<(), ElfCommandError>
         ensures { IfErr result (ElfMayFail (elf_command_model (ElfCommand.RenameSections args))) }
     {
-        edit_symbols_file(rt, ElfCommand::RenameSections(args))
+        edit_file(rt, ElfCommand::RenameSections(args))
     }
 }
 
 /// `delete-sections`: deletes sections, with what goes along (gABI, Sections).
 pub mod delete_sections {
-    use super::{ElfCommand, ElfCommandError, Files, edit_symbols_file};
+    use super::{ElfCommand, ElfCommandError, Files, edit_file};
 
     /// The word that names the command.
     pub const NAME: &str = "delete-sections";
@@ -587,7 +582,7 @@ pub mod delete_sections {
     pub fn execute<R: Files + AllocGlobal>(rt: &R, args: Args) -> Result<(), ElfCommandError>
         ensures { IfErr result (ElfMayFail (elf_command_model (ElfCommand.DeleteSections args))) }
     {
-        edit_symbols_file(rt, ElfCommand::DeleteSections(args))
+        edit_file(rt, ElfCommand::DeleteSections(args))
     }
 }
 

@@ -1,7 +1,7 @@
 //! The words of several edits of an ELF file on one line.
 ghost use Rattle.std.specs.Prelude.{◌≡◌, Ok, IfErr, IfOk, map, option_and_then, option_map};
-ghost use Rattle.elf_edits.specs.EditModel.{edit_model};
-ghost use Rattle.elf_commands.specs.ElfWords.{edit_asked, edits_model, elf_edits_of, elf_group_edit};
+ghost use Rattle.elf_commands_groups.specs.Groups.{group_model};
+ghost use Rattle.elf_commands.specs.ElfWords.{edit_asked, elf_edits_of, elf_group_edit};
 ghost use Rattle.elf_commands.specs.Meaning.{elf_command_model, elf_lines, reading_of};
 ghost use Rattle.command_words.specs.Groups.{TellsFault, TellsWrong};
 ghost use Rattle.command_words.specs.Rows.{given_model, given_without_path, kind_model, meant_with};
@@ -12,14 +12,14 @@ use command_words::{
     EditKind, EditsError, Row, Values, edit_row, no_edit, no_values, other_words,
     values_without_path,
 };
-use elf_edits::ElfEdit;
+use elf_commands_groups::GroupEdit;
 use std::alloc::Global;
 
 /// Reads edits of an ELF file from words that are cut into groups at each `+`. A group is a command's name and its
 /// words without the path; no words are one empty group. The first faulty group is answered.
-pub fn parse_elf_edits(alloc: Global, words: &[&str]) -> Result<Vec<ElfEdit>, EditsError>
+pub fn parse_elf_edits(alloc: Global, words: &[&str]) -> Result<Vec<GroupEdit>, EditsError>
     ensures ok { IfOk result (λ edits.
-        elf_edits_of (map (λ w. w.now) words.now) ≡ Ok (edits_model edits.items)) }
+        elf_edits_of (map (λ w. w.now) words.now) ≡ Ok (map group_model edits.items)) }
     ensures err { IfErr result (TellsFault (elf_edits_of (map (λ w. w.now) words.now))) }
 {
     let mut edits = Vec::new(alloc);
@@ -31,9 +31,9 @@ pub fn parse_elf_edits(alloc: Global, words: &[&str]) -> Result<Vec<ElfEdit>, Ed
 }
 
 /// Reads the edit of one group, which has this number.
-fn read_group(alloc: Global, group: usize, words: &[&str]) -> Result<ElfEdit, EditsError>
+fn read_group(alloc: Global, group: usize, words: &[&str]) -> Result<GroupEdit, EditsError>
     ensures ok { IfOk result (λ edit.
-        elf_group_edit (map (λ w. w.now) words.now) ≡ Ok (edit_model edit)) }
+        elf_group_edit (map (λ w. w.now) words.now) ≡ Ok (group_model edit)) }
     ensures err { IfErr result (TellsWrong group (elf_group_edit (map (λ w. w.now) words.now))) }
 {
     let (row, words) = edit_row(elf_table(), group, words)?;
@@ -84,12 +84,12 @@ fn command_with(
 }
 
 /// The edit that a command asks for, as that of a group.
-fn edit_of(alloc: Global, group: usize, command: ElfCommand) -> Result<ElfEdit, EditsError>
+fn edit_of(alloc: Global, group: usize, command: ElfCommand) -> Result<GroupEdit, EditsError>
     ensures ok { IfOk result (λ edit.
-        edit_asked (elf_command_model command) ≡ Ok (edit_model edit)) }
+        edit_asked (elf_command_model command) ≡ Ok (group_model edit)) }
     ensures err { IfErr result (TellsWrong group (edit_asked (elf_command_model command))) }
 {
-    let edit = command.edit(alloc);
+    let edit = command.group_edit(alloc);
     drop(command);
     match edit? {
         Some(edit) => Ok(edit),

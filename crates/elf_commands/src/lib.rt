@@ -2,13 +2,13 @@
 //! and the file itself.
 #![tactic(auto)]
 
+mod asked;
 mod command;
 pub mod elf;
 mod elf_words;
 mod error;
-mod symbol_texts;
-mod texts;
 
 pub use command::{ElfCommand, elf_table};
+pub use elf_commands_groups::{GroupEdit, SymbolTexts, plain_edits};
 pub use elf_words::parse_elf_edits;
 pub use error::ElfCommandError;

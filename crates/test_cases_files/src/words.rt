@@ -1,6 +1,6 @@
 //! The words of a line. Blanks stand between words, and `''` is the empty word. In words that are read by their marks `~`
 //! stands for a NUL and `^` for a blank.
-use arwen_cli::cli::{EditsError, parse_elf_edits};
+use arwen_cli::cli::{EditsError, parse_elf_edits, plain_edits};
 use arwen_cli::elf::ElfEdit;
 use std::alloc::{AllocError, Global};
 
@@ -49,7 +49,7 @@ fn text_of_marks(alloc: Global, line: &str) -> Result<String, AllocError> {
     Ok(text)
 }
 
-/// The edits of ELF files that the words of a line are, by their marks.
+/// The edits of ELF files that the words of a line are, by their marks: those that a batch takes.
 pub fn edits_of(alloc: Global, line: &str) -> Result<Vec<ElfEdit>, EditsError> {
     let text = text_of_marks(alloc, line)?;
     edits_in(alloc, text.as_str())
@@ -58,7 +58,8 @@ pub fn edits_of(alloc: Global, line: &str) -> Result<Vec<ElfEdit>, EditsError> {
 /// The edits that the lines of a text are.
 fn edits_in(alloc: Global, text: &str) -> Result<Vec<ElfEdit>, EditsError> {
     let words = split_words(alloc, text, '\n')?;
-    parse_elf_edits(alloc, words.as_slice())
+    let edits = parse_elf_edits(alloc, words.as_slice())?;
+    Ok(plain_edits(alloc, edits)?)
 }
 
 /// The words of a line by their marks, as bytes.

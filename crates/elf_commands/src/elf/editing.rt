@@ -5,15 +5,17 @@ ghost use Rattle.byte_store.specs.Composed.{IsNotMade, made_of, owned_patches};
 ghost use Rattle.byte_store.specs.Known.{Becomes, HasLength, IsAll, Stays};
 ghost use Rattle.byte_store.specs.Laid.{LiesIn};
 ghost use Rattle.elf_commands.specs.ElfAsked.{elf_asked};
-ghost use Rattle.elf_commands.specs.ElfEngine.{AreEditsAsked, ElfMayFail};
+ghost use Rattle.elf_commands.specs.ElfEngine.{AreAsked, AreEditsAsked, ElfMayFail};
 ghost use Rattle.elf_commands.specs.ElfStores.{ChangesNothing, FailsElf, IsElfPatched, IsNothing, TellsElfPath};
 ghost use Rattle.elf_commands.specs.ElfWords.{edits_model};
 ghost use Rattle.elf_commands.specs.Failures.{HasCause, HasCauseAt, HasWriteCause};
 ghost use Rattle.elf_commands.specs.Meaning.{elf_file_of, elf_command_model};
 ghost use Rattle.elf_commands.specs.Noting.{TellsWanted, TellsWantedAt};
 
+use crate::asked::{AskedEdits, asked_by};
 use crate::command::ElfCommand;
-use crate::elf::engine::{edited_pieces, edits_asked};
+use crate::elf::engine::edited_pieces;
+use crate::elf::in_turn::edit_in_turn;
 use crate::elf::noting::tell;
 use crate::elf::printing::load_elf;
 use crate::error::ElfCommandError;
@@ -32,6 +34,7 @@ use std::rt::Files;
 ///
 /// Where notes are wanted, the lines are answered that tell what a user should know of the edits, of the bytes as they
 /// were and of the image after them, each with the command's path; else no text. They are made before anything is written.
+/// Where some edits are of symbols or sections, there are none.
 ///
 /// # Errors
 ///
@@ -55,17 +58,44 @@ pub fn edit_store<S: Store>(
         (S.contents store.old) (S.failed store.old) (S.failed store.new)) }
 {
     let bytes = load_elf(alloc, store)?;
-    let Some(edits) = edits_asked(alloc, command)? else {
-        return Ok(String::new(alloc));
-    };
-    edit_loaded(
-        alloc,
-        store,
-        bytes.as_slice(),
-        command,
-        edits.as_slice(),
-        notes,
-    )
+    let asked = asked_by(alloc, command)?;
+    edit_as_asked(alloc, store, bytes.as_slice(), command, &asked, notes)
+}
+
+/// Makes the edits that a command asks for in a store that has these bytes, and answers the lines of their notes; no text where
+/// they are left out, and where some edits are of symbols or sections.
+fn edit_as_asked<S: Store>(
+    alloc: Global,
+    store: &mut S,
+    bytes: &[u8],
+    command: &ElfCommand,
+    asked: &AskedEdits,
+    notes: Notes,
+) -> Result<String, ElfCommandError>
+    requires asked { AreAsked (elf_asked (elf_command_model command.now)) asked.now }
+    requires whole { IsAll (S.contents store.old) bytes.now }
+    requires length { HasLength (S.contents store.old) (length bytes.now) }
+    ensures patched { OnOk result (IsElfPatched (elf_asked (elf_command_model command.now))
+        (S.contents store.old) (S.contents store.new)) }
+    ensures told { IfOk result (λ text. TellsWantedAt notes
+        (elf_asked (elf_command_model command.now)) (elf_file_of (elf_command_model command.now))
+        (S.contents store.old) (string_bytes text)) }
+    ensures err { IfErr result (ElfMayFail (elf_command_model command.now)) }
+    ensures left { IfErr result (FailsElf (elf_asked (elf_command_model command.now))
+        (S.contents store.old) (S.contents store.new)) }
+    ensures cause { IfErr result (HasWriteCause S.may_fail_write S.may_take_none
+        (S.failed store.old) (S.failed store.new)) }
+{
+    match asked {
+        AskedEdits::Batch(edits) => {
+            edit_loaded(alloc, store, bytes, command, edits.as_slice(), notes)
+        }
+        AskedEdits::InTurn(edits) => {
+            edit_in_turn(alloc, store, bytes, command, edits.as_slice())?;
+            Ok(String::new(alloc))
+        }
+        AskedEdits::Nothing => Ok(String::new(alloc)),
+    }
 }
 
 /// Makes the edits that a command asks for in a store that has these bytes, and answers the lines of their notes; no

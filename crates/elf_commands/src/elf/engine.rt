@@ -9,21 +9,21 @@ ghost use Rattle.elf_commands.specs.ElfStores.{ChangesNothing};
 ghost use Rattle.elf_apply.specs.Causes.{FailsPrint};
 ghost use Rattle.elf_image.specs.Image.{image_of, shown};
 ghost use Rattle.elf_commands.specs.ElfAsked.{elf_asked};
-ghost use Rattle.elf_commands.specs.ElfEngine.{AreAskedIf, AreChanged, AreEditsAsked, IsElfEdited, LeavesElf, RunsElf, TellsEachFile, TellsEdit, TellsNoImage, TellsRun, bytes_left, elf_refusal};
+ghost use Rattle.elf_commands.specs.ElfEngine.{AreChanged, AreEditsAsked, IsElfEdited, LeavesElf, RunsElf, TellsEdit, TellsNoImage, TellsRun, bytes_left, elf_refusal};
 ghost use Rattle.elf_commands.specs.ElfWords.{edits_model};
 ghost use Rattle.elf_commands.specs.Meaning.{elf_command_model, elf_file_of};
 ghost use Rattle.elf_commands.specs.Noting.{TellsWanted};
 ghost use Rattle.elf_commands.specs.Prints.{Prints, TellsElf, printed};
 
+use crate::asked::{AskedEdits, asked_by};
 use crate::command::ElfCommand;
+use crate::elf::in_turn::edited_in_turn;
 use crate::elf::noting::apply_noting;
 use crate::elf::shrinking::run_shrink;
-use crate::elf::symbols::run_symbols;
-use crate::elf_words::parse_elf_edits;
 use crate::error::ElfCommandError;
 use arwen_elf::elf::{ElfBatchError, ElfContainer, ElfError, ProbeAnswer};
 use byte_store::Difference;
-use command_words::{Notes, words_of};
+use command_words::Notes;
 use elf_edits::ElfEdit;
 use elf_edits::laws::{batches_are_their_edits, edits_show};
 use elf_image::laws::read_images_hold_parts;
@@ -50,15 +50,11 @@ pub fn run_elf<W: Write>(
 {
     match command {
         ElfCommand::ShrinkRpath(args) => run_shrink(alloc, bytes, args, probe, out),
-        ElfCommand::RenameSymbols(_) => run_symbols(alloc, bytes, command),
-        ElfCommand::DeleteSymbols(_) => run_symbols(alloc, bytes, command),
-        ElfCommand::RenameSections(_) => run_symbols(alloc, bytes, command),
-        ElfCommand::DeleteSections(_) => run_symbols(alloc, bytes, command),
         _ => run_unprobed(alloc, bytes, command, out),
     }
 }
 
-/// The same of a command that asks for no answers, and edits no symbols or sections.
+/// The same of a command that asks for no answers.
 fn run_unprobed<W: Write>(
     alloc: Global,
     bytes: &[u8],
@@ -71,35 +67,14 @@ fn run_unprobed<W: Write>(
     ensures err { IfErr result
         (TellsRun (elf_asked (elf_command_model command.now)) bytes.now out.old out.new) }
 {
-    match edits_asked(alloc, command)? {
-        Some(edits) => edited(alloc, bytes, command, edits.as_slice()),
-        None => {
+    match asked_by(alloc, command)? {
+        AskedEdits::Batch(edits) => edited(alloc, bytes, command, edits.as_slice()),
+        AskedEdits::InTurn(edits) => edited_in_turn(alloc, bytes, command, edits.as_slice()),
+        AskedEdits::Nothing => {
             print_bytes(alloc, bytes, command, out)?;
             Ok(None)
         }
     }
-}
-
-/// The edits that a command asks for; `None` of one that prints, of `shrink-rpath`, which asks first what is found, and of one
-/// that edits symbols or sections.
-/// Errors: `Edits` where the words of `apply` are no list of edits; `Memory`.
-pub fn edits_asked(
-    alloc: Global,
-    command: &ElfCommand,
-) -> Result<Option<Vec<ElfEdit>>, ElfCommandError>
-    ensures ok { IfOk result (AreAskedIf (elf_asked (elf_command_model command.now))) }
-    ensures err { IfErr result (TellsEachFile (elf_asked (elf_command_model command.now))) }
-{
-    if let ElfCommand::Apply(args) = command {
-        let words = words_of(alloc, args.edits.as_slice())?;
-        return Ok(Some(parse_elf_edits(alloc, words.as_slice())?));
-    }
-    let Some(edit) = command.edit(alloc)? else {
-        return Ok(None);
-    };
-    let mut edits = Vec::new(alloc);
-    edits.push(edit)?;
-    Ok(Some(edits))
 }
 
 /// The bytes of a file after the edits that a command asks for, or `None` where they change nothing.

@@ -1,5 +1,5 @@
 -- The values of the words are those that the row's command takes.
-use Rattle.std.proofs.Common.{◌≡◌, ◌∙◌, Option, None, Some, ap, subst, sym}
+use Rattle.std.proofs.Common.{◌≡◌, ◌∙◌, Option, None, ap, subst, sym}
 use Rattle.std.specs.Prelude.{IfErr, IfOk, option_and_then, option_map}
 use Rattle.command_words.specs.Rows.{Given, given_model, meant_with}
 use Rattle.command_words.specs.WordValues.{TellsValues}

@@ -1,7 +1,7 @@
 -- A command that asks for no edit names none.
 use Rattle.std.proofs.Common.{sym, ap, ◌∙◌}
 use Rattle.std.specs.Prelude.{option_map}
-use Rattle.elf_edits.specs.EditModel.{edit_model}
+use Rattle.elf_commands_groups.specs.Groups.{group_model}
 use Rattle.elf_commands.specs.ElfWords.{one_edit}
 use Rattle.command_words.specs.Groups.{no_edit}
 use Rattle.command_words.proofs.ForCallers.{fault_told}
@@ -9,5 +9,5 @@ use Rattle.elf_commands.proofs.elf_words.edit_of.Goals as goal
 
 pub returns-in-None-clause-err : goal.returns-in-None-clause-err
 returns-in-None-clause-err c =
-    let none = sym (ap (option_map edit_model) c.in-None.is) ∙ c.in_ok-edit.ensures in
+    let none = sym (ap (option_map group_model) c.in-None.is) ∙ c.in_ok-edit.ensures in
     fault_told c.args.group _ no_edit _ (ap one_edit (sym none)) c.no_edit.ensures

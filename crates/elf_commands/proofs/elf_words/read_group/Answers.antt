@@ -6,8 +6,7 @@ use Rattle.command_words.specs.Groups.{TellsWrong, Wrong, other_words}
 use Rattle.command_words.specs.Rows.{row_model}
 use Rattle.command_words.proofs.ForCallers.{by_row, fault_told, no_row, texts}
 use Rattle.command_words.proofs.ForCallers.{told_by_values}
-use Rattle.elf_edits.specs.EditModel.{edit_model}
-use Rattle.elf_edits.specs.Edit.{Edit}
+use Rattle.elf_commands_groups.specs.Groups.{GroupEdit, group_model}
 use Rattle.elf_commands.specs.ElfWords.{elf_edit}
 use Rattle.elf_commands.specs.Meaning.{elf_lines, reading_of}
 use Rattle.elf_commands.proofs.elf_words.read_group.Goals as goal
@@ -26,21 +25,21 @@ returns-in_err-command-clause-err c =
     let words = texts c.in_ok-row.words.now in
     let is = by_row elf_edit elf_lines (map row_model c.elf_table.result.now) (texts c.args.words.now) row words _ c.elf_table.ensures c.in_ok-row.ensures.ok refl in
     let e = c.in_err-command.field-0.0 in
-    let Told : Result Edit Wrong → Type 0 = λ r. TellsWrong c.args.group r e in
+    let Told : Result GroupEdit Wrong → Type 0 = λ r. TellsWrong c.args.group r e in
     rw (p.1, p.2) (subst Told (sym is) (told_by_values elf_edit (λ wrong. refl) c.args.group row.kind words _ e c.in_err-command.ensures.err))
 
 pub returns-in-Some-clause-ok : goal.returns-in-Some-clause-ok
 returns-in-Some-clause-ok c =
     let asked = sym (ap (option_map reading_of) c.in-Some.is) ∙ c.in_ok-command.ensures.ok in
     let is = by_row elf_edit elf_lines (map row_model c.elf_table.result.now) (texts c.args.words.now) (row_model c.in_ok-row.row.now) (texts c.in_ok-row.words.now) _ c.elf_table.ensures c.in_ok-row.ensures.ok asked in
-    let Made : Result Edit Wrong → Type 0 = λ r. IfOk c.edit_of.result (λ edit. r ≡ Ok (edit_model edit)) in
+    let Made : Result GroupEdit Wrong → Type 0 = λ r. IfOk c.edit_of.result (λ edit. r ≡ Ok (group_model edit)) in
     subst Made (sym is) c.edit_of.ensures.ok
 
 pub returns-in-Some-clause-err : goal.returns-in-Some-clause-err
 returns-in-Some-clause-err c =
     let asked = sym (ap (option_map reading_of) c.in-Some.is) ∙ c.in_ok-command.ensures.ok in
     let is = by_row elf_edit elf_lines (map row_model c.elf_table.result.now) (texts c.args.words.now) (row_model c.in_ok-row.row.now) (texts c.in_ok-row.words.now) _ c.elf_table.ensures c.in_ok-row.ensures.ok asked in
-    let Told : Result Edit Wrong → Type 0 = λ r. IfErr c.edit_of.result (TellsWrong c.args.group r) in
+    let Told : Result GroupEdit Wrong → Type 0 = λ r. IfErr c.edit_of.result (TellsWrong c.args.group r) in
     subst Told (sym is) c.edit_of.ensures.err
 
 pub returns-in-None-clause-err : goal.returns-in-None-clause-err

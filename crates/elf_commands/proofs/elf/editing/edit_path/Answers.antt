@@ -1,5 +1,5 @@
 -- The store that was opened is the one at the command's path.
-use Rattle.std.proofs.Common.{◌≡◌, ◌∙◌, List, Option, ℕ, ap, inl, string_bytes, subst}
+use Rattle.std.proofs.Common.{◌∙◌, List, Option, ℕ, ap, inl, string_bytes, subst}
 use Rattle.std.proofs.lemmas.Result.{err_from_is_err_and}
 use Rattle.command_words.specs.Rows.{Text}
 use Rattle.elf_commands.specs.ElfAsked.{ElfAsked, elf_asked}

@@ -1,5 +1,5 @@
 -- The store that was opened is the one at the command's path.
-use Rattle.std.proofs.Common.{◌≡◌, ◌∙◌, List, ℕ, ap, inl, inr, map, string_bytes, subst}
+use Rattle.std.proofs.Common.{◌∙◌, List, ℕ, ap, inl, inr, map, string_bytes, subst}
 use Rattle.std.proofs.lemmas.Result.{err_from_is_err_and}
 use Rattle.elf_commands.proofs.FailureLaws.{shrink_cause_at}
 use Rattle.elf_commands.proofs.ShrinkLaws.{shrink_tells_at}
