@@ -3,6 +3,7 @@
 
 Run in this folder: python3 model.py > stdout
 """
+import hashlib
 import json
 import struct
 
@@ -12,6 +13,7 @@ CPUS = {7: 'i386', 12: 'arm', 18: 'ppc', 0x1000007: 'x86_64', 0x100000c: 'arm64'
 FILE_TYPES = {1: 'object', 2: 'program', 6: 'library', 7: 'loader', 8: 'bundle', 9: 'stub', 10: 'debug'}
 FLAGS = [(1, 'NOW'), (8, 'NODELETE'), (0x20, 'INITFIRST'), (0x80, 'ORIGIN'), (0x800, 'NODEFLIB'), (0x8000000, 'PIE')]
 LOADS = {0xc, 0x20, 0x80000018, 0x8000001f, 0x80000023}
+HASHES = {1: ('sha1', 20), 2: ('sha256', 32)}
 # What each refused file is answered with.
 REFUSED = {
     'elf-object': 'error while reading ELF file: Elf(Parse(Unsupported))',
@@ -83,6 +85,52 @@ def elf(data):
             ('flags', [name for bit, name in FLAGS if flags & bit]), ('spare_entries', spare), ('views_agree', True)]
 
 
+class Unreadable(Exception):
+    """The name of what a signature is refused for."""
+
+
+def big(data, at):
+    return struct.unpack_from('>I', data, at)[0]
+
+
+def directory(blob, data):
+    """What a code directory says: its flags, identifier and hash, and how many slots don't hold the hash of their page."""
+    name = blob[big(blob, 20):].partition(b'\0')[0].decode('utf-8', 'replace')
+    if blob[37] not in HASHES or HASHES[blob[37]][1] != blob[36]:
+        raise Unreadable('UnknownHash')
+    hash_name, size = HASHES[blob[37]]
+    first, count, limit, page = big(blob, 16), big(blob, 28), big(blob, 32), 1 << blob[39]
+    unfit = sum(hashlib.new(hash_name, data[i * page:min((i + 1) * page, limit)]).digest() != blob[first + i * size:first + (i + 1) * size]
+                for i in range(count))
+    return big(blob, 12), name, hash_name, unfit
+
+
+def signature(data, places):
+    """What is told of the signature at the one of these places."""
+    if len(places) > 1:
+        raise Unreadable('SeveralSignatures')
+    (start, size), = places
+    content = data[start:start + size]
+    blobs = [(big(content, at), big(content, at + 4)) for at in range(12, 12 + 8 * big(content, 8), 8)]
+    found = [directory(content[at:at + big(content, at + 4)], data) for kind, at in blobs if kind == 0 or 0x1000 <= kind <= 0x1004]
+    if all(kind for kind, _ in blobs):
+        raise Unreadable('NoDirectory')
+    by_identity = any(kind == 0x10000 and big(content, at) == 0xfade0b01 and big(content, at + 4) > 8 for kind, at in blobs)
+    flags, name = found[0][:2]
+    kind = 'by an identity' if by_identity else 'linker-signed ad hoc' if flags & 0x20000 else 'ad hoc'
+    unfit = sum(one[3] for one in found)
+    return [('signature', kind), ('identifier', name), ('hashes', [one[2] for one in found]), ('pages_fit', unfit == 0),
+            ('unfit_pages', unfit)]
+
+
+def signature_told(data, places):
+    """What is told of a signature, or of why it isn't read; nothing where there is none."""
+    try:
+        return signature(data, places) if places else []
+    except Unreadable as refusal:
+        return [('signature', 'unreadable'), ('refusal', str(refusal))]
+
+
 def macho(data):
     magic = data[:4].hex()
     order = '<' if magic in ('cefaedfe', 'cffaedfe') else '>'
@@ -90,24 +138,25 @@ def macho(data):
     cpu, subtype, kind, count, size = struct.unpack_from(order + 'IIIII', data, 4)
     at = 32 if wide else 28
     end, content = at + size, [len(data)]
-    names, signed = {'id': [], 'load': [], 'path': []}, False
+    names, places = {'id': [], 'load': [], 'path': []}, []
     for _ in range(count):
         cmd, length = struct.unpack_from(order + 'II', data, at)
         if cmd in LOADS or cmd in (0xd, 0x8000001c):
             start, = struct.unpack_from(order + 'I', data, at + 8)
             name = data[at + start:at + length].split(b'\0')[0].decode('utf-8', 'replace')
             names['id' if cmd == 0xd else 'path' if cmd == 0x8000001c else 'load'].append(name)
-        signed = signed or cmd == 0x1d
+        if cmd == 0x1d:
+            places.append(struct.unpack_from(order + 'II', data, at + 8))
         if cmd in (1, 0x19):
-            big = cmd == 0x19
-            numbers = struct.unpack_from(order + ('QQQQ' if big else 'IIII'), data, at + 24)
-            sections, = struct.unpack_from(order + 'I', data, at + (64 if big else 48))
+            large = cmd == 0x19
+            numbers = struct.unpack_from(order + ('QQQQ' if large else 'IIII'), data, at + 24)
+            sections, = struct.unpack_from(order + 'I', data, at + (64 if large else 48))
             if numbers[2] and numbers[3]:
                 content.append(numbers[2])
             for i in range(sections):
-                to = at + (72 + 80 * i if big else 56 + 68 * i)
-                length_of, offset = struct.unpack_from(order + ('QI' if big else 'II'), data, to + (40 if big else 36))
-                flags, = struct.unpack_from(order + 'I', data, to + (64 if big else 56))
+                to = at + (72 + 80 * i if large else 56 + 68 * i)
+                length_of, offset = struct.unpack_from(order + ('QI' if large else 'II'), data, to + (40 if large else 36))
+                flags, = struct.unpack_from(order + 'I', data, to + (64 if large else 56))
                 if offset and length_of and flags & 0xff not in (1, 0xc, 0x12):
                     content.append(offset)
         if cmd == 2:
@@ -116,7 +165,7 @@ def macho(data):
         at += length
     return [('cpu', CPUS.get(cpu, str(cpu))), ('cpu_subtype', subtype), ('file_type', FILE_TYPES.get(kind, str(kind))),
             ('class', 64 if wide else 32), ('byte_order', 'little' if order == '<' else 'big'), ('id', (names['id'] + [None])[0]),
-            ('libraries', names['load']), ('run_paths', names['path']), ('signed', signed),
+            ('libraries', names['load']), ('run_paths', names['path']), ('signed', places != []), *signature_told(data, places),
             ('header_pad', max(min(content) - end, 0))]
 
 

@@ -11,6 +11,7 @@ use Rattle.macho_image.specs.declared.format.Ctx.{Ctx}
 use Rattle.macho_edits.specs.State.{available_in, laid_bytes}
 use Rattle.arwen_macho.specs.FatState.{Slice}
 use Rattle.arwen_elf.specs.Prints.{lossily}
+use Rattle.arwen_cli_signatures.specs.SignatureFacts.{SignatureFacts, signature_facts, signature_model}
 use Rattle.arwen_cli_facts.specs.Texts.{text_model, texts_model}
 use Rattle.arwen_cli_facts.specs.declared.macho.MachoSummary.{MachoSummary}
 use Rattle.arwen_cli_facts.specs.declared.macho.SliceSummary.{SliceSummary}
@@ -25,6 +26,7 @@ pub record MachoFacts : Type 0 where
   pub libraries : List (List ℕ)
   pub run_paths : List (List ℕ)
   pub is_signed : Bool
+  pub signature : Option SignatureFacts
   pub header_pad : ℕ
 
 -- A slice of a fat file: where it stands, and the file in it.
@@ -45,6 +47,7 @@ macho_model s = record {
   libraries = texts_model s.libraries.items;
   run_paths = texts_model s.run_paths.items;
   is_signed = s.is_signed;
+  signature = option_map signature_model s.signature;
   header_pad = s.header_pad;
 }
 
@@ -72,6 +75,7 @@ macho_facts bytes = record {
   libraries = map lossily (libs_of bytes);
   run_paths = map lossily (rpaths_of bytes);
   is_signed = list_any (λ c. is_signature c.command) (load_commands_of bytes);
+  signature = signature_facts bytes;
   header_pad = header_pad_of bytes;
 }
 

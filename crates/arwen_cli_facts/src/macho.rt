@@ -7,6 +7,7 @@ ghost use Rattle.arwen_macho.specs.FatSlice.{slice_model};
 ghost use Rattle.arwen_cli_facts.specs.MachoFacts.{header_pad_of, is_signature as tells_signature, macho_facts, macho_model, slice_told, told_slice};
 
 use crate::text::{text_if, texts_of};
+use arwen_cli_signatures::{SignatureSummary, signature_summary};
 use arwen_macho::macho::{CommandVariant, Ctx, FatMacho, LoadCommand, MachO, SingleMachO};
 use macho_edits::room::{available, commands_end};
 use std::alloc::{AllocError, Global};
@@ -33,6 +34,8 @@ pub struct MachoSummary {
     pub run_paths: Vec<String>,
     /// Whether it has a code signature.
     pub is_signed: bool,
+    /// What its code signature says, or why that isn't read.
+    pub signature: Option<SignatureSummary>,
     /// How many bytes of load commands can be added: from where they end to where content begins.
     pub header_pad: u64,
 }
@@ -65,6 +68,7 @@ fn summary_of(alloc: Global, file: &MachO<'_>) -> Result<MachoSummary, AllocErro
     let id = text_if(alloc, file.id())?;
     let libraries = texts_of(alloc, file.libs(alloc)?.as_slice())?;
     let run_paths = texts_of(alloc, file.rpaths(alloc)?.as_slice())?;
+    let signature = signature_summary(alloc, file.bytes())?;
     let header = file.header();
     Ok(MachoSummary {
         cpu: header.cputype,
@@ -75,6 +79,7 @@ fn summary_of(alloc: Global, file: &MachO<'_>) -> Result<MachoSummary, AllocErro
         libraries,
         run_paths,
         is_signed: has_signature(file.load_commands()),
+        signature,
         header_pad: header_pad(file),
     })
 }

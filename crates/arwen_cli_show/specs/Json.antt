@@ -1,10 +1,13 @@
 -- What is told of a file as JSON: the keys of the lines, with values of their own types.
-use Rattle.std.specs.Prelude.{ℕ, ◌≡◌, List, Bool, true, Option, Some, None, codes, map, option_map, unwrap_or}
+use Rattle.std.specs.Prelude.{ℕ, ◌≡◌, ◌==◌, List, Bool, true, Option, Some, None, codes, map, option_map, unwrap_or}
 use Rattle.json.specs.Lex.{tokens}
 use Rattle.json.specs.Print.{print}
 use Rattle.serde_json.specs.Data.{Data, Members, array, boolean, no_members, null, number, object, put, string, unsigned}
 use Rattle.serde_json.specs.View.{items_of}
 use Rattle.serde_json.specs.Written.{IsInOrder}
+use Rattle.macho_signing.specs.declared.fault.SigningFault.{SigningFault}
+use Rattle.arwen_cli_signatures.specs.Names.{fault_name, hash_name, kind_name as signature_kind_name}
+use Rattle.arwen_cli_signatures.specs.SignatureFacts.{ContentsFacts, SignatureFacts, readable, refused}
 use Rattle.arwen_cli_facts.specs.ElfFacts.{ElfFacts, LibraryFacts}
 use Rattle.arwen_cli_facts.specs.FileFacts.{FileFacts, elf, fat, macho}
 use Rattle.arwen_cli_facts.specs.MachoFacts.{MachoFacts, SliceFacts}
@@ -72,13 +75,32 @@ with_macho_head f members =
     (put (codes "cpu_subtype") (number_data f.cpu_subtype)
     (put (codes "cpu") (string (name_or (cpu_name f.cpu) f.cpu)) members))))
 
+unfoldable pub with_contents : ContentsFacts → Members → Members
+with_contents f members =
+    put (codes "unfit_pages") (number_data f.unfit_pages)
+    (put (codes "pages_fit") (boolean (f.unfit_pages == 0))
+    (put (codes "hashes") (texts_data (map hash_name f.hashes))
+    (put (codes "identifier") (string f.identifier)
+    (put (codes "signature") (string (signature_kind_name f.kind)) members))))
+
+unfoldable pub with_refusal : SigningFault → Members → Members
+with_refusal fault members =
+    put (codes "refusal") (string (fault_name fault)) (put (codes "signature") (string (codes "unreadable")) members)
+
+-- no member where there is no signature
+abbrev pub with_signature : Option SignatureFacts → Members → Members
+with_signature None members = members
+with_signature (Some (readable f)) members = with_contents f members
+with_signature (Some (refused fault)) members = with_refusal fault members
+
 unfoldable pub with_macho_tail : MachoFacts → Members → Members
 with_macho_tail f members =
     put (codes "header_pad") (number_data f.header_pad)
+    (with_signature f.signature
     (put (codes "signed") (boolean f.is_signed)
     (put (codes "run_paths") (texts_data f.run_paths)
     (put (codes "libraries") (texts_data f.libraries)
-    (put (codes "id") (text_data_if f.id) members))))
+    (put (codes "id") (text_data_if f.id) members)))))
 
 unfoldable pub with_macho : MachoFacts → Members → Members
 with_macho f members = with_macho_tail f (with_macho_head f members)

@@ -1,6 +1,9 @@
 -- What is told of a file as lines for people: a key and a value each.
-use Rattle.std.specs.Prelude.{ℕ, ◌-◌, List, [], ◌∷◌, ◌++◌, length, Bool, true, false, Option, Some, None, codes, decimal, option_map, replicate, unwrap_or}
+use Rattle.std.specs.Prelude.{ℕ, ◌-◌, ◌==◌, List, [], ◌∷◌, ◌++◌, length, map, Bool, true, false, Option, Some, None, codes, decimal, option_map, replicate, unwrap_or}
 use Rattle.std.specs.List.{flat_map}
+use Rattle.macho_signing.specs.declared.fault.SigningFault.{SigningFault}
+use Rattle.arwen_cli_signatures.specs.Names.{fault_name, hash_name, kind_name as signature_kind_name}
+use Rattle.arwen_cli_signatures.specs.SignatureFacts.{ContentsFacts, SignatureFacts, readable, refused}
 use Rattle.arwen_cli_facts.specs.ElfFacts.{ElfFacts, LibraryFacts}
 use Rattle.arwen_cli_facts.specs.FileFacts.{FileFacts, elf, fat, macho}
 use Rattle.arwen_cli_facts.specs.MachoFacts.{MachoFacts, SliceFacts}
@@ -68,12 +71,31 @@ macho_head_lines f =
     ++ (line (codes "file_type") (name_or (file_type_name f.file_type) f.file_type)
     ++ (number_line (codes "class") (bits_of f.form.container) ++ line (codes "byte_order") (order_name f.form.le))))
 
+-- who made a signature, its identifier, the hash of each code directory, and whether all pages fit
+unfoldable pub contents_lines : ContentsFacts → List ℕ
+contents_lines f =
+    line (codes "signature") (signature_kind_name f.kind)
+    ++ (line (codes "identifier") f.identifier
+    ++ (lines (codes "hashes") (map hash_name f.hashes)
+    ++ (line (codes "pages_fit") (answer (f.unfit_pages == 0)) ++ number_line (codes "unfit_pages") f.unfit_pages)))
+
+-- why one isn't read
+unfoldable pub refusal_lines : SigningFault → List ℕ
+refusal_lines fault = line (codes "signature") (codes "unreadable") ++ line (codes "refusal") (fault_name fault)
+
+-- no line where there is no signature
+abbrev pub signature_lines : Option SignatureFacts → List ℕ
+signature_lines None = []
+signature_lines (Some (readable f)) = contents_lines f
+signature_lines (Some (refused fault)) = refusal_lines fault
+
 unfoldable pub macho_tail_lines : MachoFacts → List ℕ
 macho_tail_lines f =
     line_if (codes "id") f.id
     ++ (lines (codes "libraries") f.libraries
     ++ (lines (codes "run_paths") f.run_paths
-    ++ (line (codes "signed") (answer f.is_signed) ++ number_line (codes "header_pad") f.header_pad)))
+    ++ (line (codes "signed") (answer f.is_signed)
+    ++ (signature_lines f.signature ++ number_line (codes "header_pad") f.header_pad))))
 
 unfoldable pub macho_lines : MachoFacts → List ℕ
 macho_lines f = macho_head_lines f ++ macho_tail_lines f

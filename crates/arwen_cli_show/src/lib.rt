@@ -14,6 +14,8 @@ mod macho_lines;
 mod members;
 mod notes;
 pub mod show;
+mod signature_json;
+mod signature_lines;
 
 pub use crate::args::{Args, ArgsFault, HELP, parse_args};
 pub use crate::command::{ShowCommandError, execute, show_paths};

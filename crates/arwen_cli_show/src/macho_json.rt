@@ -7,6 +7,7 @@ ghost use Rattle.arwen_cli_facts.specs.MachoFacts.{macho_model, slice_told};
 ghost use Rattle.arwen_cli_facts.specs.Names.{cpu_name as cpu_told, file_type_name as file_type_told, name_or as name_or_told};
 
 use crate::members::{Members, put_answer, put_number, put_text, put_text_if, put_texts};
+use crate::signature_json::put_signature;
 use arwen_cli_facts::macho::{MachoSummary, SliceSummary};
 use arwen_cli_facts::names::{bits, cpu_name, file_type_name, name_or, order_name};
 use serde_json::{Map, Value, put};
@@ -69,6 +70,7 @@ fn put_tail(alloc: Global, members: &mut Members, s: &MachoSummary) -> Result<()
     put_texts(alloc, members, "libraries", s.libraries.as_slice())?;
     put_texts(alloc, members, "run_paths", s.run_paths.as_slice())?;
     put_answer(alloc, members, "signed", s.is_signed)?;
+    put_signature(alloc, members, &s.signature)?;
     put_number(alloc, members, "header_pad", s.header_pad)
 }
 

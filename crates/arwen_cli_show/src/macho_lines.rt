@@ -6,6 +6,7 @@ ghost use Rattle.arwen_cli_facts.specs.MachoFacts.{macho_model, slice_told};
 ghost use Rattle.arwen_cli_facts.specs.Names.{cpu_name as cpu_told, file_type_name as file_type_told, name_or as name_or_told};
 
 use crate::lines::{answer, put_line, put_line_if, put_lines, put_number};
+use crate::signature_lines::put_signature;
 use arwen_cli_facts::macho::{MachoSummary, SliceSummary};
 use arwen_cli_facts::names::{bits, cpu_name, file_type_name, name_or, order_name};
 use std::alloc::{AllocError, Global};
@@ -61,6 +62,7 @@ fn put_tail(alloc: Global, out: &mut String, s: &MachoSummary) -> Result<(), All
     put_lines(out, "libraries", s.libraries.as_slice())?;
     put_lines(out, "run_paths", s.run_paths.as_slice())?;
     put_line(out, "signed", answer(s.is_signed))?;
+    put_signature(alloc, out, &s.signature)?;
     put_number(alloc, out, "header_pad", s.header_pad)
 }
 
