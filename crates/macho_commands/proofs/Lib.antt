@@ -2,3 +2,4 @@ pub mod NotingLaws
 pub mod Outcomes
 pub mod StoreLaws
 pub mod SigningLaws
+pub mod FittingLaws

@@ -77,7 +77,7 @@ writes_on a calls file fronts are found same lead shows =
     record {
       inside = subst Inside same lead.inside;
       is = outcome_is a calls file lead.new are found lead.is ∙ ap (λ (l : List ℕ). bytes l) after;
-      shows = record { calls = calls; are = are; made = lead.new; step = lead.is; shows = subst Shown after step_shows };
+      shows = record { calls = calls; are = are; made = lead.new; step = lead.is; bytes = sym after; shows = subst Shown after step_shows };
     }
   where
     outcome_is : (a : Asked) (calls : List Call) (file : List ℕ) (new : MachoType) → AreAsked a calls → container_found file ≡ None → container_step calls (first_container file) ≡ Ok new → outcome_of a file ≡ bytes (container_bytes new)

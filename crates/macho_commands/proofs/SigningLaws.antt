@@ -1,5 +1,5 @@
 -- What signing makes of edits.
-use Rattle.std.proofs.Common.{◌≡◌, ◌≢◌, ◌≤◌, ◌<◌, ◌+◌, ◌∙◌, ℕ, List, [], ◌∷◌, length, None, ap, arith, refl, subst, sym}
+use Rattle.std.proofs.Common.{◌≡◌, ◌≢◌, ◌∙◌, ℕ, List, [], ◌∷◌, length, None, ap, arith, refl, subst, sym}
 use Rattle.std.specs.List.{All}
 use Rattle.macho_commands_signing.proofs.PieceLaws.{length-put_at}
 use Rattle.std.proofs.lemmas.List.Elements.{All-head, All-tail}
@@ -76,7 +76,7 @@ writes_signed Touched a file fronts new other writes by =
       inside = writes.inside;
       slots_inside = subst P (length-fronts_on fronts file writes.inside) by.inside;
       is = made_is (since file) (outcome_of a file) (fronts_on fronts file) new.slots.items writes.is by.passes by.is;
-      shows = record { edited = fronts_on fronts file; shows = writes.shows; signed = by.signed; same = by.same };
+      shows = record { edited = fronts_on fronts file; shows = writes.shows; passes = by.passes; signed = by.signed; same = by.same };
     }
 writes_signed Whole a file fronts new other writes by =
     let P : ℕ → Type 0 = λ n. All (SlotLies n) new.slots.items in
@@ -84,7 +84,7 @@ writes_signed Whole a file fronts new other writes by =
       inside = writes.inside;
       slots_inside = subst P (length-fronts_on fronts file writes.inside) by.inside;
       is = made_is all (outcome_of a file) (fronts_on fronts file) new.slots.items writes.is by.passes by.is;
-      shows = record { edited = fronts_on fronts file; shows = writes.shows; signed = by.signed; same = by.same };
+      shows = record { edited = fronts_on fronts file; shows = writes.shows; passes = by.passes; signed = by.signed; same = by.same };
     }
 
 -- edits without slots

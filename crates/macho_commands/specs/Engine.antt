@@ -184,20 +184,22 @@ abbrev pub refused_answer : Asked → MachoBatchError → MachoCommandError
 refused_answer (one call) e = answer_to e.fault
 refused_answer (several edits) e = answer_to_batch e
 
--- new bytes of a file: a parse accepts them and finds what the edits that are asked for make of it, in each
+-- new bytes of a file: those of what the edits that are asked for make of it; a parse accepts them and finds that, in each
 -- slice of a fat file
 pub record ShowsEdited (a : Asked) (file new : List ℕ) : Type 0 where
   pub calls : List Call
   pub are : AreAsked a calls
   pub made : MachoType
   pub step : container_step calls (first_container file) ≡ Ok made
+  pub bytes : new ≡ container_bytes made
   pub shows : ShowsFile made new
 
--- new bytes of a file: edited bytes, in which slots of ad-hoc signatures were made anew, and in which a parse finds what it finds
--- in the edited ones, the edited list of load commands of each slice among it
+-- new bytes of a file: edited bytes, whose signatures are read, and in which slots of the ad-hoc ones were made anew; a parse
+-- finds what it finds in the edited ones, the edited list of load commands of each slice among it
 pub record ShowsSigned (pages : Pages) (a : Asked) (file new : List ℕ) : Type 0 where
   pub edited : List ℕ
   pub shows : ShowsEdited a file edited
+  pub passes : signing_fault pages edited ≡ None
   pub signed : IsSigned pages edited new
   pub same : FileShowsSame edited new
 

@@ -2,6 +2,7 @@ pub mod Edits
 pub mod Engine
 pub mod Errors
 pub mod Failures
+pub mod Fitting
 pub mod Meaning
 pub mod Notes
 pub mod Refusing

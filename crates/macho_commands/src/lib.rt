@@ -7,6 +7,7 @@ mod commands;
 mod edits;
 mod engine;
 mod error;
+pub mod laws;
 mod noting;
 mod signing;
 mod tables;

@@ -1,1 +1,10 @@
 pub mod PieceLaws
+pub mod EditedSignature
+pub mod RenewedSignature
+pub mod StepSignature
+pub mod FitWords
+pub mod KeptSignature
+pub mod KeptParts
+pub mod ReadAgain
+pub mod ReadParts
+pub mod ForCallers

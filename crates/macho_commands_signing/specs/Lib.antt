@@ -1,3 +1,4 @@
+pub mod Kept
 pub mod Pieces
 pub mod Signed
 pub mod Verdicts

@@ -75,7 +75,7 @@ fn map_of(
 }
 
 /// Puts a copy of a pair into a map.
-fn put_pair(
+pub(crate) fn put_pair(
     alloc: Global,
     old: &[u8],
     new: &[u8],

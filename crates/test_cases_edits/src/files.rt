@@ -191,7 +191,11 @@ fn put_batch(batch: &ElfBatchError, out: &mut String) -> Result<(), AllocError> 
 }
 
 /// Puts down the line of a refused edit.
-fn put_refused(index: usize, fault: &ElfError, out: &mut String) -> Result<(), AllocError> {
+pub(crate) fn put_refused(
+    index: usize,
+    fault: &ElfError,
+    out: &mut String,
+) -> Result<(), AllocError> {
     match fault {
         ElfError::Memory => Err(AllocError),
         ElfError::Modify(cause) => put_cause(index, cause, out),

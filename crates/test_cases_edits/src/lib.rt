@@ -11,6 +11,7 @@
 //!   each of them in one batch, and `. WORD ..` each edit by its own call: printed are the edit that is refused, and
 //!   what the file shows then. `$ WORD ..` does the same as `!`, and prints the dynamic symbols too: each name, and behind a
 //!   colon the index of its version, with a `!` where it is hidden. `u` makes every DT_RPATH a DT_RUNPATH, `~ PREFIX .. > ANSWER ..` shrinks run paths.
+//!   `s CALL NAME ..` edits symbols or sections by a call of the writer, a pair being OLD=NEW, and prints their names too.
 //!
 //! Words are read by their marks. Nothing comes of other lines.
 #![tactic(auto)]
@@ -20,6 +21,7 @@ mod entries;
 mod files;
 mod lists;
 mod many;
+mod named;
 mod paths;
 mod shown;
 mod words;
@@ -41,7 +43,7 @@ struct Edits;
 
 impl Cases for Edits {
     fn is_on_files(&self, line: &str) -> bool {
-        matches!(split_kind(line).0, "=" | "!" | "$" | "." | "u" | "~")
+        matches!(split_kind(line).0, "=" | "!" | "$" | "." | "s" | "u" | "~")
     }
 
     fn answer_on_file(
@@ -56,6 +58,7 @@ impl Cases for Edits {
             "!" => files::edit(alloc, bytes, words, Way::Batch, out),
             "$" => files::edit(alloc, bytes, words, Way::BatchWithSymbols, out),
             "." => files::edit(alloc, bytes, words, Way::Calls, out),
+            "s" => named::edit(alloc, bytes, words, out),
             "u" => files::edit(alloc, bytes, words, Way::UseRunpath, out),
             "~" => files::edit(alloc, bytes, words, Way::Shrink, out),
             _ => shown::show_list(alloc, bytes, out),

@@ -1,5 +1,3 @@
-use Rattle.std.proofs.Common.{List, subst}
-use Rattle.std.specs.Prelude.{IfErr, IfOk}
 use Rattle.std.proofs.lemmas.Result.{err_from_is_err_and}
 use Rattle.macho_commands.proofs.engine.fronts_of.Goals as goal
 

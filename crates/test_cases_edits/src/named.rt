@@ -1,0 +1,131 @@
+//! Edits of symbols and sections by the calls of the writer.
+use crate::calls::put_pair;
+use crate::entries::put_text;
+use crate::files::put_refused;
+use crate::shown::{put_shown, put_symbols};
+use std::alloc::{AllocError, Global};
+use std::collections::{HashMap, HashSet};
+use test_cases_files::elf::{ElfContainer, ElfError, Writer};
+use test_cases_files::words::split_kind;
+
+/// Edits a file by the call that a line names, and puts down what it shows then, with the names of its symbols and sections.
+pub(crate) fn edit(
+    alloc: Global,
+    bytes: &[u8],
+    line: &str,
+    out: &mut String,
+) -> Result<(), AllocError> {
+    match ElfContainer::parse(alloc, bytes) {
+        Ok(mut file) => edit_file(alloc, &mut file, line, out),
+        Err(ElfError::Memory) => Err(AllocError),
+        Err(fault) => writeln!(out, "{fault}"),
+    }
+}
+
+/// The same of a file that was read.
+fn edit_file(
+    alloc: Global,
+    file: &mut ElfContainer<'_>,
+    line: &str,
+    out: &mut String,
+) -> Result<(), AllocError> {
+    if let Err(fault) = call_again(alloc, file, line) {
+        put_refused(0, &fault, out)?;
+    }
+    put_shown(alloc, file, out)?;
+    put_symbols(file, out)?;
+    put_names(file, out)
+}
+
+/// Makes the call that a line names, again where memory was refused.
+fn call_again(alloc: Global, file: &mut ElfContainer<'_>, line: &str) -> Result<(), ElfError> {
+    match call(alloc, &mut file.inner, line) {
+        Err(ElfError::Memory) => call(alloc, &mut file.inner, line),
+        answer => answer,
+    }
+}
+
+/// Makes the call that a line names, with what stands behind it.
+fn call(alloc: Global, writer: &mut Writer<'_>, line: &str) -> Result<(), ElfError> {
+    let (name, words) = split_kind(line);
+    match name {
+        "elf_rename_symbols" | "rename_symbols" | "rename_sections" => {
+            let names = pairs_in(alloc, words)?;
+            rename(alloc, writer, name, &names)
+        }
+        _ => {
+            let names = names_in(alloc, words)?;
+            delete(alloc, writer, name, &names)
+        }
+    }
+}
+
+/// Makes a call by which symbols or sections get other names.
+fn rename(
+    alloc: Global,
+    writer: &mut Writer<'_>,
+    call: &str,
+    names: &HashMap<Vec<u8>, Vec<u8>>,
+) -> Result<(), ElfError> {
+    match call {
+        "elf_rename_symbols" => writer.elf_rename_symbols(alloc, names),
+        "rename_symbols" => writer.rename_symbols(alloc, names),
+        _ => writer.rename_sections(alloc, names),
+    }
+}
+
+/// Makes a call by which they go.
+fn delete(
+    alloc: Global,
+    writer: &mut Writer<'_>,
+    call: &str,
+    names: &HashSet<Vec<u8>>,
+) -> Result<(), ElfError> {
+    match call {
+        "elf_delete_symbols" => writer.elf_delete_symbols(alloc, names),
+        "elf_delete_dynamic_symbols" => writer.elf_delete_dynamic_symbols(alloc, names),
+        "delete_symbols" => writer.delete_symbols(alloc, names),
+        _ => writer.delete_sections(alloc, names),
+    }
+}
+
+/// The pairs of an old and a new name that stand between blanks.
+fn pairs_in(alloc: Global, words: &str) -> Result<HashMap<Vec<u8>, Vec<u8>>, AllocError> {
+    let mut names = HashMap::new(alloc);
+    for word in words.split(' ') {
+        if let Some((old, new)) = word.split_once('=') {
+            put_pair(alloc, old.as_bytes(), new.as_bytes(), &mut names)?;
+        }
+    }
+    Ok(names)
+}
+
+/// The names that stand between blanks.
+fn names_in(alloc: Global, words: &str) -> Result<HashSet<Vec<u8>>, AllocError> {
+    let mut names = HashSet::new(alloc);
+    for word in words.split(' ') {
+        names.insert(Vec::from_slice(alloc, word.as_bytes())?)?;
+    }
+    Ok(names)
+}
+
+/// Puts down the names of a file's static symbols in a line, and those of its sections in another one.
+fn put_names(file: &ElfContainer<'_>, out: &mut String) -> Result<(), AllocError> {
+    let image = file.inner.builder();
+    let symbols = image.symbols();
+    out.push_str("static")?;
+    for i in 0..symbols.len() {
+        put_name(symbols.name(i), out)?;
+    }
+    out.push_str("\nsections")?;
+    for section in image.sections() {
+        put_name(section.name.as_slice(), out)?;
+    }
+    out.push('\n')
+}
+
+/// Puts down a name behind a blank.
+fn put_name(name: &[u8], out: &mut String) -> Result<(), AllocError> {
+    out.push(' ')?;
+    put_text(name, out)
+}
