@@ -4,6 +4,7 @@
 
 use arwen_cli::cli::{ArwenError, execute, fault_line};
 pub use arwen_cli::{cli, commands, elf, macho, patcher, utils};
+use arwen_cli_runners::{peer_of, run_line};
 use std::process::ExitCode;
 use std::rt::{Env, Files};
 use std::{env, io};
@@ -15,11 +16,23 @@ fn run<R: Env + Files + Print + Eprint + AllocGlobal>(rt: &R) -> Result<ExitCode
     for word in words.as_slice() {
         texts.push(word.as_str())?;
     }
-    Ok(answer(rt, texts.get(1..).unwrap_or_default()))
+    let Some((name, words)) = texts.as_slice().split_first() else {
+        return Ok(answer(rt, "", &[]));
+    };
+    Ok(answer(rt, *name, words))
 }
 
-/// Does what words ask, and answers the status to end with.
-fn answer<R: Files + Print + Eprint + AllocGlobal>(rt: &R, words: &[&str]) -> ExitCode {
+/// Does what words ask behind the name by which the program was called, and answers the status to end with. Lines of other
+/// tools are run as theirs.
+fn answer<R: Files + Print + Eprint + AllocGlobal>(rt: &R, name: &str, words: &[&str]) -> ExitCode {
+    match peer_of(name, words) {
+        Some((peer, behind)) => ExitCode::from(run_line(rt, peer, behind)),
+        None => own_answer(rt, words),
+    }
+}
+
+/// Does what words ask of this program itself, and answers the status to end with.
+fn own_answer<R: Files + Print + Eprint + AllocGlobal>(rt: &R, words: &[&str]) -> ExitCode {
     match execute(rt, words) {
         Ok(()) => ExitCode::SUCCESS,
         Err(error) => ended(report(rt, words, &error), &error),

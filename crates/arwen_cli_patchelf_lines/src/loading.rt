@@ -1,5 +1,6 @@
 //! Bytes of stores and files, whole.
-ghost use Rattle.std.specs.Prelude.{◌<◌, IfOk};
+ghost use Rattle.std.specs.Prelude.{◌-◌, ◌<◌, ◌≤◌, ◌^◌, IfErr, IfOk};
+ghost use Rattle.byte_store.specs.Causes.{IsNotWhole};
 ghost use Rattle.byte_store.specs.Known.{IsAll, Stays};
 
 use byte_store::{Opens, ReadError, Store, load_whole};
@@ -48,6 +49,9 @@ fn bytes_at<'p, O: Opens<'p>>(alloc: Global, files: &O, path: &'p str) -> Result
 pub fn load<S: Store>(alloc: Global, store: &mut S) -> Result<Vec<u8>, ReadError>
     ensures read { IfOk result (λ bytes. IsAll (S.contents store.old) bytes.items) }
     ensures kept { Stays (S.contents store.old) (S.contents store.new) }
+    ensures grows { S.failed store.old ≤ S.failed store.new }
+    ensures cause { IfErr result (IsNotWhole S.may_fail_read (2 ^ 64 - 2)
+        (S.contents store.old) (S.failed store.old) (S.failed store.new)) }
 {
     let most = most_of(store.length()?);
     load_whole(alloc, store, most)
@@ -55,7 +59,8 @@ pub fn load<S: Store>(alloc: Global, store: &mut S) -> Result<Vec<u8>, ReadError
 
 /// How many bytes are read of a store that says it has so many.
 fn most_of(told: u64) -> usize
-    ensures { result < usize.MAX }
+    ensures bound { result < usize.MAX }
+    ensures reach { told < usize.MAX → told ≤ result }
 {
     let told = usize::try_from(told).unwrap_or(usize::MAX);
     told.max(MOST_BYTES).min(usize::MAX - 1)

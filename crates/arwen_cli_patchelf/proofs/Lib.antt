@@ -1,0 +1,3 @@
+pub mod PatchLaws
+pub mod PrintLaws
+pub mod StepLaws

@@ -1,0 +1,4 @@
+pub mod Made
+pub mod Patched
+pub mod Printing
+pub mod Steps

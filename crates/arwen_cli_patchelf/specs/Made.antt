@@ -1,0 +1,74 @@
+-- What plans make of the bytes of a file, and why they make nothing.
+use Rattle.std.specs.Prelude.{ℕ, ◌≡◌, ◌⊎◌, List, [], ◌∷◌, map, Option, Some, None, option_map, string_bytes, ⊤}
+use Rattle.std.specs.declared.alloc.Global.{Global}
+use Rattle.std.specs.declared.string.String.{String}
+use Rattle.std.specs.declared.vec.Vec.{Vec}
+use Rattle.elf_edits.specs.Edit.{Answer, ShrinkRunPath}
+use Rattle.elf_commands.specs.ElfAsked.{ElfAsked, elf_asked, one}
+use Rattle.elf_commands.specs.ElfEngine.{LeavesElf, TellsEdit}
+use Rattle.elf_commands.specs.Meaning.{apply_elf}
+use Rattle.elf_commands.specs.ShrinkRuns.{AreFoundIn, TellsShrunk}
+use Rattle.elf_commands.specs.declared.error.ElfCommandError.{ElfCommandError}
+use Rattle.elf_commands.specs.declared.error.ElfCommandError.TheVariants.{Io, Memory}
+use Rattle.elf_commands_probe.specs.Shrinking.{Finding}
+use Rattle.arwen_cli_peers.specs.Options.{Text}
+use Rattle.arwen_cli_patchelf_lines.specs.Plans.{PlanMeant}
+
+-- the prefixes by which run paths shrink, where they do
+abbrev pub prefixes_meant : Option (Vec (String Global) Global) → Option (List Text)
+prefixes_meant shrinks = option_map (λ prefixes. map string_bytes prefixes.items) shrinks
+
+-- what the command `apply` asks for by these words, of whichever file
+abbrev pub words_ask : List Text → ElfAsked
+words_ask words = elf_asked (apply_elf [] words)
+
+-- ## The two steps
+
+-- bytes with run paths that shrank by answers that may be found; without this step they stay
+abbrev pub IsShrunkTo : Finding → Option (List Text) → List ℕ → List ℕ → Type 0
+IsShrunkTo finds None file new = new ≡ file
+IsShrunkTo finds (Some prefixes) file new =
+    (answers : List Answer) × AreFoundIn finds file answers × LeavesElf (one (ShrinkRunPath prefixes answers)) file new
+
+-- bytes that `apply` makes with these words; without words they stay
+abbrev pub IsAppliedTo : List Text → List ℕ → List ℕ → Type 0
+IsAppliedTo [] file new = new ≡ file
+IsAppliedTo (word ∷ words) file new = LeavesElf (words_ask (word ∷ words)) file new
+
+-- why they are not made
+abbrev pub TellsUnshrunk : Finding → Option (List Text) → List ℕ → ElfCommandError → Type 0
+TellsUnshrunk finds None file e = ⊥
+TellsUnshrunk finds (Some prefixes) file e = TellsShrunk finds prefixes file e
+
+abbrev pub TellsUnapplied : List Text → List ℕ → ElfCommandError → Type 0
+TellsUnapplied [] file e = ⊥
+TellsUnapplied (word ∷ words) file e = TellsEdit (words_ask (word ∷ words)) file e
+
+-- ## A plan
+
+-- it asks for nothing
+pub record AsksNothing (plan : PlanMeant) : Type 0 where
+  pub shrinks : plan.shrinks ≡ None
+  pub words : plan.words ≡ []
+
+-- What `apply` makes of what shrinking makes of the bytes of a file.
+pub record IsMadeOf (finds : Finding) (plan : PlanMeant) (file new : List ℕ) : Type 0 where
+  pub between : List ℕ
+  pub shrunk : IsShrunkTo finds plan.shrinks file between
+  pub applied : IsAppliedTo plan.words between new
+
+-- a step is refused: the first, of the bytes of the file, or the second, of what comes of the first
+pub record IsUnapplied (finds : Finding) (plan : PlanMeant) (file : List ℕ) (e : ElfCommandError) : Type 0 where
+  pub between : List ℕ
+  pub shrunk : IsShrunkTo finds plan.shrinks file between
+  pub refused : TellsUnapplied plan.words between e
+
+-- want of memory may be answered in any case
+abbrev pub TellsUnmade : Finding → PlanMeant → List ℕ → ElfCommandError → Type 0
+TellsUnmade finds plan file Memory = ⊤
+TellsUnmade finds plan file e = TellsUnshrunk finds plan.shrinks file e ⊎ IsUnapplied finds plan file e
+
+-- the error of a plan that is made in memory, where calls fail only for want of it
+abbrev pub answer_in_memory : ElfCommandError → ElfCommandError
+answer_in_memory (Io e) = Memory
+answer_in_memory e = e

@@ -1,0 +1,14 @@
+//! What lines of `patchelf` do to files: what they ask for is printed, and their plan is made of the bytes of stores and files.
+#![tactic(auto)]
+
+mod making;
+mod patching;
+mod printing;
+mod steps;
+mod unheard;
+mod writing;
+
+pub use crate::making::made_bytes;
+pub use crate::patching::{patch_path, patch_store};
+pub use crate::printing::{Print, print_path, prints_asked};
+pub use crate::writing::write_path;

@@ -1,0 +1,12 @@
+-- The line's options are those that are read of the words.
+use Rattle.std.proofs.Common.{List, map, subst}
+use Rattle.arwen_cli_install_names.specs.Editing.{IsNamed}
+use Rattle.arwen_cli_peers.specs.Options.{given_model}
+use Rattle.arwen_cli_peers.specs.declared.options.Given.{Given}
+use Rattle.arwen_cli_runners.proofs.EndLaws.{ok_more}
+use Rattle.arwen_cli_runners.proofs.name_lines.name_words.Goals as goal
+
+pub returns-in-Ok-clause-named : goal.returns-in-Ok-clause-named
+returns-in-Ok-clause-named g c =
+    let Named : List Given → Type 0 = λ given. IsNamed (map given_model given) c.args.path.now (g.S.Store.contents c.args.store.now) (g.S.Store.contents c.name_store.new.store) in
+    ok_more c.name_store.result _ _ (λ named. (c.in-Ok.line, c.in-Ok.ensures.reads, subst Named c.as_slice.ensures.value named)) c.name_store.ensures.named

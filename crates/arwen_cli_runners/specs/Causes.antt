@@ -1,0 +1,79 @@
+-- Why files aren't edited, in words.
+use Rattle.std.specs.Prelude.{ℕ, ◌≡◌, ◌++◌, List, [], Option, Some, None, codes, ⊤}
+use Rattle.byte_store.specs.Known.{IsAll}
+use Rattle.elf_commands.specs.Meaning.{apply_elf, elf_command_model}
+use Rattle.elf_commands.specs.declared.command.ElfCommand.{ElfCommand}
+use Rattle.elf_commands.specs.declared.error.ElfCommandError.{ElfCommandError}
+use Rattle.elf_commands.specs.declared.error.ElfCommandError.TheVariants as elf
+use Rattle.macho_commands.specs.declared.error.MachoCommandError.{MachoCommandError}
+use Rattle.macho_commands.specs.declared.error.MachoCommandError.TheVariants as macho
+use Rattle.arwen_cli_facts.specs.Reasons.{TellsWords, file_line, macho_words}
+use Rattle.arwen_cli_facts.specs.declared.refusal.Told.{Told}
+use Rattle.arwen_cli_install_names.specs.declared.editing.NamesError.{NamesError}
+use Rattle.arwen_cli_install_names.specs.declared.editing.NamesError.TheVariants.{Command, Unlike}
+use Rattle.arwen_cli_patchelf_lines.specs.Plans.{PlanMeant}
+use Rattle.arwen_cli_peers.specs.Options.{Text}
+
+-- ## Causes
+
+-- what stands before the causes of a fault of an ELF file
+abbrev pub elf_kind : ElfCommandError → Text
+elf_kind (elf.Elf e) = codes "error while patching ELF file: "
+elf_kind (elf.ElfBatch e) = codes "ELF batch refused: edit "
+elf_kind (elf.Io e) = codes "file error: "
+elf_kind (elf.Edits e) = codes "invalid edit list: "
+elf_kind elf.Memory = codes "out of memory"
+
+abbrev pub AreElfCauses : ElfCommandError → Text → Type 0
+AreElfCauses e causes = (inner : Text) × (causes ≡ elf_kind e ++ inner)
+
+-- the same of a Mach-O file
+abbrev pub macho_kind : MachoCommandError → Text
+macho_kind (macho.Macho e) = codes "error while patching Mach-O file: "
+macho_kind (macho.MachoBatch e) = codes "Mach-O batch refused: edit "
+macho_kind (macho.Io e) = codes "file error: "
+macho_kind (macho.Edits e) = codes "invalid edit list: "
+macho_kind (macho.Signing e) = codes "error in code signature: "
+macho_kind macho.Unfit = codes "some pages do not fit"
+macho_kind macho.Memory = codes "out of memory"
+
+abbrev pub names_kind : NamesError → Text
+names_kind (Command e) = macho_kind e
+names_kind Unlike = codes "its slices need unlike edits"
+
+abbrev pub AreNameCauses : NamesError → Text → Type 0
+AreNameCauses e causes = (inner : Text) × (causes ≡ names_kind e ++ inner)
+
+-- ## What they leave open
+
+-- what is told of known bytes: what the file is, or else the rule that it breaks. Nothing may be told
+abbrev pub TellsElfKnown : (List ℕ → Option (List ℕ)) → Option (List ℕ) → Option Told → Type 0
+TellsElfKnown words known None = ⊤
+TellsElfKnown words known (Some told) = (file : List ℕ) × IsAll known file × TellsWords (words file) file (Some told)
+
+abbrev pub TellsMachoFile : NamesError → List ℕ → Option Told → Type 0
+TellsMachoFile (Command (macho.Macho e)) file told = TellsWords (macho_words e file) file told
+TellsMachoFile e file told = ⊥
+
+abbrev pub TellsMachoKnown : NamesError → Option (List ℕ) → Option Told → Type 0
+TellsMachoKnown e known None = ⊤
+TellsMachoKnown e known (Some told) = (file : List ℕ) × IsAll known file × TellsMachoFile e file (Some told)
+
+-- the command that makes the words of a plan
+abbrev pub IsApplyCommand : PlanMeant → ElfCommand → Type 0
+IsApplyCommand plan command = elf_command_model command ≡ apply_elf [] plan.words
+
+-- ## Lines
+
+-- The line of a tool that tells why the file at a path isn't edited: the path, the causes, and perhaps a text in brackets.
+pub record IsLineOf (tool path : Text) (AreCauses : Text → Type 0) (line : Text) : Type 0 where
+  pub causes : Text
+  pub are : AreCauses causes
+  pub bracket : Option Text
+  pub is : line ≡ tool ++ file_line path causes bracket
+
+abbrev pub IsElfFaultLine : Text → ElfCommandError → Text → Type 0
+IsElfFaultLine path e line = IsLineOf (codes "patchelf: ") path (AreElfCauses e) line
+
+abbrev pub IsNamesFaultLine : Text → NamesError → Text → Type 0
+IsNamesFaultLine path e line = IsLineOf (codes "install_name_tool: ") path (AreNameCauses e) line

@@ -1,0 +1,6 @@
+pub mod Causes
+pub mod Endings
+pub mod NameRuns
+pub mod Peers
+pub mod Runs
+pub mod Texts

@@ -1,0 +1,56 @@
+-- What lines of patchelf do to their files, where these are known.
+use Rattle.std.specs.Prelude.{ℕ, ◌≡◌, ◌⊎◌, List, [], ◌∷◌, Option, Some, string_bytes}
+use Rattle.elf_commands.specs.declared.error.ElfCommandError.{ElfCommandError}
+use Rattle.elf_commands_probe.specs.Shrinking.{Finding}
+use Rattle.arwen_cli_peers.specs.Options.{Text}
+use Rattle.arwen_cli_patchelf.specs.Made.{IsMadeOf}
+use Rattle.arwen_cli_patchelf.specs.Patched.{TellsPlanPath}
+use Rattle.arwen_cli_patchelf.specs.Printing.{PrintsAll, TellsPrints, meant_all}
+use Rattle.arwen_cli_patchelf.specs.declared.printing.Print.{Print}
+use Rattle.arwen_cli_patchelf_lines.specs.Plans.{PlanMeant}
+use Rattle.arwen_cli_runners.specs.Causes.{IsElfFaultLine}
+use Rattle.arwen_cli_runners.specs.declared.ending.Ending.{Ending}
+use Rattle.arwen_cli_runners.specs.declared.ending.Ending.TheVariants.{Done, Failed, Told}
+
+-- a plan makes something of known bytes: none of its steps is refused
+abbrev pub CanBeMade : Finding → PlanMeant → Option (List ℕ) → Type 0
+CanBeMade finds plan known = (file : List ℕ) → known ≡ Some file → (made : List ℕ) × IsMadeOf finds plan file made
+
+-- All is done that a line asks of the file at a path: its prints are written, and nothing else, and its plan is made.
+pub record IsDone (finds : Finding) (prints : List Print) (plan : PlanMeant) (contents : Text → Option (List ℕ)) (path : Text) (old new : Option (List ℕ)) : Type 0 where
+  pub printed : PrintsAll (meant_all path prints) (contents path) old new
+  pub made : CanBeMade finds plan (contents path)
+
+-- of each of these files, one behind the other
+abbrev pub AreDone : Finding → List Print → PlanMeant → (Text → Option (List ℕ)) → List Text → Option (List ℕ) → Option (List ℕ) → Type 0
+AreDone finds prints plan contents [] old new = new ≡ old
+AreDone finds prints plan contents (path ∷ rest) old new =
+    (mid : Option (List ℕ)) × IsDone finds prints plan contents path old mid × AreDone finds prints plan contents rest mid new
+
+-- not all is done: a print fails, or, once all is printed, the plan is refused or not written
+abbrev pub Stops : {W : Type 0} → (W → Option (List ℕ)) → (W → ℕ) → Finding → List Print → PlanMeant → (Text → Option (List ℕ)) → Text → W → W → ElfCommandError → Type 0
+Stops written failed finds prints plan contents path old new e =
+    TellsPrints written failed (meant_all path prints) (contents path) old new e
+    ⊎ (PrintsAll (meant_all path prints) (contents path) (written old) (written new) × TellsPlanPath finds plan (contents path) e)
+
+-- of one of these files, which is at this path, once all is done of those before it
+abbrev pub StopsAt : {W : Type 0} → (W → Option (List ℕ)) → (W → ℕ) → Finding → List Print → PlanMeant → (Text → Option (List ℕ)) → List Text → W → W → Text → ElfCommandError → Type 0
+StopsAt written failed finds prints plan contents [] old new at e = ⊥
+StopsAt {W} written failed finds prints plan contents (path ∷ rest) old new at e =
+    ((at ≡ path) × Stops written failed finds prints plan contents path old new e)
+    ⊎ ((mid : W) × IsDone finds prints plan contents path (written old) (written mid)
+    × StopsAt written failed finds prints plan contents rest mid new at e)
+
+-- a line ends with one that tells the fault of the file at a path
+abbrev pub IsFaultEnding : Text → ElfCommandError → Ending → Type 0
+IsFaultEnding path e (Failed line) = IsElfFaultLine path e (string_bytes line)
+IsFaultEnding path e Done = ⊥
+IsFaultEnding path e (Told text) = ⊥
+
+-- how a line ends: all is done of all its files, or a line tells the first of which not all is done
+abbrev pub EndsFiles : {W : Type 0} → (W → Option (List ℕ)) → (W → ℕ) → Finding → List Print → PlanMeant → (Text → Option (List ℕ)) → List Text → W → W → Ending → Type 0
+EndsFiles written failed finds prints plan contents paths old new Done = AreDone finds prints plan contents paths (written old) (written new)
+EndsFiles written failed finds prints plan contents paths old new (Failed line) =
+    (path : Text) × (e : ElfCommandError) × StopsAt written failed finds prints plan contents paths old new path e
+    × IsElfFaultLine path e (string_bytes line)
+EndsFiles written failed finds prints plan contents paths old new (Told text) = ⊥

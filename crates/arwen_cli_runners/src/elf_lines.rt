@@ -1,0 +1,117 @@
+//! Lines of patchelf, run.
+ghost use Rattle.std.specs.Prelude.{IfErr, IfOk, OnOk, map, string_bytes};
+ghost use Rattle.arwen_cli_patchelf.specs.Patched.{TellsPlanPath};
+ghost use Rattle.arwen_cli_patchelf_lines.specs.Plans.{plan_model};
+ghost use Rattle.arwen_cli_runners.specs.Runs.{CanBeMade, EndsFiles, IsDone, IsFaultEnding, Stops};
+
+use crate::causes::elf_fault_line;
+use crate::ending::Ending;
+use arwen_cli_patchelf::{Print, patch_path, print_path, write_path};
+use arwen_cli_patchelf_lines::Plan;
+use arwen_elf::CountedWrite;
+use byte_store::{Creates, Opens};
+use elf_commands::ElfCommandError;
+use elf_commands_probe::Probe;
+use std::alloc::{AllocError, Global};
+
+/// Does what a line asks of the files at these paths, in order, and answers how it ends. Of each it prints first what is
+/// asked for, and then makes the plan: in place, or at the path of the output. The first of which not all is done ends it,
+/// with a line that names it and the causes. Error: `AllocError`, where there was no memory for that line.
+pub fn files_ending<'p, F: Opens<'p> + Creates<'p>, P: Probe, W: CountedWrite>(
+    alloc: Global,
+    files: &F,
+    paths: &'p [String],
+    prints: &[Print],
+    plan: &Plan,
+    output: Option<&'p str>,
+    probe: &P,
+    out: &mut W,
+) -> Result<Ending, AllocError>
+    ensures { IfOk result (EndsFiles W.contents W.failed (P.may_find probe.now) prints.now
+        (plan_model plan.now) (F.contents files.now) (map string_bytes paths.now)
+        out.old out.new) }
+{
+    for path in paths {
+        let path = path.as_str();
+        match run_file(alloc, files, path, prints, plan, output, probe, out) {
+            Ok(()) => {}
+            Err(error) => return fault_ending(alloc, files, plan, path, error),
+        }
+    }
+    Ok(Ending::Done)
+}
+
+/// How a line ends by the fault of the file at a path.
+fn fault_ending<'p, O: Opens<'p>>(
+    alloc: Global,
+    files: &O,
+    plan: &Plan,
+    path: &'p str,
+    error: ElfCommandError,
+) -> Result<Ending, AllocError>
+    ensures { IfOk result (IsFaultEnding path.now error) }
+{
+    let text = elf_fault_line(alloc, files, plan, path, &error);
+    drop(error);
+    Ok(Ending::Failed(text?))
+}
+
+/// Does what a line asks of the file at a path.
+fn run_file<'p, F: Opens<'p> + Creates<'p>, P: Probe, W: CountedWrite>(
+    alloc: Global,
+    files: &F,
+    path: &'p str,
+    prints: &[Print],
+    plan: &Plan,
+    output: Option<&'p str>,
+    probe: &P,
+    out: &mut W,
+) -> Result<(), ElfCommandError>
+    ensures done { OnOk result (IsDone (P.may_find probe.now) prints.now (plan_model plan.now)
+        (F.contents files.now) path.now (W.contents out.old) (W.contents out.new)) }
+    ensures stopped { IfErr result (Stops W.contents W.failed (P.may_find probe.now) prints.now
+        (plan_model plan.now) (F.contents files.now) path.now out.old out.new) }
+{
+    print_path(alloc, files, path, prints, out)?;
+    match output {
+        Some(output) => write_file(alloc, files, path, output, plan, probe),
+        None => edit_file(alloc, files, path, plan, probe),
+    }
+}
+
+/// Writes the bytes of a file, with its plan made, to the path of the output.
+fn write_file<'p, F: Opens<'p> + Creates<'p>, P: Probe>(
+    alloc: Global,
+    files: &F,
+    path: &'p str,
+    output: &'p str,
+    plan: &Plan,
+    probe: &P,
+) -> Result<(), ElfCommandError>
+    ensures made { OnOk result (CanBeMade (P.may_find probe.now) (plan_model plan.now)
+        (F.contents files.now path.now)) }
+    ensures tells { IfErr result (TellsPlanPath (P.may_find probe.now) (plan_model plan.now)
+        (F.contents files.now path.now)) }
+{
+    write_path(alloc, files, path, output, plan, probe)?;
+    Ok(())
+}
+
+/// Makes a plan in the file at a path. One that asks for nothing opens it for reading all the same.
+fn edit_file<'p, O: Opens<'p>, P: Probe>(
+    alloc: Global,
+    files: &O,
+    path: &'p str,
+    plan: &Plan,
+    probe: &P,
+) -> Result<(), ElfCommandError>
+    ensures made { OnOk result (CanBeMade (P.may_find probe.now) (plan_model plan.now)
+        (O.contents files.now path.now)) }
+    ensures tells { IfErr result (TellsPlanPath (P.may_find probe.now) (plan_model plan.now)
+        (O.contents files.now path.now)) }
+{
+    if patch_path(alloc, files, path, plan, probe)?.is_none() {
+        files.open(path)?;
+    }
+    Ok(())
+}
