@@ -98,6 +98,7 @@ small_image = record {
   symbol_numbers = [];
   dynamic_symbol_numbers = [];
   page_size = None;
+  moves_dynamic = false;
 }
 
 abbrev pub with_entries : List Entry → Image

@@ -102,6 +102,7 @@ image_by p sections symbols dynamic_symbols entries definitions needs = record {
   symbol_numbers = counted (length symbols);
   dynamic_symbol_numbers = counted (length dynamic_symbols);
   page_size = None;
+  moves_dynamic = false;
 }
 
 module _ (p : Parts) where

@@ -50,6 +50,8 @@ pub record Image : Type 0 where
   pub symbol_numbers : List ℕ
   pub dynamic_symbol_numbers : List ℕ
   pub page_size : Option ℕ
+  -- leave was given that the dynamic section moves
+  pub moves_dynamic : Bool
 
 -- ## What it is read from
 
@@ -164,6 +166,7 @@ image_in p = do
     symbol_numbers = counted (length symbols);
     dynamic_symbol_numbers = counted (length dynamic_symbols);
     page_size = None;
+    moves_dynamic = false;
   })
 
 -- What reading a file answers: its image, or the fault of the first read rule that it breaks.

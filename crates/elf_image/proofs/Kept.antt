@@ -107,6 +107,40 @@ with_interpreter image bytes h there no_nul = record {
   };
 }
 
+-- leave that the dynamic section moves
+pub with_dynamic_move : (image : Image) → IsEdited image → IsEdited (record image { changed = true; moves_dynamic = true })
+with_dynamic_move image h = record {
+  read = h.read;
+  is_read = h.is_read;
+  is_edit = record {
+    form = h.is_edit.form;
+    header = h.is_edit.header;
+    segments = h.is_edit.segments;
+    sections = h.is_edit.sections;
+    symbols = h.is_edit.symbols;
+    dynamic_symbols = h.is_edit.dynamic_symbols;
+    definitions = h.is_edit.definitions;
+    needs = h.is_edit.needs;
+    entries = h.is_edit.entries;
+    interpreter = h.is_edit.interpreter;
+    complete = record {
+      lasting = h.is_edit.complete.lasting;
+      linked = h.is_edit.complete.linked;
+      first_dynamic = h.is_edit.complete.first_dynamic;
+      first_static = h.is_edit.complete.first_static;
+      no_static = h.is_edit.complete.no_static;
+      dynamic_sections = h.is_edit.complete.dynamic_sections;
+      static_sections = h.is_edit.complete.static_sections;
+      dynamic_relocated = h.is_edit.complete.dynamic_relocated;
+      static_relocated = h.is_edit.complete.static_relocated;
+      tables = h.is_edit.complete.tables;
+      interpreter = h.is_edit.complete.interpreter;
+      interpreter_section = h.is_edit.complete.interpreter_section;
+    };
+    unchanged = λ e. absurd (true≢false e);
+  };
+}
+
 -- another ABI
 pub with_os_abi : (image : Image) (byte : ℕ) → IsEdited image → IsEdited (record image { changed = true; header = record image.header { os_abi = byte } })
 with_os_abi image byte h = record {

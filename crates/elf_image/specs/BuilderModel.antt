@@ -26,6 +26,7 @@ image_model b = record {
   symbol_numbers = b.lists.symbols.numbers;
   dynamic_symbol_numbers = b.lists.dynamic_symbols.numbers;
   page_size = b.page_size;
+  moves_dynamic = b.moves_dynamic;
 }
 
 -- what a builder holds is an image that was read, and edited; its symbols are edited ones of those that were read

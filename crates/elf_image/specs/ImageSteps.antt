@@ -71,6 +71,7 @@ image_with p n l = record {
   symbol_numbers = counted (length n.symbols);
   dynamic_symbol_numbers = counted (length n.dynamic_symbols);
   page_size = None;
+  moves_dynamic = false;
 }
 
 -- the same for parts as they are kept
@@ -108,6 +109,7 @@ image_gathered p g = record {
   symbol_numbers = counted (length g.named.lists.symbols);
   dynamic_symbol_numbers = counted (length g.named.lists.dynamic_symbols);
   page_size = None;
+  moves_dynamic = false;
 }
 
 -- the image, seen by view, and that the last rules hold; or that a text isn't there, or the first fault of those rules

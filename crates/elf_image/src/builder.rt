@@ -35,6 +35,7 @@ pub struct Builder<'data> {
     // The number at read of the section that stands now at each position.
     pub(crate) section_numbers: Vec<usize>,
     pub(crate) page_size: Option<u32>,
+    pub(crate) moves_dynamic: bool,
 }
 
 impl<'data> Model for Builder<'data> {
@@ -153,6 +154,13 @@ impl<'data> Builder<'data> {
         ensures { result ≡ self.now.page_size }
     {
         self.page_size
+    }
+
+    /// Whether leave was given that the dynamic section moves. Takes no memory.
+    pub fn may_dynamic_move(&self) -> bool
+        ensures { result ≡ self.now.moves_dynamic }
+    {
+        self.moves_dynamic
     }
 
     /// Whether something was edited. Takes no memory.

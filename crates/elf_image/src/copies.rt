@@ -40,6 +40,7 @@ impl<'data> Builder<'data> {
             interpreter: texts.interpreter,
             section_numbers: tables.section_numbers,
             page_size: self.page_size,
+            moves_dynamic: self.moves_dynamic,
         })
     }
 }

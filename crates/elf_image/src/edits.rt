@@ -136,6 +136,19 @@ impl<'data> Builder<'data> {
         self.changed = true;
     }
 
+    /// Gives leave that the dynamic section moves where it has grown into what follows it. It then stands in a loaded segment
+    /// that is added and that may be written, and PT_DYNAMIC follows it (gABI, Dynamic Section). Where it stood its bytes stay,
+    /// since some programs find it there by `_DYNAMIC`. Takes no memory.
+    pub fn allow_dynamic_move(&mut self)
+        ensures { self.new ≡ record self.old {
+          changed = true;
+          moves_dynamic = true;
+        } }
+    {
+        self.moves_dynamic = true;
+        self.changed = true;
+    }
+
     /// The first PT_GNU_STACK, whose flags say whether the stack may be run (GNU extension). Takes no memory.
     pub fn stack(&self) -> Option<&Segment<'data>>
         ensures { option_map (λ p. segment_model p.now) result

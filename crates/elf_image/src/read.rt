@@ -362,6 +362,7 @@ fn builder<'data>(
         interpreter: gathered.interpreter,
         section_numbers: gathered.section_numbers,
         page_size: None,
+        moves_dynamic: false,
     }
 }
 

@@ -58,6 +58,7 @@ image_with numbers sections symbols = record {
   symbol_numbers = 0 ∷ 1 ∷ 2 ∷ [];
   dynamic_symbol_numbers = 0 ∷ 1 ∷ 2 ∷ [];
   page_size = None;
+  moves_dynamic = false;
 }
 
 -- ## Hash tables

@@ -1,7 +1,7 @@
 -- How the blocks of an image are found: what the steps hand to each other.
 use Rattle.std.specs.Prelude.{ℕ, ◌+◌, ◌-◌, ◌≡◌, List, [], ◌∷◌, length, map, filter, drop, Bool, false, Option, Some, ◌==◌, ◌&&◌, ◌||◌, if◌then◌else◌, slice_index}
 use Rattle.std.specs.Option.{option_map}
-use Rattle.elf_format.specs.declared.constants.TheConstants.{SHT_DYNSYM, SHT_GNU_HASH, SHT_GNU_VERDEF, SHT_GNU_VERNEED, SHT_GNU_VERSYM, SHT_HASH, SHT_NOTE, SHT_STRTAB}
+use Rattle.elf_format.specs.declared.constants.TheConstants.{SHT_DYNAMIC, SHT_DYNSYM, SHT_GNU_HASH, SHT_GNU_VERDEF, SHT_GNU_VERNEED, SHT_GNU_VERSYM, SHT_HASH, SHT_NOTE, SHT_STRTAB}
 use Rattle.elf_format.specs.Image.{Image, ImageSection}
 use Rattle.elf_format.specs.Options.{is_one_of, is_some_and}
 use Rattle.elf_format.specs.declared.records.SegmentHeader.{SegmentHeader}
@@ -33,18 +33,20 @@ is_section_stray image s size = is_stray (record { read = image; image = image; 
 abbrev pub is_movable_type : ℕ → Bool
 is_movable_type type = is_one_of (SHT_NOTE ∷ SHT_DYNSYM ∷ SHT_HASH ∷ SHT_GNU_HASH ∷ SHT_GNU_VERSYM ∷ SHT_GNU_VERDEF ∷ SHT_GNU_VERNEED ∷ []) type
 
--- how readily a section moves that had a number at read, by the numbers of the interpreter's and of the dynamic strings
-abbrev pub priority_with : Option ℕ → Option ℕ → ImageSection → ℕ → ℕ
-priority_with interpreter strings s number =
+-- how readily a section moves that had a number at read, by the numbers of the interpreter's and of the dynamic strings, and by the
+-- leave that the dynamic section has
+abbrev pub priority_with : Option ℕ → Option ℕ → Bool → ImageSection → ℕ → ℕ
+priority_with interpreter strings leave s number =
     if is_some_and (λ n. n == number) interpreter then 1
-    else if is_movable_type s.sh_type || s.sh_type == SHT_STRTAB && is_some_and (λ n. n == number) strings then 2 else 0
+    else if is_movable_type s.sh_type || s.sh_type == SHT_STRTAB && is_some_and (λ n. n == number) strings
+        || s.sh_type == SHT_DYNAMIC && leave then 2 else 0
 
 -- the block of the section at a position
 abbrev pub made_block : Resized → Option ℕ → Option ℕ → ℕ → ImageSection → Block
 made_block r interpreter strings position s = record {
   start = s.sh_addr;
   size = slice_index r.sizes position;
-  priority = priority_with interpreter strings s (slice_index r.image.section_numbers position);
+  priority = priority_with interpreter strings r.image.moves_dynamic s (slice_index r.image.section_numbers position);
   section = Some position;
   is_stray = is_section_stray r.image s (slice_index r.sizes position);
   is_load_start = false;

@@ -278,19 +278,21 @@ fn is_table(kind: u32) -> bool
     .any(|other| *other == kind)
 }
 
-// How readily a section moves that had this number at read.
+// How readily a section moves that had this number at read; the dynamic section does where it has leave.
 fn priority_at(
     section: &Section<'_>,
     number: usize,
     interpreter: Option<usize>,
     strings: Option<usize>,
+    leave: bool,
 ) -> u8
-    ensures { result ≡ priority_with interpreter strings (section_model section.now) number }
+    ensures { result ≡ priority_with interpreter strings leave (section_model section.now) number }
 {
     if is_numbered(interpreter, number) {
         1
     } else if is_table(section.sh_type)
         || section.sh_type == SHT_STRTAB && is_numbered(strings, number)
+        || section.sh_type == SHT_DYNAMIC && leave
     {
         2
     } else {
@@ -316,7 +318,7 @@ fn block_at(
     MemoryBlock {
         start: u128::from(section.sh_addr),
         size: u128::from(size),
-        priority: priority_at(section, number, interpreter, strings),
+        priority: priority_at(section, number, interpreter, strings, r.image.may_dynamic_move()),
         section: Some(position),
         is_stray: is_stray_at(r.image, section, size),
         is_load_start: false,

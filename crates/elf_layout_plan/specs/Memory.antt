@@ -1,7 +1,7 @@
 -- What takes memory of an image: its headers, the ends of its loaded segments, its sections.
 use Rattle.std.specs.Prelude.{ℕ, ◌+◌, ◌-◌, ◌*◌, List, [], ◌∷◌, ◌++◌, length, map, Bool, true, false, ◌&&◌, ◌||◌, not, Option, Some, None, filter, find, nat_lt, ◌==◌, if◌then◌else◌}
 use Rattle.std.specs.List.{flat_map, list_any}
-use Rattle.elf_format.specs.declared.constants.TheConstants.{SHF_TLS, SHT_DYNSYM, SHT_GNU_HASH, SHT_GNU_VERDEF, SHT_GNU_VERNEED, SHT_GNU_VERSYM, SHT_HASH, SHT_NOBITS, SHT_NOTE, SHT_NULL, SHT_STRTAB}
+use Rattle.elf_format.specs.declared.constants.TheConstants.{SHF_TLS, SHT_DYNAMIC, SHT_DYNSYM, SHT_GNU_HASH, SHT_GNU_VERDEF, SHT_GNU_VERNEED, SHT_GNU_VERSYM, SHT_HASH, SHT_NOBITS, SHT_NOTE, SHT_NULL, SHT_STRTAB}
 use Rattle.elf_format.specs.File.{loads_of}
 use Rattle.elf_format.specs.Image.{Image, ImageSection}
 use Rattle.elf_format.specs.Options.{is_one_of, list_at}
@@ -85,13 +85,14 @@ is_uninitialized_of_threads s = s.sh_type == SHT_NOBITS && is_set SHF_TLS s.sh_f
 abbrev pub takes_memory : ImageSection → Bool
 takes_memory s = occupies_memory (place_at_read s) && not (s.sh_type == SHT_NULL) && not (is_uninitialized_of_threads s)
 
--- nothing but tags and headers points to what is in it, so it may stand elsewhere
+-- nothing but tags and headers points to what is in it, so it may stand elsewhere; the dynamic section may where leave was given
 abbrev pub is_movable : Image → KeptSection → Bool
 is_movable image s =
     is_one_of (SHT_NOTE ∷ SHT_DYNSYM ∷ SHT_HASH ∷ SHT_GNU_HASH ∷ SHT_GNU_VERSYM ∷ SHT_GNU_VERDEF ∷ SHT_GNU_VERNEED ∷ []) s.section.sh_type
     || s.section.sh_type == SHT_STRTAB && is_numbered (dynamic_strings_number image) s
+    || s.section.sh_type == SHT_DYNAMIC && image.moves_dynamic
 
--- how readily a section moves: tables and notes first, then the interpreter, nothing else
+-- how readily a section moves: tables and notes first, with the dynamic section where it may, then the interpreter, nothing else
 abbrev pub priority_of : Resized → KeptSection → ℕ
 priority_of r s = if is_numbered (interpreter_number r.read) s then 1 else if is_movable r.image s then 2 else 0
 

@@ -65,6 +65,7 @@ image_of_parts size e_shoff e_shstrndx segments sections entries interpreter = r
   symbol_numbers = [];
   dynamic_symbol_numbers = [];
   page_size = None;
+  moves_dynamic = false;
 }
 
 -- an edited image with its new sizes

@@ -68,6 +68,7 @@ small_image = record {
   symbol_numbers = [];
   dynamic_symbol_numbers = [];
   page_size = None;
+  moves_dynamic = false;
 }
 
 -- an edit leaves the image as it was, the mark too

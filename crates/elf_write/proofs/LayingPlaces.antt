@@ -20,10 +20,10 @@ use Rattle.elf_image.specs.declared.section.Section.{Section}
 use Rattle.elf_image.specs.Kept.{KeptSection, image_at_read, interpreter_number, kept_sections, place_at_read}
 use Rattle.elf_layout_plan.specs.Memory.{Resized}
 use Rattle.elf_layout_plan.specs.Plan.{resized}
-use Rattle.elf_write_spec.specs.Base.{base, base_byte, is_rewritten, old_places, values_from}
+use Rattle.elf_write_spec.specs.Base.{base, base_byte, leaves_place, old_places, values_from}
 use Rattle.elf_write_spec.proofs.ForCallers.Laying.{length-values, value-at}
 use Rattle.elf_write_spec.specs.Ready.{IsEditedReady}
-use Rattle.elf_write.specs.LayingSteps.{IsCleared, TakesFrom, is_in_load, is_in_range, is_rewritten_at, rewritten_places}
+use Rattle.elf_write.specs.LayingSteps.{IsCleared, TakesFrom, is_in_load, is_in_range, leaves_place_at, rewritten_places}
 use Rattle.elf_write_spec.proofs.ForCallers.WholeEdits.{ReadFacts, read_facts}
 use Rattle.elf_write_strings.proofs.ForCallers.ReadTables.{ready_edit}
 use Rattle.elf_format.proofs.ForCallers.Lengths.{length-segments}
@@ -85,17 +85,17 @@ rewritten-more : (r : Resized) (ks : List KeptSection) (i : ℕ) (s : KeptSectio
     → rewritten_places r (take (i + 1) ks) ≡ rewritten_places r (take i ks) ++ rewritten_places r (s ∷ [])
 rewritten-more r ks i s here at =
     ap (rewritten_places r) (take_more ks i s here ∙ ap (λ (x : KeptSection). take i ks ++ x ∷ []) at)
-    ∙ ap (map (λ (x : KeptSection). file_range (place_at_read x.section))) (filter-append (is_rewritten r.read) (take i ks) (s ∷ []))
-    ∙ map-append (λ (x : KeptSection). file_range (place_at_read x.section)) (filter (is_rewritten r.read) (take i ks))
-    (filter (is_rewritten r.read) (s ∷ []))
+    ∙ ap (map (λ (x : KeptSection). file_range (place_at_read x.section))) (filter-append (leaves_place r.read r.image) (take i ks) (s ∷ []))
+    ∙ map-append (λ (x : KeptSection). file_range (place_at_read x.section)) (filter (leaves_place r.read r.image) (take i ks))
+    (filter (leaves_place r.read r.image) (s ∷ []))
 
 -- what one section brings
 one-place : (r : Resized) (interpreter : Option ℕ) (s : KeptSection) (b : Bool) → interpreter ≡ interpreter_number r.read
-    → b ≡ is_rewritten_at interpreter s.number s.section
+    → b ≡ leaves_place_at interpreter r.image.moves_dynamic s.number s.section
     → rewritten_places r (s ∷ []) ≡ (if b then file_range (place_at_read s.section) ∷ [] else [])
-one-place r interpreter s b same is = by_test b (is ∙ ap (λ (o : Option ℕ). is_rewritten_at o s.number s.section) same)
+one-place r interpreter s b same is = by_test b (is ∙ ap (λ (o : Option ℕ). leaves_place_at o r.image.moves_dynamic s.number s.section) same)
   where
-    by_test : (b : Bool) → b ≡ is_rewritten r.read s
+    by_test : (b : Bool) → b ≡ leaves_place r.read r.image s
         → rewritten_places r (s ∷ []) ≡ (if b then file_range (place_at_read s.section) ∷ [] else [])
     by_test true e = ap (λ (t : Bool). map (λ (x : KeptSection). file_range (place_at_read x.section)) (if t then s ∷ [] else [])) (sym e)
     by_test false e = ap (λ (t : Bool). map (λ (x : KeptSection). file_range (place_at_read x.section)) (if t then s ∷ [] else [])) (sym e)
@@ -104,7 +104,7 @@ one-place r interpreter s b same is = by_test b (is ∙ ap (λ (o : Option ℕ).
 pub places-more : (image : Image) (interpreter : Option ℕ) (start made : List Range) (sections : List Section) (i number : ℕ)
     (x : Section) (b : Bool) → interpreter ≡ interpreter_number (image_at_read image) → IsEdited image
     → map section_model sections ≡ image.sections → i < length sections → x ≡ get_or sections i x
-    → number ≡ slice_index image.section_numbers i → b ≡ is_rewritten_at interpreter number (section_model x)
+    → number ≡ slice_index image.section_numbers i → b ≡ leaves_place_at interpreter image.moves_dynamic number (section_model x)
     → made ≡ start ++ rewritten_places (resized image) (take i (kept_sections image))
     → made ++ (if b then file_range (place_at_read (section_model x)) ∷ [] else [])
     ≡ start ++ rewritten_places (resized image) (take (i + 1) (kept_sections image))
@@ -115,7 +115,7 @@ places-more image interpreter start made sections i number x b same edited seen 
     let found = kept_here image sections i x s edited.is_edit.sections.numbered seen here at in
     let brings : List Range = if b then file_range (place_at_read (section_model x)) ∷ [] else [] in
     let one : rewritten_places r (s ∷ []) ≡ brings =
-    one-place r interpreter s b same (tested ∙ ap (λ (n : ℕ). is_rewritten_at interpreter n (section_model x)) of) in
+    one-place r interpreter s b same (tested ∙ ap (λ (n : ℕ). leaves_place_at interpreter image.moves_dynamic n (section_model x)) of) in
     ap (λ (l : List Range). l ++ brings) so_far
     ∙ append_assoc start (rewritten_places r (take i ks)) brings
     ∙ ap (λ (l : List Range). start ++ (rewritten_places r (take i ks) ++ l)) (sym one)

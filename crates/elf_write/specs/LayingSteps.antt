@@ -2,6 +2,7 @@
 use Rattle.std.specs.Prelude.{ℕ, ◌≡◌, ◌<◌, List, [], ◌∷◌, length, map, filter, slice_index, Bool, ◌&&◌, not, Option, nat_lt, if◌then◌else◌, ◌==◌, IsTrue}
 use Rattle.std.specs.List.{flat_map, list_all, list_any}
 use Rattle.byte_store.specs.Laid.{Patch}
+use Rattle.elf_format.specs.declared.constants.TheConstants.{SHT_DYNAMIC}
 use Rattle.elf_format.specs.declared.form.Form.{Form}
 use Rattle.elf_format.specs.declared.records.FileHeader.{FileHeader}
 use Rattle.elf_format.specs.declared.records.SectionHeader.{SectionHeader}
@@ -19,7 +20,7 @@ use Rattle.elf_layout_plan.specs.Anchors.{is_loaded_section}
 use Rattle.elf_image.specs.Kept.{KeptSection, place_at_read}
 use Rattle.elf_layout_plan.specs.Memory.{Resized}
 use Rattle.elf_layout_plan.specs.Plan.{Layout}
-use Rattle.elf_write_spec.specs.Base.{has_position, is_opaque, is_rewritten}
+use Rattle.elf_write_spec.specs.Base.{has_position, is_opaque, leaves_place}
 use Rattle.elf_write_spec.specs.Output.{patch}
 use Rattle.elf_write.specs.declared.spelled.SpelledHeaders.{SpelledHeaders}
 
@@ -53,9 +54,13 @@ abbrev pub is_rewritten_at : Option ℕ → ℕ → ImageSection → Bool
 is_rewritten_at interpreter number s =
     is_loaded_section s && occupies_file (place_at_read s) && not (is_data_at interpreter number s)
 
--- where those stood that are written anew
+-- it is, and nobody looks for it where it stood: a dynamic section that has leave to move is looked for there
+abbrev pub leaves_place_at : Option ℕ → Bool → ℕ → ImageSection → Bool
+leaves_place_at interpreter leave number s = is_rewritten_at interpreter number s && not (s.sh_type == SHT_DYNAMIC && leave)
+
+-- where those stood that are written anew and for which nobody looks there
 abbrev pub rewritten_places : Resized → List KeptSection → List Range
-rewritten_places r kept = map (λ s. file_range (place_at_read s.section)) (filter (is_rewritten r.read) kept)
+rewritten_places r kept = map (λ s. file_range (place_at_read s.section)) (filter (leaves_place r.read r.image) kept)
 
 -- ## What is laid over the bytes that stay
 

@@ -9,7 +9,7 @@ ghost use Rattle.elf_write_spec.specs.Base.{base, has_position, old_places as pl
 ghost use Rattle.elf_write_spec.specs.Ready.{IsEditedReady};
 ghost use Rattle.elf_write.specs.LayingSteps.{IsCleared, TakesFrom, is_in_load, is_in_range, rewritten_places};
 
-use crate::data::is_rewritten;
+use crate::data::leaves_place;
 use elf_format::constants::PT_LOAD;
 use elf_format::range::Range;
 use elf_image::{Builder, Segment};
@@ -98,7 +98,7 @@ fn table_at_read(read: &Builder<'_>) -> Range
     }
 }
 
-// Appends where the sections stood that are written anew.
+// Appends where the sections stood that are written anew and for which nobody looks there.
 fn push_rewritten(
     places: &mut Vec<Range>,
     image: &Builder<'_>,
@@ -113,7 +113,7 @@ fn push_rewritten(
     let sections = image.sections();
     for i in 0..sections.len() {
         let section = &sections[i];
-        if is_rewritten(section, image.read_section(i), interpreter) {
+        if leaves_place(image, section, image.read_section(i), interpreter) {
             places.push(Range {
                 start: section.sh_offset,
                 size: section.sh_size,

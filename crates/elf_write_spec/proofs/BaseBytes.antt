@@ -1,10 +1,11 @@
 -- The bytes of data stand in a written file as they stood in the file that was read.
 use Rattle.std.proofs.Common.{◌≡◌, ◌≤◌, ◌<◌, ◌⊎◌, ℕ, ◌+◌, ◌*◌, Bool, true, false, eqb, List, filter, length, refl, sym, ap, ◌∙◌, subst, inl, inr, Some, arith, []}
-use Rattle.std.specs.Prelude.{◌&&◌, not, nat_le, nat_lt, slice_index}
+use Rattle.std.specs.Prelude.{◌&&◌, ◌==◌, not, nat_le, nat_lt, slice_index}
 use Rattle.std.specs.List.{list_all, list_any, slice_get}
 use Rattle.std.proofs.lemmas.Bool.{and_from, and_parts, both_ways, cases_Bool, cases_order, cond-true, eqb-true, false_from_ne_true, le-leb, leb-true, lt-ltb, ltb-true, not-true, not_from_false}
 use Rattle.std.proofs.lemmas.Option.{same_Some, slice_get_within}
 use Rattle.patch_bytes.specs.Number.{field}
+use Rattle.elf_format.specs.declared.constants.TheConstants.{SHT_DYNAMIC}
 use Rattle.elf_format.specs.declared.range.Range.{Range}
 use Rattle.elf_format.specs.declared.records.SegmentHeader.{SegmentHeader}
 use Rattle.elf_format.specs.declared.form.Form.{Form}
@@ -23,7 +24,7 @@ use Rattle.elf_layout_plan.proofs.ForCallers.ApartBlocks.{all_apart_pairs, apart
 use Rattle.elf_layout_plan.proofs.ForCallers.ApartLists.{all-at, any-at, any-from, at-map, each-at, each-from, each-map, each-unfilter, each-unmap, filter-at, none-from, pairs-less, pairs-unfilter, pairs-unmap}
 use Rattle.elf_layout_plan.proofs.ForCallers.ApartSections.{kept-at}
 use Rattle.elf_layout_plan.proofs.ForCallers.ApartStays.{shows}
-use Rattle.elf_write_spec.specs.Base.{base, base_byte, does_byte_stay, has_position, is_data, is_opaque, is_rewritten, old_places}
+use Rattle.elf_write_spec.specs.Base.{base, base_byte, does_byte_stay, has_position, is_data, is_opaque, is_rewritten, leaves_place, old_places}
 use Rattle.elf_write_spec.specs.Output.{IsPlannedOutput, Output, written_bytes}
 use Rattle.elf_write_spec.proofs.DataStays.{DataFacts, IsNoTable, data_facts, data_keeps_size, fixed_keeps_offset, no_table}
 use Rattle.elf_write_spec.proofs.Laying.{AreApart, field-values}
@@ -197,10 +198,11 @@ module _ (w : Output) (is : IsPlannedOutput w) (f : ReadFacts w) where
           not_in (file_range s) (table_at_read r) k
               (subst (λ (x : Range). AreApart (file_range s) x) (sym table_was)
               (swapped (segment_table_range f.parts) (file_range s) table)) begins ends,
-          each-map P (λ x. file_range (place_at_read x.section)) (filter (is_rewritten r.read) (kept_sections w.image))
-              (each-from (λ x. P (file_range (place_at_read x.section))) (filter (is_rewritten r.read) (kept_sections w.image)) (λ n x at_n.
-              let (j, at_x, rewritten) = filter-at (is_rewritten r.read) (kept_sections w.image) n x at_n in
-              not_rewritten i at is_it stored k begins ends j x at_x rewritten)),
+          each-map P (λ x. file_range (place_at_read x.section)) (filter (leaves_place r.read r.image) (kept_sections w.image))
+              (each-from (λ x. P (file_range (place_at_read x.section))) (filter (leaves_place r.read r.image) (kept_sections w.image)) (λ n x at_n.
+              let (j, at_x, rewritten) = filter-at (leaves_place r.read r.image) (kept_sections w.image) n x at_n in
+              let both = and_parts (is_rewritten r.read x) (not (x.section.sh_type == SHT_DYNAMIC && r.image.moves_dynamic)) rewritten in
+              not_rewritten i at is_it stored k begins ends j x at_x both.0)),
         ),
       )
 

@@ -4,7 +4,7 @@ use Rattle.std.specs.Prelude.{◌==◌, if◌then◌else◌}
 use Rattle.std.proofs.lemmas.Bool.{and_parts, both_ways, cond-false, eq-eqb, eqb-true, false_from_ne_true}
 use Rattle.std.proofs.lemmas.Option.{same_Some, slice_get_within}
 use Rattle.patch_bytes.specs.Memory.{Keeps, from, memory_of}
-use Rattle.elf_format.specs.declared.constants.TheConstants.{SHT_DYNSYM, SHT_GNU_HASH, SHT_GNU_VERDEF, SHT_GNU_VERNEED, SHT_GNU_VERSYM, SHT_HASH, SHT_NOTE, SHT_STRTAB}
+use Rattle.elf_format.specs.declared.constants.TheConstants.{SHT_DYNAMIC, SHT_DYNSYM, SHT_GNU_HASH, SHT_GNU_VERDEF, SHT_GNU_VERNEED, SHT_GNU_VERSYM, SHT_HASH, SHT_NOTE, SHT_STRTAB}
 use Rattle.elf_format.specs.Image.{ImageSection}
 use Rattle.elf_format.specs.Options.{is_one_of}
 use Rattle.elf_format.specs.Places.{Place, occupies_file, occupies_memory, place_of}
@@ -52,8 +52,10 @@ never_moves r k other none =
       ),
     ) in
     let strings : Bool = is_numbered (dynamic_strings_number r.image) k in
+    let leave : Bool = r.image.moves_dynamic in
     let stays : is_movable r.image k ≡ false =
-    ap (λ (b : Bool). b || (n == SHT_STRTAB && strings)) first ∙ ap (λ (b : Bool). false || (b && strings)) none.strings in
+    ap (λ (b : Bool). b || (n == SHT_STRTAB && strings) || (n == SHT_DYNAMIC && leave)) first
+    ∙ ap (λ (b : Bool). (b && strings) || (n == SHT_DYNAMIC && leave)) none.strings ∙ ap (λ (b : Bool). b && leave) none.dynamic in
     cond-false (is_numbered (interpreter_number r.read) k) 1 (if is_movable r.image k then 2 else 0) other
     ∙ cond-false (is_movable r.image k) 2 0 stays
 

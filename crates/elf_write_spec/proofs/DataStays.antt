@@ -143,8 +143,10 @@ fixed r k other none =
       ),
     ) in
     let strings : Bool = is_numbered (dynamic_strings_number r.image) k in
+    let leave : Bool = r.image.moves_dynamic in
     let stays : is_movable r.image k ≡ false =
-    ap (λ (b : Bool). b || (n == SHT_STRTAB && strings)) first ∙ ap (λ (b : Bool). false || (b && strings)) none.strings in
+    ap (λ (b : Bool). b || (n == SHT_STRTAB && strings) || (n == SHT_DYNAMIC && leave)) first
+    ∙ ap (λ (b : Bool). (b && strings) || (n == SHT_DYNAMIC && leave)) none.strings ∙ ap (λ (b : Bool). b && leave) none.dynamic in
     cond-false (is_numbered (interpreter_number r.read) k) 1 (if is_movable r.image k then 2 else 0) other
     ∙ cond-false (is_movable r.image k) 2 0 stays
 

@@ -34,6 +34,7 @@ image_by p sections symbols dynamic_symbols entries definitions needs interprete
   symbol_numbers = counted (length symbols);
   dynamic_symbol_numbers = counted (length dynamic_symbols);
   page_size = None;
+  moves_dynamic = false;
 }
 
 -- what is read of each part

@@ -1,6 +1,7 @@
 -- What of the bytes that were read stays where it is.
-use Rattle.std.specs.Prelude.{ℕ, zero, suc, ◌+◌, ◌*◌, List, [], ◌∷◌, length, map, filter, slice_index, Bool, ◌&&◌, not, nat_le, nat_lt, if◌then◌else◌}
+use Rattle.std.specs.Prelude.{ℕ, zero, suc, ◌+◌, ◌*◌, List, [], ◌∷◌, length, map, filter, slice_index, Bool, ◌&&◌, ◌==◌, not, nat_le, nat_lt, if◌then◌else◌}
 use Rattle.std.specs.List.{list_any}
+use Rattle.elf_format.specs.declared.constants.TheConstants.{SHT_DYNAMIC}
 use Rattle.elf_format.specs.declared.range.Range.{Range}
 use Rattle.elf_format.specs.File.{loads_of}
 use Rattle.elf_format.specs.Places.{file_range, occupies_file}
@@ -24,12 +25,17 @@ is_data read s = is_loaded_section s.section && is_opaque s.section.kind && not 
 abbrev pub is_rewritten : Image → KeptSection → Bool
 is_rewritten read s = is_loaded_section s.section && occupies_file (place_at_read s.section) && not (is_data read s)
 
+-- it is written anew, and where it stood nobody looks for it any more; of a dynamic section that may move the bytes stay there, since
+-- some programs find it by its symbol _DYNAMIC
+abbrev pub leaves_place : Image → Image → KeptSection → Bool
+leaves_place read image s = is_rewritten read s && not (s.section.sh_type == SHT_DYNAMIC && image.moves_dynamic)
+
 -- The old places of what is written anew: they are zeros, where nothing comes to stand in them.
 abbrev pub old_places : Image → Image → List Range
 old_places read image =
     range 0 (file_header_size image.form)
     ∷ range read.header.e_phoff (length read.segments * segment_header_size read.form)
-    ∷ map (λ s. file_range (place_at_read s.section)) (filter (is_rewritten read) (kept_sections image))
+    ∷ map (λ s. file_range (place_at_read s.section)) (filter (leaves_place read image) (kept_sections image))
 
 abbrev pub has_position : ℕ → Range → Bool
 has_position position r = nat_le r.start position && nat_lt position (end_of r)
