@@ -1,5 +1,5 @@
 //! The edits of a file's image.
-ghost use Rattle.std.specs.Prelude.{◌≡◌, [], IfOk, IsOk, OnErr, map};
+ghost use Rattle.std.specs.Prelude.{◌≡◌, [], IfOk, IsOk, OnErr, map, true};
 ghost use Rattle.std.specs.HashSet.{keys};
 ghost use Rattle.elf_edits.specs.Edit.{AddDebugEntry, AddNeeded, AddRunPath, ClearExecStack, ClearSymbolVersion, DeleteNeeded, DeleteRunPath, NoDefaultLibrary, RenameDynamicSymbols, ReplaceNeeded, SetExecStack, SetInterpreter, SetOsAbi, SetPageSize, SetRunPath, SetSoname, UseRpath, UseRunpath};
 ghost use Rattle.elf_edits.specs.EditModel.{edit_model, pairs_model, texts_model};
@@ -65,6 +65,17 @@ impl<'data> Writer<'data> {
         ensures { TakesInPlace (SetPageSize size) self.old self.new result }
     {
         steps::set_page_size(&mut self.builder, size)
+    }
+
+    /// Gives leave that the dynamic section moves where it has grown into what follows it, as `Builder::allow_dynamic_move` tells
+    /// (gABI, Dynamic Section). Takes no memory.
+    pub fn allow_dynamic_move(&mut self)
+        ensures { self.new ≡ record self.old {
+          changed = true;
+          moves_dynamic = true;
+        } }
+    {
+        self.builder.allow_dynamic_move()
     }
 
     /// Leaves out of every run path the absolute directories that no prefix begins, where there are prefixes, and

@@ -97,6 +97,14 @@ fn edit(alloc: Global, file: &mut Writer<'_>, words: &str) -> Result<(), ElfErro
         "set-soname" => file.elf_set_soname(alloc, values.as_bytes()),
         "set-os-abi" => file.elf_set_osabi(alloc, values),
         "set-exec-stack" => file.elf_set_exec_stack(alloc),
+        "allow-dynamic-move" => {
+            file.allow_dynamic_move();
+            Ok(())
+        }
+        "add-needed" => {
+            let names = texts_of(alloc, values)?;
+            file.elf_add_needed(alloc, &names)
+        }
         "set-page-size" => file.elf_set_page_size(u32::try_from(number(values)).unwrap_or(0)),
         _ => edit_symbols(alloc, file, name, values),
     }

@@ -185,4 +185,16 @@ impl<'a> ElfContainer<'a> {
     {
         self.inner.elf_set_page_size(size)
     }
+
+    /// Gives leave that the dynamic section moves where it has grown into what follows it (gABI, Dynamic Section), as
+    /// `Builder::allow_dynamic_move` tells. Takes no memory.
+    pub fn allow_dynamic_move(&mut self)
+        ensures image { self.new.inner ≡ record self.old.inner {
+          changed = true;
+          moves_dynamic = true;
+        } }
+        ensures bytes { self.new.bytes ≡ self.old.bytes }
+    {
+        self.inner.allow_dynamic_move()
+    }
 }
