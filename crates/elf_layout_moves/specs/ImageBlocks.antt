@@ -39,7 +39,7 @@ abbrev pub priority_with : Option ℕ → Option ℕ → Bool → ImageSection �
 priority_with interpreter strings leave s number =
     if is_some_and (λ n. n == number) interpreter then 1
     else if is_movable_type s.sh_type || s.sh_type == SHT_STRTAB && is_some_and (λ n. n == number) strings
-        || s.sh_type == SHT_DYNAMIC && leave then 2 else 0
+    || s.sh_type == SHT_DYNAMIC && leave then 2 else 0
 
 -- the block of the section at a position
 abbrev pub made_block : Resized → Option ℕ → Option ℕ → ℕ → ImageSection → Block

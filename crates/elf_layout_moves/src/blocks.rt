@@ -318,7 +318,13 @@ fn block_at(
     MemoryBlock {
         start: u128::from(section.sh_addr),
         size: u128::from(size),
-        priority: priority_at(section, number, interpreter, strings, r.image.may_dynamic_move()),
+        priority: priority_at(
+            section,
+            number,
+            interpreter,
+            strings,
+            r.image.may_dynamic_move(),
+        ),
         section: Some(position),
         is_stray: is_stray_at(r.image, section, size),
         is_load_start: false,
