@@ -6,7 +6,6 @@ use elf_image::Builder;
 use elf_image::constants::{DT_NEEDED, DT_RPATH, DT_RUNPATH};
 use std::alloc::{AllocError, Global};
 use std::io;
-use test_cases_written::Runtime;
 
 /// An edit of a dynamic list.
 #[derive(Clone, Copy, Debug)]
@@ -36,7 +35,7 @@ fn tag_at(image: &Builder<'_>, i: usize) -> Option<u64>
 }
 
 /// Prints the tags of the dynamic list, and whether something was edited.
-fn print_tags(rt: &impl Runtime, image: &Builder<'_>) -> io::Result<()> {
+fn print_tags(rt: &HostRuntime, image: &Builder<'_>) -> io::Result<()> {
     for entry in image.dynamic_data().unwrap_or_default() {
         print!(rt; " {}", entry.tag())?;
     }
@@ -66,7 +65,7 @@ fn copy<'d>(alloc: Global, image: &Builder<'d>) -> Result<Builder<'d>, AllocErro
 }
 
 /// Prints what an edit makes of a copy of an image.
-fn print_edit(rt: &impl Runtime, image: &Builder<'_>, edit: Edit) -> io::Result<()> {
+fn print_edit(rt: &HostRuntime, image: &Builder<'_>, edit: Edit) -> io::Result<()> {
     print!(rt; "{edit:?}")?;
     let mut copy = copy(rt.alloc(), image)?;
     change(&mut copy, edit);
@@ -74,7 +73,7 @@ fn print_edit(rt: &impl Runtime, image: &Builder<'_>, edit: Edit) -> io::Result<
 }
 
 /// Prints what each edit makes of a copy of an image, and the image behind them.
-pub(crate) fn print_edits(rt: &impl Runtime, image: &Builder<'_>) -> io::Result<()> {
+pub(crate) fn print_edits(rt: &HostRuntime, image: &Builder<'_>) -> io::Result<()> {
     for edit in EDITS {
         print_edit(rt, image, edit)?;
     }

@@ -6,7 +6,6 @@ use arwen_elf::machine_of;
 use elf_image::ElfFault;
 use std::alloc::Global;
 use std::io;
-use test_cases_written::Runtime;
 use test_cases_written::edits::parse;
 
 /// The fault of a file as the image, the writer and the container tell it; `None` where the file is read.
@@ -46,17 +45,17 @@ fn faults_of(alloc: Global, bytes: &[u8]) -> Faults {
 }
 
 /// Prints the faults of a file.
-pub(crate) fn print_faults(rt: &impl Runtime, bytes: &[u8]) -> io::Result<()> {
+pub(crate) fn print_faults(rt: &HostRuntime, bytes: &[u8]) -> io::Result<()> {
     println!(rt; "{:?}", faults_of(rt.alloc(), bytes))
 }
 
 /// Prints the machine that the first bytes of a file tell.
-pub(crate) fn print_machine(rt: &impl Runtime, bytes: &[u8]) -> io::Result<()> {
+pub(crate) fn print_machine(rt: &HostRuntime, bytes: &[u8]) -> io::Result<()> {
     println!(rt; "{:?}", machine_of(bytes))
 }
 
 /// Prints how many fronts of a file all three refuse as cut, and the faults of other fronts.
-pub(crate) fn print_fronts(rt: &impl Runtime, bytes: &[u8]) -> io::Result<()> {
+pub(crate) fn print_fronts(rt: &HostRuntime, bytes: &[u8]) -> io::Result<()> {
     let mut count = 0u64;
     for n in 0..bytes.len() {
         let faults = faults_of(rt.alloc(), &bytes[..n]);

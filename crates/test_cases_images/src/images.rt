@@ -7,7 +7,6 @@ use elf_image::{Builder, ElfFault, Header, Section, SectionData};
 use patch_bytes::{ByteOrder2, Wide};
 use std::alloc::{AllocError, Global};
 use std::io;
-use test_cases_written::Runtime;
 use test_cases_written::rows::{Row, Text};
 
 /// The image of a file, read again where memory was refused.
@@ -19,7 +18,7 @@ pub(crate) fn read<'f>(alloc: Global, bytes: &'f [u8]) -> Result<Builder<'f>, El
 }
 
 /// Prints the image of bytes.
-pub(crate) fn print_image(rt: &impl Runtime, bytes: &[u8], image: &Builder<'_>) -> io::Result<()> {
+pub(crate) fn print_image(rt: &HostRuntime, bytes: &[u8], image: &Builder<'_>) -> io::Result<()> {
     println!(rt; "{:?}", outline_of(bytes, image))?;
     print_headers(rt, image)?;
     print_lists(rt, image)?;
@@ -51,7 +50,7 @@ fn outline_of<'a>(bytes: &[u8], image: &'a Builder<'_>) -> Outline<'a> {
     }
 }
 
-fn print_headers(rt: &impl Runtime, image: &Builder<'_>) -> io::Result<()> {
+fn print_headers(rt: &HostRuntime, image: &Builder<'_>) -> io::Result<()> {
     print_segments(rt, image.segments())?;
     print_sections(rt, image)
 }
@@ -80,7 +79,7 @@ fn facts(image: &Builder<'_>, i: usize) -> (SectionData, usize, Option<usize>)
 }
 
 /// Prints of each section its name, facts, numbers and bytes.
-fn print_sections(rt: &impl Runtime, image: &Builder<'_>) -> io::Result<()> {
+fn print_sections(rt: &HostRuntime, image: &Builder<'_>) -> io::Result<()> {
     for i in 0..image.sections().len() {
         print_section(rt, &image.sections()[i], facts(image, i))?;
     }
@@ -88,7 +87,7 @@ fn print_sections(rt: &impl Runtime, image: &Builder<'_>) -> io::Result<()> {
 }
 
 fn print_section(
-    rt: &impl Runtime,
+    rt: &HostRuntime,
     section: &Section<'_>,
     facts: (SectionData, usize, Option<usize>),
 ) -> io::Result<()> {
@@ -96,14 +95,14 @@ fn print_section(
     println!(rt; "section {name} {:?}{bytes}", (facts, numbers(section)))
 }
 
-fn print_lists(rt: &impl Runtime, image: &Builder<'_>) -> io::Result<()> {
+fn print_lists(rt: &HostRuntime, image: &Builder<'_>) -> io::Result<()> {
     print_symbols(rt, "symbol", image.symbols())?;
     print_symbols(rt, "dynamic symbol", image.dynamic_symbols())?;
     print_versions(rt, image)?;
     print_entries(rt, image.dynamic_data())
 }
 
-fn print_versions(rt: &impl Runtime, image: &Builder<'_>) -> io::Result<()> {
+fn print_versions(rt: &HostRuntime, image: &Builder<'_>) -> io::Result<()> {
     for definition in &image.versions().definitions {
         print_definition(rt, definition)?;
     }
@@ -165,7 +164,7 @@ fn are_dynamic_symbols_numbered(image: &Builder<'_>) -> bool {
 }
 
 /// Prints whether a copy of the image shows the same, and the image that is read once more from an edited copy.
-fn print_copies(rt: &impl Runtime, image: &Builder<'_>) -> io::Result<()> {
+fn print_copies(rt: &HostRuntime, image: &Builder<'_>) -> io::Result<()> {
     let (is_copied, is_read) = match copies_made(rt.alloc(), image) {
         Err(_) => copies_made(rt.alloc(), image)?,
         Ok(made) => made,

@@ -36,11 +36,11 @@ mod views;
 
 use elf_image::Builder;
 use std::io;
-use std::rt::Files;
-use test_cases_written::{Runtime, files, on_container, words};
+pub use test_cases_written::rows::print_rows;
+use test_cases_written::{files, on_container, words};
 
 /// Prints each line, and what comes of it.
-pub fn run<R: Files + Print + AllocGlobal>(rt: &R, lines: &str) -> io::Result<()> {
+pub fn run(rt: &HostRuntime, lines: &str) -> io::Result<()> {
     for line in lines.lines() {
         println!(rt; "{line}")?;
         step(rt, line)?;
@@ -49,7 +49,7 @@ pub fn run<R: Files + Print + AllocGlobal>(rt: &R, lines: &str) -> io::Result<()
 }
 
 /// Does what a line says.
-fn step(rt: &impl Runtime, line: &str) -> io::Result<()> {
+fn step(rt: &HostRuntime, line: &str) -> io::Result<()> {
     let (kind, words) = words::first(line);
     match kind {
         "" | "#" => Ok(()),
@@ -63,13 +63,13 @@ fn step(rt: &impl Runtime, line: &str) -> io::Result<()> {
 }
 
 /// Does what a line says to the file.
-fn on_file(rt: &impl Runtime, kind: &str, words: &str) -> io::Result<()> {
+fn on_file(rt: &HostRuntime, kind: &str, words: &str) -> io::Result<()> {
     let bytes = files::content(rt, files::FILE)?;
     on_bytes(rt, &bytes, kind, words)
 }
 
 /// Does what a line says to the bytes of the file.
-fn on_bytes(rt: &impl Runtime, bytes: &[u8], kind: &str, words: &str) -> io::Result<()> {
+fn on_bytes(rt: &HostRuntime, bytes: &[u8], kind: &str, words: &str) -> io::Result<()> {
     match kind {
         "f" => faults::print_faults(rt, bytes),
         "F" => faults::print_fronts(rt, bytes),
@@ -82,7 +82,7 @@ fn on_bytes(rt: &impl Runtime, bytes: &[u8], kind: &str, words: &str) -> io::Res
 }
 
 /// Does what a line says to the image of the file.
-fn on_image(rt: &impl Runtime, bytes: &[u8], kind: &str, words: &str) -> io::Result<()> {
+fn on_image(rt: &HostRuntime, bytes: &[u8], kind: &str, words: &str) -> io::Result<()> {
     match images::read(rt.alloc(), bytes) {
         Ok(mut image) => on_read(rt, bytes, &mut image, kind, words),
         Err(fault) => println!(rt; "{fault:?}"),
@@ -91,7 +91,7 @@ fn on_image(rt: &impl Runtime, bytes: &[u8], kind: &str, words: &str) -> io::Res
 
 /// Does what a line says to the image of bytes.
 fn on_read(
-    rt: &impl Runtime,
+    rt: &HostRuntime,
     bytes: &[u8],
     image: &mut Builder<'_>,
     kind: &str,

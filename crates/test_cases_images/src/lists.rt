@@ -20,7 +20,7 @@ fn numbers(segment: &Segment<'_>) -> [u64; 8] {
     ]
 }
 
-pub(crate) fn print_segments(rt: &impl Print, segments: &[Segment<'_>]) -> io::Result<()> {
+pub(crate) fn print_segments(rt: &HostRuntime, segments: &[Segment<'_>]) -> io::Result<()> {
     for segment in segments {
         println!(rt; "segment {:?}", numbers(segment))?;
     }
@@ -28,7 +28,7 @@ pub(crate) fn print_segments(rt: &impl Print, segments: &[Segment<'_>]) -> io::R
 }
 
 /// Prints a symbol: its name, its numbers and its version.
-pub(crate) fn print_symbol(rt: &impl Print, what: &str, symbol: &Symbol<'_>) -> io::Result<()> {
+pub(crate) fn print_symbol(rt: &HostRuntime, what: &str, symbol: &Symbol<'_>) -> io::Result<()> {
     let numbers = [
         symbol.st_info as u64,
         symbol.st_other as u64,
@@ -45,7 +45,7 @@ pub(crate) fn print_symbol(rt: &impl Print, what: &str, symbol: &Symbol<'_>) -> 
 
 /// Prints symbols, and says so where a part of one that is asked for alone is another.
 pub(crate) fn print_symbols(
-    rt: &impl Print,
+    rt: &HostRuntime,
     what: &str,
     symbols: SymbolsNow<'_>,
 ) -> io::Result<()> {
@@ -74,7 +74,7 @@ fn are_parts_same(symbols: SymbolsNow<'_>, i: usize) -> bool
 }
 
 /// Prints the names of a version behind its index and its flags.
-pub(crate) fn print_definition(rt: &impl Print, definition: &VersionDef<'_>) -> io::Result<()> {
+pub(crate) fn print_definition(rt: &HostRuntime, definition: &VersionDef<'_>) -> io::Result<()> {
     print!(rt; "defines {} {}", definition.index, definition.flags)?;
     for name in &definition.names {
         print!(rt; " {}", Text(name.as_slice()))?;
@@ -83,7 +83,7 @@ pub(crate) fn print_definition(rt: &impl Print, definition: &VersionDef<'_>) -> 
 }
 
 /// Prints a library, and the versions that are needed of it.
-pub(crate) fn print_need(rt: &impl Print, need: &VersionNeed<'_>) -> io::Result<()> {
+pub(crate) fn print_need(rt: &HostRuntime, need: &VersionNeed<'_>) -> io::Result<()> {
     print!(rt; "needs {}", Text(need.file.as_slice()))?;
     for version in &need.versions {
         print_version(rt, version)?;
@@ -91,13 +91,13 @@ pub(crate) fn print_need(rt: &impl Print, need: &VersionNeed<'_>) -> io::Result<
     println!(rt;)
 }
 
-fn print_version(rt: &impl Print, version: &VersionNeedName<'_>) -> io::Result<()> {
+fn print_version(rt: &HostRuntime, version: &VersionNeedName<'_>) -> io::Result<()> {
     let (index, flags) = (version.index, version.flags);
     print!(rt; ", {index} {flags} {}", Text(version.name.as_slice()))
 }
 
 /// Prints a dynamic list, or that there is none.
-pub(crate) fn print_entries(rt: &impl Print, list: Option<&[Dynamic<'_>]>) -> io::Result<()> {
+pub(crate) fn print_entries(rt: &HostRuntime, list: Option<&[Dynamic<'_>]>) -> io::Result<()> {
     let Some(list) = list else {
         return println!(rt; "no list");
     };
@@ -107,7 +107,7 @@ pub(crate) fn print_entries(rt: &impl Print, list: Option<&[Dynamic<'_>]>) -> io
     Ok(())
 }
 
-fn print_entry(rt: &impl Print, entry: &Dynamic<'_>) -> io::Result<()> {
+fn print_entry(rt: &HostRuntime, entry: &Dynamic<'_>) -> io::Result<()> {
     match entry {
         Dynamic::Auto { tag } => println!(rt; "entry {tag}"),
         Dynamic::Integer { tag, val } => println!(rt; "entry {tag} = {val}"),

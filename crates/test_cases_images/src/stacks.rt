@@ -4,13 +4,12 @@ use arwen_elf::elf::{BuilderExt, ElfError};
 use elf_image::Builder;
 use std::alloc::{AllocError, Global};
 use std::io;
-use test_cases_written::Runtime;
 use test_cases_written::edits::tell;
 use test_cases_written::words::{first, number};
 
 /// Prints what comes of a call whose lent flags are set, and the image.
 pub(crate) fn print_stack(
-    rt: &impl Runtime,
+    rt: &HostRuntime,
     image: &mut Builder<'_>,
     words: &str,
 ) -> io::Result<()> {
@@ -21,7 +20,7 @@ pub(crate) fn print_stack(
 }
 
 /// Prints the flags that were there, or why none were lent.
-fn tell_old(rt: &impl Runtime, answer: Result<Option<u32>, ElfError>) -> io::Result<()> {
+fn tell_old(rt: &HostRuntime, answer: Result<Option<u32>, ElfError>) -> io::Result<()> {
     match answer {
         Ok(old) => println!(rt; "{old:?}"),
         Err(error) => tell(rt, &error),
@@ -29,7 +28,7 @@ fn tell_old(rt: &impl Runtime, answer: Result<Option<u32>, ElfError>) -> io::Res
 }
 
 /// Prints the flags of the stack, how many program headers there are, and whether something was edited.
-fn print_image(rt: &impl Runtime, image: &Builder<'_>) -> io::Result<()> {
+fn print_image(rt: &HostRuntime, image: &Builder<'_>) -> io::Result<()> {
     let flags = image.stack().map(|stack| stack.p_flags());
     let (count, is_changed) = (image.segments().len(), image.changed());
     println!(rt; "stack {flags:?}, {count} headers, changed {is_changed}")

@@ -6,7 +6,6 @@ use elf_image::{EditedSymbols, Form, Symbols, VersionId};
 use patch_bytes::{ByteOrder2, Wide};
 use std::alloc::{AllocError, Global};
 use std::io;
-use test_cases_written::Runtime;
 use test_cases_written::words::{bytes_of, first};
 
 /// A table of symbols in parts.
@@ -55,14 +54,14 @@ fn parts_of(alloc: Global, words: &str) -> Result<Parts, AllocError> {
 }
 
 /// Prints the symbols of a table, or that a name is missing.
-pub(crate) fn print_table(rt: &impl Runtime, words: &str) -> io::Result<()> {
+pub(crate) fn print_table(rt: &HostRuntime, words: &str) -> io::Result<()> {
     match parts_of(rt.alloc(), words) {
         Err(_) => print_parts(rt, &parts_of(rt.alloc(), words)?),
         Ok(parts) => print_parts(rt, &parts),
     }
 }
 
-fn print_parts(rt: &impl Runtime, parts: &Parts) -> io::Result<()> {
+fn print_parts(rt: &HostRuntime, parts: &Parts) -> io::Result<()> {
     let versions = match &parts.versions {
         Some(versions) => Some(versions.as_slice()),
         None => None,
@@ -73,7 +72,7 @@ fn print_parts(rt: &impl Runtime, parts: &Parts) -> io::Result<()> {
     }
 }
 
-fn print_read(rt: &impl Runtime, symbols: &Symbols<'_>) -> io::Result<()> {
+fn print_read(rt: &HostRuntime, symbols: &Symbols<'_>) -> io::Result<()> {
     print_count(rt, symbols)?;
     let edited = edited_of(rt.alloc(), symbols)?;
     print_symbols(rt, "symbol", edited.lend())
@@ -87,12 +86,12 @@ fn edited_of<'a>(alloc: Global, symbols: &Symbols<'a>) -> Result<EditedSymbols<'
     }
 }
 
-fn print_count(rt: &impl Runtime, symbols: &Symbols<'_>) -> io::Result<()> {
+fn print_count(rt: &HostRuntime, symbols: &Symbols<'_>) -> io::Result<()> {
     println!(rt; "{} symbols, empty {}", symbols.len(), symbols.is_empty())
 }
 
 /// Prints the versions that have no name, and no symbols.
-pub(crate) fn print_constants(rt: &impl Runtime) -> io::Result<()> {
+pub(crate) fn print_constants(rt: &HostRuntime) -> io::Result<()> {
     println!(rt; "{:?} {:?}", VersionId::local(), VersionId::global())?;
     print_count(rt, &Symbols::none())
 }
@@ -110,14 +109,14 @@ fn is_read<'a>(texts: &'a [u8], record: &'a [u8]) -> bool {
 }
 
 /// Prints at which of the first 20 places of a string table a name is that a symbol can have, and a text.
-pub(crate) fn print_places(rt: &impl Runtime, words: &str) -> io::Result<()> {
+pub(crate) fn print_places(rt: &HostRuntime, words: &str) -> io::Result<()> {
     match bytes_of(rt.alloc(), words) {
         Err(_) => print_each(rt, &bytes_of(rt.alloc(), words)?),
         Ok(texts) => print_each(rt, &texts),
     }
 }
 
-fn print_each(rt: &impl Runtime, texts: &[u8]) -> io::Result<()> {
+fn print_each(rt: &HostRuntime, texts: &[u8]) -> io::Result<()> {
     print!(rt; "names")?;
     for place in 0..20 {
         print_place(rt, texts, place)?;
@@ -126,7 +125,7 @@ fn print_each(rt: &impl Runtime, texts: &[u8]) -> io::Result<()> {
 }
 
 /// Prints a place where a name is, and says so where a text is not there alike.
-fn print_place(rt: &impl Runtime, texts: &[u8], place: u8) -> io::Result<()> {
+fn print_place(rt: &HostRuntime, texts: &[u8], place: u8) -> io::Result<()> {
     let record = record_with(place);
     let (is_name, is_text) = (
         is_read(texts, &record),

@@ -5,11 +5,10 @@ use elf_image::ElfFault;
 use patch_bytes::ByteString;
 use std::alloc::{AllocError, AllocFailed};
 use std::{fmt, io};
-use test_cases_written::Runtime;
 use test_elf_plain::ViewFault;
 
 /// Prints the texts of all errors.
-pub(crate) fn print_texts(rt: &impl Runtime) -> io::Result<()> {
+pub(crate) fn print_texts(rt: &HostRuntime) -> io::Result<()> {
     print_faults(rt)?;
     print_errors(rt)?;
     print_memory(rt)?;
@@ -18,7 +17,7 @@ pub(crate) fn print_texts(rt: &impl Runtime) -> io::Result<()> {
 }
 
 /// Prints an error by both its texts.
-fn print_error<E: fmt::Display + fmt::Debug + Drop>(rt: &impl Runtime, error: E) -> io::Result<()> {
+fn print_error<E: fmt::Display + fmt::Debug + Drop>(rt: &HostRuntime, error: E) -> io::Result<()> {
     println!(rt; "{error:?}: {error}")
 }
 
@@ -32,7 +31,7 @@ const FAULTS: [ElfFault; 7] = [
     ElfFault::Memory,
 ];
 
-fn print_faults(rt: &impl Runtime) -> io::Result<()> {
+fn print_faults(rt: &HostRuntime) -> io::Result<()> {
     for fault in FAULTS {
         print_error(rt, fault)?;
     }
@@ -40,7 +39,7 @@ fn print_faults(rt: &impl Runtime) -> io::Result<()> {
     print_error(rt, ViewFault::Memory)
 }
 
-fn print_errors(rt: &impl Runtime) -> io::Result<()> {
+fn print_errors(rt: &HostRuntime) -> io::Result<()> {
     print_elf_error(rt, io::Error::from(io::ErrorKind::NotFound).into())?;
     print_elf_error(rt, ElfFault::Disagree(4).into())?;
     print_elf_error(rt, ElfError::Write(ElfFault::NumberTooLarge))?;
@@ -48,12 +47,12 @@ fn print_errors(rt: &impl Runtime) -> io::Result<()> {
     print_elf_error(rt, ElfError::InvalidDtNeededEncoding)
 }
 
-fn print_elf_error(rt: &impl Runtime, error: ElfError) -> io::Result<()> {
+fn print_elf_error(rt: &HostRuntime, error: ElfError) -> io::Result<()> {
     print_error(rt, error)
 }
 
 /// Prints what want of memory becomes.
-fn print_memory(rt: &impl Runtime) -> io::Result<()> {
+fn print_memory(rt: &HostRuntime) -> io::Result<()> {
     print_elf_error(rt, ElfError::Memory)?;
     print_elf_error(rt, ElfFault::Memory.into())?;
     print_elf_error(rt, AllocError.into())?;
@@ -77,7 +76,7 @@ fn cause(number: u32) -> ModifyCause {
     }
 }
 
-fn print_causes(rt: &impl Runtime) -> io::Result<()> {
+fn print_causes(rt: &HostRuntime) -> io::Result<()> {
     for number in 0..11 {
         print_error(rt, cause(number))?;
     }
@@ -90,7 +89,7 @@ fn print_causes(rt: &impl Runtime) -> io::Result<()> {
     }
 }
 
-fn print_answer(rt: &impl Runtime) -> io::Result<()> {
+fn print_answer(rt: &HostRuntime) -> io::Result<()> {
     let answer = ProbeAnswer {
         directory: ByteString::borrowed(b"/a"),
         needed: ByteString::borrowed(b"b"),

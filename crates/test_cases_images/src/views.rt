@@ -2,12 +2,11 @@
 
 use std::alloc::Global;
 use std::io;
-use test_cases_written::Runtime;
 use test_cases_written::words::number;
 use test_elf_plain::{ShownView, ViewFault, loader_view, section_view};
 
 /// Prints what a file shows through its section headers.
-pub(crate) fn print_by_sections(rt: &impl Runtime, bytes: &[u8]) -> io::Result<()> {
+pub(crate) fn print_by_sections(rt: &HostRuntime, bytes: &[u8]) -> io::Result<()> {
     println!(rt; "{:?}", by_sections(rt.alloc(), bytes))
 }
 
@@ -20,7 +19,7 @@ fn by_sections(alloc: Global, bytes: &[u8]) -> Result<ShownView<'_>, ViewFault> 
 }
 
 /// Prints what a loader sees that is told of so many symbols.
-pub(crate) fn print_loaded(rt: &impl Runtime, bytes: &[u8], words: &str) -> io::Result<()> {
+pub(crate) fn print_loaded(rt: &HostRuntime, bytes: &[u8], words: &str) -> io::Result<()> {
     println!(rt; "{:?}", loaded(rt.alloc(), bytes, number(words)))
 }
 

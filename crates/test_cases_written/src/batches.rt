@@ -1,6 +1,5 @@
 //! Batch after batch of edits.
 
-use crate::Runtime;
 use crate::edits::tell;
 use crate::words::number;
 use arwen_elf::elf::{ElfBatchError, ElfContainer, ElfEdit, ElfError, Writer};
@@ -43,7 +42,7 @@ fn applied(alloc: Global, file: &mut Writer<'_>, words: &str) -> Result<Answers,
 
 /// Applies batches to a file, and prints what comes of each, and the run path and the page size behind them.
 pub(crate) fn print_batches(
-    rt: &impl Runtime,
+    rt: &HostRuntime,
     file: &mut ElfContainer<'_>,
     words: &str,
 ) -> io::Result<()> {
@@ -52,12 +51,12 @@ pub(crate) fn print_batches(
 }
 
 /// Prints the run path and the page size.
-fn print_file(rt: &impl Runtime, file: &ElfContainer<'_>) -> io::Result<()> {
+fn print_file(rt: &HostRuntime, file: &ElfContainer<'_>) -> io::Result<()> {
     let path = file.inner.elf_runpath();
     println!(rt; "run path {path:?}, page size {}", file.get_page_size())
 }
 
-fn print_answers(rt: &impl Runtime, answers: Answers) -> io::Result<()> {
+fn print_answers(rt: &HostRuntime, answers: Answers) -> io::Result<()> {
     for answer in &answers {
         print_batch(rt, answer)?;
     }
@@ -65,7 +64,7 @@ fn print_answers(rt: &impl Runtime, answers: Answers) -> io::Result<()> {
 }
 
 /// Prints what came of a batch.
-fn print_batch(rt: &impl Runtime, answer: &Result<(), ElfBatchError>) -> io::Result<()> {
+fn print_batch(rt: &HostRuntime, answer: &Result<(), ElfBatchError>) -> io::Result<()> {
     match answer {
         Ok(()) => println!(rt; "done"),
         Err(error) => tell(rt, &error.fault),

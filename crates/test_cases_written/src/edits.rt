@@ -1,6 +1,5 @@
 //! Edits of files by the calls of their writer.
 
-use crate::Runtime;
 use crate::words::{first, number, texts_of};
 use arwen_elf::elf::{ElfContainer, ElfError, Writer};
 use std::alloc::{AllocError, Global};
@@ -16,7 +15,7 @@ pub fn parse<'f>(alloc: Global, bytes: &'f [u8]) -> Result<ElfContainer<'f>, Elf
 }
 
 /// Prints why something was refused.
-pub fn tell(rt: &impl Runtime, error: &ElfError) -> io::Result<()> {
+pub fn tell(rt: &HostRuntime, error: &ElfError) -> io::Result<()> {
     match error {
         ElfError::Modify(cause) => println!(rt; "refused: {cause}"),
         _ => println!(rt; "refused: {error}"),
@@ -24,7 +23,7 @@ pub fn tell(rt: &impl Runtime, error: &ElfError) -> io::Result<()> {
 }
 
 /// Prints what came of a call.
-pub fn tell_answer(rt: &impl Runtime, answer: &Result<(), ElfError>) -> io::Result<()> {
+pub fn tell_answer(rt: &HostRuntime, answer: &Result<(), ElfError>) -> io::Result<()> {
     match answer {
         Ok(()) => println!(rt; "done"),
         Err(error) => tell(rt, error),
@@ -119,7 +118,7 @@ fn edit_again(alloc: Global, file: &mut Writer<'_>, words: &str) -> Result<(), E
 }
 
 /// Does edits with a `+` between two, and tells the ones that are refused.
-pub fn edit_all(rt: &impl Runtime, file: &mut Writer<'_>, words: &str) -> io::Result<()> {
+pub fn edit_all(rt: &HostRuntime, file: &mut Writer<'_>, words: &str) -> io::Result<()> {
     for words in words.split(" + ") {
         tell_refused(rt, edit_again(rt.alloc(), file, words))?;
     }
@@ -127,7 +126,7 @@ pub fn edit_all(rt: &impl Runtime, file: &mut Writer<'_>, words: &str) -> io::Re
 }
 
 /// Prints why an edit was refused, where it was.
-fn tell_refused(rt: &impl Runtime, answer: Result<(), ElfError>) -> io::Result<()> {
+fn tell_refused(rt: &HostRuntime, answer: Result<(), ElfError>) -> io::Result<()> {
     match answer {
         Ok(()) => Ok(()),
         Err(error) => tell(rt, &error),

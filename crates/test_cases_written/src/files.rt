@@ -1,6 +1,5 @@
 //! The file that lines work on.
 
-use crate::Runtime;
 use crate::words::{bytes_of, first, place};
 use std::alloc::{AllocError, Global};
 use std::{fs, io};
@@ -9,7 +8,7 @@ use std::{fs, io};
 pub const FILE: &str = "file";
 
 /// The bytes of a file, read again where memory was refused.
-pub fn content(rt: &impl Runtime, path: &str) -> io::Result<Vec<u8>> {
+pub fn content(rt: &HostRuntime, path: &str) -> io::Result<Vec<u8>> {
     match fs::read(rt, path) {
         Err(_) => fs::read(rt, path),
         read => read,
@@ -17,7 +16,7 @@ pub fn content(rt: &impl Runtime, path: &str) -> io::Result<Vec<u8>> {
 }
 
 /// Makes the file a copy of another with changes, tried again where memory was refused.
-pub fn make(rt: &impl Runtime, words: &str) -> io::Result<()> {
+pub fn make(rt: &HostRuntime, words: &str) -> io::Result<()> {
     let (name, changes) = first(words);
     match changed(rt, name, changes) {
         Err(_) => save(rt, &changed(rt, name, changes)?),
@@ -26,12 +25,12 @@ pub fn make(rt: &impl Runtime, words: &str) -> io::Result<()> {
 }
 
 /// Makes the file of bytes.
-pub fn save(rt: &impl Runtime, bytes: &[u8]) -> io::Result<()> {
+pub fn save(rt: &HostRuntime, bytes: &[u8]) -> io::Result<()> {
     fs::write(rt, FILE, bytes)
 }
 
 /// The bytes of a file with changes.
-fn changed(rt: &impl Runtime, name: &str, changes: &str) -> io::Result<Vec<u8>> {
+fn changed(rt: &HostRuntime, name: &str, changes: &str) -> io::Result<Vec<u8>> {
     let mut bytes = content(rt, name)?;
     for change in changes.split(' ') {
         bytes = changed_once(rt.alloc(), bytes, change)?;

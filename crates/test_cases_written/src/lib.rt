@@ -28,15 +28,9 @@ mod written;
 
 use arwen_elf::elf::ElfContainer;
 use std::io;
-use std::rt::Files;
-
-/// A runtime that prints, and has files and memory.
-pub trait Runtime: Files + Print + AllocGlobal {}
-
-impl<R: Files + Print + AllocGlobal> Runtime for R {}
 
 /// Does what a line says to the container of a file.
-pub fn on_container(rt: &impl Runtime, bytes: &[u8], kind: &str, words: &str) -> io::Result<()> {
+pub fn on_container(rt: &HostRuntime, bytes: &[u8], kind: &str, words: &str) -> io::Result<()> {
     match edits::parse(rt.alloc(), bytes) {
         Ok(mut file) => on_parsed(rt, &mut file, kind, words),
         Err(error) => edits::tell(rt, &error),
@@ -45,7 +39,7 @@ pub fn on_container(rt: &impl Runtime, bytes: &[u8], kind: &str, words: &str) ->
 
 /// Does what a line says to a container, after edits.
 fn on_parsed(
-    rt: &impl Runtime,
+    rt: &HostRuntime,
     file: &mut ElfContainer<'_>,
     kind: &str,
     words: &str,
@@ -60,12 +54,7 @@ fn on_parsed(
 }
 
 /// Does what a line says to a container that is edited.
-fn on_edited(
-    rt: &impl Runtime,
-    file: &ElfContainer<'_>,
-    kind: &str,
-    words: &str,
-) -> io::Result<()> {
+fn on_edited(rt: &HostRuntime, file: &ElfContainer<'_>, kind: &str, words: &str) -> io::Result<()> {
     match kind {
         "r" => reads::print_file(rt, file),
         "p" => prints::print_each(rt, file),

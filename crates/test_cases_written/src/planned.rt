@@ -3,7 +3,6 @@ ghost use Rattle.std.specs.Prelude.{IsTrue};
 ghost use Rattle.elf_layout_plan.specs.Plan.{IsPlan, resized};
 ghost use Rattle.elf_layout_plan.specs.Refusals.{do_sizes_of_image_fit};
 
-use crate::Runtime;
 use crate::written::makes;
 use arwen_elf::elf::ElfContainer;
 use elf_image::Builder;
@@ -15,7 +14,7 @@ use std::io;
 
 /// Prints whether the calls that are handed a plan make these bytes of a file that was edited.
 pub(crate) fn print_planned(
-    rt: &impl Runtime,
+    rt: &HostRuntime,
     file: &ElfContainer<'_>,
     new: &[u8],
 ) -> io::Result<()> {

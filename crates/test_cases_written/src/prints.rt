@@ -1,6 +1,5 @@
 //! What the container prints of a file.
 
-use crate::Runtime;
 use crate::edits::{tell, tell_answer};
 use arwen_elf::elf::{ElfContainer, ElfError};
 use std::alloc::Global;
@@ -62,7 +61,7 @@ fn print_to(
 }
 
 /// Prints what stands on a page.
-fn print_page(rt: &impl Runtime, what: What, page: &Page) -> io::Result<()> {
+fn print_page(rt: &HostRuntime, what: What, page: &Page) -> io::Result<()> {
     let bytes: &[u8] = page.get_ref();
     let end = usize::try_from(page.position()).unwrap_or(0);
     let printed = bytes.get(..end).unwrap_or_default();
@@ -73,7 +72,7 @@ fn print_page(rt: &impl Runtime, what: What, page: &Page) -> io::Result<()> {
 }
 
 /// Prints what a print writes to a page, or why it does not.
-fn print_once(rt: &impl Runtime, file: &ElfContainer<'_>, what: What) -> io::Result<()> {
+fn print_once(rt: &HostRuntime, file: &ElfContainer<'_>, what: What) -> io::Result<()> {
     let mut page = Cursor::new([0; 32]);
     match print_to(rt.alloc(), file, what, &mut page) {
         Ok(()) => print_page(rt, what, &page),
@@ -82,7 +81,7 @@ fn print_once(rt: &impl Runtime, file: &ElfContainer<'_>, what: What) -> io::Res
 }
 
 /// Prints what each of the container's prints writes.
-pub(crate) fn print_each(rt: &impl Runtime, file: &ElfContainer<'_>) -> io::Result<()> {
+pub(crate) fn print_each(rt: &HostRuntime, file: &ElfContainer<'_>) -> io::Result<()> {
     for what in PRINTS {
         print_once(rt, file, what)?;
     }
@@ -96,7 +95,7 @@ fn print_to_little(alloc: Global, file: &ElfContainer<'_>) -> Result<(), ElfErro
 }
 
 /// Prints what comes of a print of needed libraries to a page of three bytes.
-pub(crate) fn print_little(rt: &impl Runtime, file: &ElfContainer<'_>) -> io::Result<()> {
+pub(crate) fn print_little(rt: &HostRuntime, file: &ElfContainer<'_>) -> io::Result<()> {
     match print_to_little(rt.alloc(), file) {
         Err(ElfError::Memory) => tell_answer(rt, &print_to_little(rt.alloc(), file)),
         answer => tell_answer(rt, &answer),

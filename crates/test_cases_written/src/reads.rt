@@ -1,6 +1,5 @@
 //! What the writer and the container read of a file.
 
-use crate::Runtime;
 use crate::edits::tell;
 use crate::rows::Text;
 use arwen_elf::elf::{BuilderExt, ElfContainer, ElfError, Writer};
@@ -8,7 +7,7 @@ use std::alloc::Global;
 use std::io;
 
 /// Prints what the writer and the container read.
-pub(crate) fn print_file(rt: &impl Runtime, file: &ElfContainer<'_>) -> io::Result<()> {
+pub(crate) fn print_file(rt: &HostRuntime, file: &ElfContainer<'_>) -> io::Result<()> {
     println!(rt; "{:?}", (texts(&file.inner), numbers(file)))?;
     println!(rt; "stack {:?}", stack(&file.inner))?;
     print_needed(rt, &file.inner)?;
@@ -47,7 +46,7 @@ fn stack(file: &Writer<'_>) -> (Option<u32>, Option<u32>, Option<u64>) {
     )
 }
 
-fn print_needed(rt: &impl Runtime, file: &Writer<'_>) -> io::Result<()> {
+fn print_needed(rt: &HostRuntime, file: &Writer<'_>) -> io::Result<()> {
     for text in file.elf_needed() {
         println!(rt; "needed {}", Text(text))?;
     }
@@ -62,7 +61,7 @@ fn directories(alloc: Global, file: &ElfContainer<'_>) -> Result<Vec<String>, El
     }
 }
 
-fn print_directories(rt: &impl Runtime, file: &ElfContainer<'_>) -> io::Result<()> {
+fn print_directories(rt: &HostRuntime, file: &ElfContainer<'_>) -> io::Result<()> {
     match directories(rt.alloc(), file) {
         Ok(directories) => println!(rt; "directories {directories:?}"),
         Err(error) => tell(rt, &error),

@@ -5,7 +5,7 @@ use std::{fmt, io};
 const ROW: usize = 16;
 
 /// Prints how many bytes there are, and each row of 16 that is not as it was, with its offset.
-pub fn print_rows(rt: &impl Print, before: &[u8], after: &[u8]) -> io::Result<()> {
+pub fn print_rows(rt: &HostRuntime, before: &[u8], after: &[u8]) -> io::Result<()> {
     println!(rt; "{} bytes", after.len())?;
     let mut old = before;
     let mut at = 0u64;

@@ -1,6 +1,5 @@
 //! What a writer gets of a file.
 
-use crate::Runtime;
 use crate::edits::tell;
 use crate::taker::Taker;
 use crate::words::{first, place};
@@ -24,7 +23,7 @@ fn write_again(
 
 /// Prints what comes of writing a file to a writer that takes so many bytes, and so many at a time.
 pub(crate) fn print_taken(
-    rt: &impl Runtime,
+    rt: &HostRuntime,
     file: &ElfContainer<'_>,
     words: &str,
 ) -> io::Result<()> {
@@ -36,7 +35,7 @@ pub(crate) fn print_taken(
 }
 
 /// Prints how many bytes a writer took, if they are the first ones that it wants, and what came of writing.
-fn print_answer(rt: &impl Runtime, file: &ElfContainer<'_>, taker: Taker<'_>) -> io::Result<()> {
+fn print_answer(rt: &HostRuntime, file: &ElfContainer<'_>, taker: Taker<'_>) -> io::Result<()> {
     let mut sink = Sink::new(taker);
     let answer = write_again(rt.alloc(), file, &mut sink);
     println!(rt; "{:?} {answer:?}", sink.get_ref().taken())
@@ -44,7 +43,7 @@ fn print_answer(rt: &impl Runtime, file: &ElfContainer<'_>, taker: Taker<'_>) ->
 
 /// Prints how many fronts of what is written a writer gets, and then fails, that takes no more bytes than these.
 pub(crate) fn print_fronts(
-    rt: &impl Runtime,
+    rt: &HostRuntime,
     file: &ElfContainer<'_>,
     words: &str,
 ) -> io::Result<()> {
@@ -56,7 +55,7 @@ pub(crate) fn print_fronts(
 
 /// Prints how many fronts of these bytes a writer gets, of so many bytes at a time.
 fn print_taken_fronts(
-    rt: &impl Runtime,
+    rt: &HostRuntime,
     file: &ElfContainer<'_>,
     want: &[u8],
     step: usize,

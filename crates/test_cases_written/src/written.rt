@@ -1,6 +1,5 @@
 //! The bytes of files after edits.
 
-use crate::Runtime;
 use crate::edits::tell;
 use crate::files::{put, resized, save};
 use crate::planned::print_planned;
@@ -11,7 +10,7 @@ use std::alloc::{AllocError, Global};
 use std::io;
 
 /// Prints what is written of a file, or why it is not written.
-pub(crate) fn print_written(rt: &impl Runtime, file: &ElfContainer<'_>) -> io::Result<()> {
+pub(crate) fn print_written(rt: &HostRuntime, file: &ElfContainer<'_>) -> io::Result<()> {
     println!(rt; "changed {}", file.inner.builder().changed())?;
     match image_bytes(rt.alloc(), &file.inner) {
         Ok(new) => print_new(rt, file, &new),
@@ -36,7 +35,7 @@ pub(crate) fn container_bytes(alloc: Global, file: &ElfContainer<'_>) -> Result<
 }
 
 /// Prints the rows that are written anew, and whether the pieces that differ make the same bytes. Makes the file of them.
-fn print_new(rt: &impl Runtime, file: &ElfContainer<'_>, new: &[u8]) -> io::Result<()> {
+fn print_new(rt: &HostRuntime, file: &ElfContainer<'_>, new: &[u8]) -> io::Result<()> {
     print_rows(rt, file.bytes(), new)?;
     print_difference(rt, file, new)?;
     print_planned(rt, file, new)?;
@@ -44,7 +43,7 @@ fn print_new(rt: &impl Runtime, file: &ElfContainer<'_>, new: &[u8]) -> io::Resu
 }
 
 /// Prints whether the pieces that differ make the same bytes.
-fn print_difference(rt: &impl Runtime, file: &ElfContainer<'_>, new: &[u8]) -> io::Result<()> {
+fn print_difference(rt: &HostRuntime, file: &ElfContainer<'_>, new: &[u8]) -> io::Result<()> {
     match pieces(rt.alloc(), file) {
         Ok(difference) => print_made(rt, file.bytes(), &difference, new),
         Err(error) => tell(rt, &error),
@@ -60,12 +59,7 @@ fn pieces(alloc: Global, file: &ElfContainer<'_>) -> Result<Difference, ElfError
 }
 
 /// Prints whether there are pieces, and whether they make the new bytes of the old ones.
-fn print_made(
-    rt: &impl Runtime,
-    old: &[u8],
-    difference: &Difference,
-    new: &[u8],
-) -> io::Result<()> {
+fn print_made(rt: &HostRuntime, old: &[u8], difference: &Difference, new: &[u8]) -> io::Result<()> {
     let has_pieces = !difference.pieces.is_empty();
     println!(rt;
         "pieces {has_pieces}, made {:?}",
