@@ -1,11 +1,12 @@
 //! Edits of files by the calls of their container.
 use crate::calls::call;
+use crate::named;
 use crate::paths::{answers_of, put_removed};
 use crate::shown::{put_shown, put_symbols};
-use crate::words::put_fault;
 use std::alloc::{AllocError, Global};
-use test_cases_files::elf::{ElfBatchError, ElfContainer, ElfEdit, ElfError, ModifyCause};
+use test_cases_files::elf::{ElfBatchError, ElfContainer, ElfEdit, ElfError};
 use test_cases_files::words::{edits_of, split_parts, texts_of};
+use test_cases_files::{put_no_edits, put_refused};
 
 /// How a file is edited by words.
 #[derive(Clone, Copy)]
@@ -16,6 +17,8 @@ pub(crate) enum Way {
     BatchWithSymbols,
     /// By edits, each by its own call.
     Calls,
+    /// By the call of the writer that is named, and the names of symbols and sections are shown too.
+    NamedCall,
     /// Without words: DT_RUNPATH in the place of DT_RPATH.
     UseRunpath,
     /// By prefixes, and behind a `>` what was found: its run paths shrink.
@@ -48,11 +51,13 @@ fn edit_file(
     match way {
         Way::UseRunpath => use_runpath(file, out)?,
         Way::Shrink => shrink(alloc, file, words, out)?,
+        Way::NamedCall => named::make(alloc, file, words, out)?,
         _ => edit_by_words(alloc, file, words, way, out)?,
     }
     put_shown(alloc, file, out)?;
     match way {
         Way::BatchWithSymbols => put_symbols(file, out),
+        Way::NamedCall => named::put_all_names(file, out),
         _ => Ok(()),
     }
 }
@@ -67,7 +72,7 @@ fn edit_by_words(
 ) -> Result<(), AllocError> {
     match edits_of(alloc, words) {
         Ok(edits) => edit_in_way(alloc, file, edits.as_slice(), way, out),
-        Err(error) => put_fault(&error, out),
+        Err(error) => put_no_edits(&error, out),
     }
 }
 
@@ -188,24 +193,6 @@ fn shows(alloc: Global, file: &ElfContainer<'_>, text: &str) -> Result<bool, All
 /// Puts down the line of a batch's refused edit.
 fn put_batch(batch: &ElfBatchError, out: &mut String) -> Result<(), AllocError> {
     put_refused(batch.index, &batch.fault, out)
-}
-
-/// Puts down the line of a refused edit.
-pub(crate) fn put_refused(
-    index: usize,
-    fault: &ElfError,
-    out: &mut String,
-) -> Result<(), AllocError> {
-    match fault {
-        ElfError::Memory => Err(AllocError),
-        ElfError::Modify(cause) => put_cause(index, cause, out),
-        other => writeln!(out, "edit {index} refused: {other}"),
-    }
-}
-
-/// Puts down the line of an edit against which a cause stands.
-fn put_cause(index: usize, cause: &ModifyCause, out: &mut String) -> Result<(), AllocError> {
-    writeln!(out, "edit {index} refused: {cause}")
 }
 
 /// Does each edit by its own call, up to the first that is refused, whose line is put down.

@@ -29,12 +29,11 @@ mod words;
 use files::Way;
 use std::alloc::{AllocError, Global};
 use std::io;
-use std::rt::Files;
 use test_cases_files::words::split_kind;
 use test_cases_files::{Cases, run_cases};
 
 /// Runs lines, and prints each with what comes of it.
-pub fn run<R: Files + Print + AllocGlobal>(rt: &R, lines: &str) -> io::Result<()> {
+pub fn run(rt: &HostRuntime, lines: &str) -> io::Result<()> {
     run_cases(rt, &Edits, lines)
 }
 
@@ -58,7 +57,7 @@ impl Cases for Edits {
             "!" => files::edit(alloc, bytes, words, Way::Batch, out),
             "$" => files::edit(alloc, bytes, words, Way::BatchWithSymbols, out),
             "." => files::edit(alloc, bytes, words, Way::Calls, out),
-            "s" => named::edit(alloc, bytes, words, out),
+            "s" => files::edit(alloc, bytes, words, Way::NamedCall, out),
             "u" => files::edit(alloc, bytes, words, Way::UseRunpath, out),
             "~" => files::edit(alloc, bytes, words, Way::Shrink, out),
             _ => shown::show_list(alloc, bytes, out),

@@ -1,11 +1,11 @@
 //! Edits of a list, one after the other.
 use crate::entries::{entries_of, put_list, put_text};
-use crate::words::put_fault;
 use elf_edits::abi::{abi_number, with_nul};
 use elf_edits::{Cause, Facts, NewList, cause_of, edit_list};
 use elf_image::Dynamic;
 use std::alloc::{AllocError, Global};
 use test_cases_files::elf::ElfEdit;
+use test_cases_files::put_no_edits;
 use test_cases_files::words::{edits_of, split_parts, texts_of};
 
 /// What is known of a list that stands alone.
@@ -61,7 +61,7 @@ fn edit_by_words(
 ) -> Result<(), AllocError> {
     match edits_of(alloc, words) {
         Ok(edits) => edit_all(alloc, edits.as_slice(), entries, out),
-        Err(error) => put_fault(&error, out),
+        Err(error) => put_no_edits(&error, out),
     }
 }
 

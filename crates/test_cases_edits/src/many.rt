@@ -1,11 +1,11 @@
 //! Edits of a long list.
 use crate::entries::add_text;
-use crate::words::put_fault;
 use elf_edits::edit_list;
 use elf_image::Dynamic;
 use elf_image::constants::{DT_NEEDED, DT_RUNPATH};
 use std::alloc::{AllocError, Global};
 use test_cases_files::elf::ElfEdit;
+use test_cases_files::put_no_edits;
 use test_cases_files::words::{edits_of, split_kind};
 
 /// Does each of some edits to a list of so many run paths and needed libraries.
@@ -37,7 +37,7 @@ fn edit_by_words(
 ) -> Result<(), AllocError> {
     match edits_of(alloc, words) {
         Ok(edits) => count_all(alloc, edits.as_slice(), entries, out),
-        Err(error) => put_fault(&error, out),
+        Err(error) => put_no_edits(&error, out),
     }
 }
 

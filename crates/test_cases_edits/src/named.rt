@@ -1,46 +1,36 @@
 //! Edits of symbols and sections by the calls of the writer.
 use crate::calls::put_pair;
 use crate::entries::put_text;
-use crate::files::put_refused;
-use crate::shown::{put_shown, put_symbols};
+use crate::shown::put_symbols;
 use std::alloc::{AllocError, Global};
 use std::collections::{HashMap, HashSet};
 use test_cases_files::elf::{ElfContainer, ElfError, Writer};
+use test_cases_files::put_refused;
 use test_cases_files::words::split_kind;
 
-/// Edits a file by the call that a line names, and puts down what it shows then, with the names of its symbols and sections.
-pub(crate) fn edit(
-    alloc: Global,
-    bytes: &[u8],
-    line: &str,
-    out: &mut String,
-) -> Result<(), AllocError> {
-    match ElfContainer::parse(alloc, bytes) {
-        Ok(mut file) => edit_file(alloc, &mut file, line, out),
-        Err(ElfError::Memory) => Err(AllocError),
-        Err(fault) => writeln!(out, "{fault}"),
-    }
-}
-
-/// The same of a file that was read.
-fn edit_file(
+/// Makes the call that a line names, and tells why it was refused.
+pub(crate) fn make(
     alloc: Global,
     file: &mut ElfContainer<'_>,
     line: &str,
     out: &mut String,
 ) -> Result<(), AllocError> {
-    if let Err(fault) = call_again(alloc, file, line) {
-        put_refused(0, &fault, out)?;
+    match call_again(alloc, &mut file.inner, line) {
+        Ok(()) => Ok(()),
+        Err(fault) => put_refused(0, &fault, out),
     }
-    put_shown(alloc, file, out)?;
+}
+
+/// Puts down the names of a file's symbols, and those of its sections.
+pub(crate) fn put_all_names(file: &ElfContainer<'_>, out: &mut String) -> Result<(), AllocError> {
     put_symbols(file, out)?;
     put_names(file, out)
 }
 
 /// Makes the call that a line names, again where memory was refused.
-fn call_again(alloc: Global, file: &mut ElfContainer<'_>, line: &str) -> Result<(), ElfError> {
-    match call(alloc, &mut file.inner, line) {
-        Err(ElfError::Memory) => call(alloc, &mut file.inner, line),
+fn call_again(alloc: Global, writer: &mut Writer<'_>, line: &str) -> Result<(), ElfError> {
+    match call(alloc, writer, line) {
+        Err(ElfError::Memory) => call(alloc, writer, line),
         answer => answer,
     }
 }

@@ -1,21 +1,14 @@
 //! What words are read as.
+use command_words::{KeyValueError, parse_key_val};
 use std::alloc::{AllocError, Global};
-use test_cases_files::cli::{EditsError, KeyValueError, parse_key_val};
+use test_cases_files::put_no_edits;
 use test_cases_files::words::edits_of;
 
 /// Puts down the edits that words are, or the fault.
 pub(crate) fn read_edits(alloc: Global, line: &str, out: &mut String) -> Result<(), AllocError> {
     match edits_of(alloc, line) {
         Ok(edits) => writeln!(out, "{edits:?}"),
-        Err(error) => put_fault(&error, out),
-    }
-}
-
-/// Puts down why words are no edits.
-pub(crate) fn put_fault(error: &EditsError, out: &mut String) -> Result<(), AllocError> {
-    match error {
-        EditsError::Fault(fault) => writeln!(out, "{fault}"),
-        EditsError::Memory => Err(AllocError),
+        Err(error) => put_no_edits(&error, out),
     }
 }
 

@@ -1,9 +1,8 @@
 //! Files that are read.
-use std::rt::Files;
 use std::{fs, io};
 
 /// The bytes of a file, read again where memory was refused.
-pub fn read_file<R: Files + AllocGlobal>(rt: &R, path: &str) -> io::Result<Vec<u8>> {
+pub fn read_file(rt: &HostRuntime, path: &str) -> io::Result<Vec<u8>> {
     match fs::read(rt, path) {
         Err(_) => fs::read(rt, path),
         read => read,

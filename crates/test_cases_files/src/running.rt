@@ -2,7 +2,6 @@
 use crate::files::read_file;
 use std::alloc::{AllocError, Global};
 use std::io;
-use std::rt::Files;
 
 /// What comes of lines. Where memory is refused, a line is answered once more.
 pub trait Cases {
@@ -24,11 +23,7 @@ pub trait Cases {
 
 /// Prints each line, and below it what comes of it. A line `= NAME ..` names the files that it and the lines below it
 /// speak of.
-pub fn run_cases<R: Files + Print + AllocGlobal, C: Cases>(
-    rt: &R,
-    cases: &C,
-    lines: &str,
-) -> io::Result<()> {
+pub fn run_cases<C: Cases>(rt: &HostRuntime, cases: &C, lines: &str) -> io::Result<()> {
     let mut names = "";
     for line in lines.lines() {
         if let Some(named) = line.strip_prefix("= ") {
@@ -41,12 +36,7 @@ pub fn run_cases<R: Files + Print + AllocGlobal, C: Cases>(
 }
 
 /// Prints what comes of a line.
-fn run_line<R: Files + Print + AllocGlobal, C: Cases>(
-    rt: &R,
-    cases: &C,
-    names: &str,
-    line: &str,
-) -> io::Result<()> {
+fn run_line<C: Cases>(rt: &HostRuntime, cases: &C, names: &str, line: &str) -> io::Result<()> {
     if !cases.is_on_files(line) {
         return run_alone(rt, cases, line);
     }
@@ -57,7 +47,7 @@ fn run_line<R: Files + Print + AllocGlobal, C: Cases>(
 }
 
 /// Prints what comes of a line that speaks of no file.
-fn run_alone<R: Print + AllocGlobal, C: Cases>(rt: &R, cases: &C, line: &str) -> io::Result<()> {
+fn run_alone<C: Cases>(rt: &HostRuntime, cases: &C, line: &str) -> io::Result<()> {
     let mut out = String::new(rt.alloc());
     answer_again(rt.alloc(), cases, line, &mut out)?;
     print!(rt; "{out}")
@@ -78,24 +68,14 @@ fn answer_again<C: Cases>(
 }
 
 /// Prints what comes of a line for a file.
-fn run_on_file<R: Files + Print + AllocGlobal, C: Cases>(
-    rt: &R,
-    cases: &C,
-    name: &str,
-    line: &str,
-) -> io::Result<()> {
+fn run_on_file<C: Cases>(rt: &HostRuntime, cases: &C, name: &str, line: &str) -> io::Result<()> {
     let bytes = read_file(rt, name)?;
     print!(rt; "{name}: ")?;
     run_on_bytes(rt, cases, bytes.as_slice(), line)
 }
 
 /// Prints what comes of a line for a file of these bytes.
-fn run_on_bytes<R: Print + AllocGlobal, C: Cases>(
-    rt: &R,
-    cases: &C,
-    bytes: &[u8],
-    line: &str,
-) -> io::Result<()> {
+fn run_on_bytes<C: Cases>(rt: &HostRuntime, cases: &C, bytes: &[u8], line: &str) -> io::Result<()> {
     let mut out = String::new(rt.alloc());
     answer_on_file_again(rt.alloc(), cases, bytes, line, &mut out)?;
     print!(rt; "{out}")

@@ -1,7 +1,8 @@
 //! The words of a line. Blanks stand between words, and `''` is the empty word. In words that are read by their marks `~`
 //! stands for a NUL and `^` for a blank.
-use arwen_cli::cli::{EditsError, parse_elf_edits, plain_edits};
-use arwen_cli::elf::ElfEdit;
+use arwen_elf::elf::ElfEdit;
+use command_words::EditsError;
+use elf_commands::{parse_elf_edits, plain_edits};
 use std::alloc::{AllocError, Global};
 
 /// The first word of a line, which says what kind of line it is, and what stands behind the blank.

@@ -2,7 +2,7 @@
 ghost use Rattle.std.specs.Prelude.{◌≡◌};
 ghost use Rattle.elf_layout_plan.specs.Refusals.{sizes_of_image};
 
-use crate::lines::put_plan;
+use crate::plans::lines::put_plan;
 use elf_image::Builder;
 use elf_layout::{LayoutFault, find_move_sections, move_sections, sizes_of};
 use std::alloc::{AllocError, Global};

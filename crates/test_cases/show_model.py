@@ -1,7 +1,7 @@
 #!/usr/bin/env python3
 """Prints what the program is to print: a second, plain reader of the sample files.
 
-Run in this folder: python3 model.py > stdout
+Run in this folder: python3 show_model.py; it prints the part of `stdout` below the heading `show/files`
 """
 import hashlib
 import json
@@ -203,7 +203,7 @@ def json_line(name, told):
 
 def main():
     shown, refused = [], []
-    with open('data/cases') as cases:
+    with open('data/show/files') as cases:
         names = cases.read().split()
     for name in names:
         if name in REFUSED:

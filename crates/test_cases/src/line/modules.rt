@@ -1,15 +1,9 @@
 //! Commands for ELF files, each done by the function of its own module.
 
-use std::rt::Files;
-use test_cases_files::cli::{
-    ArwenError, Command, ElfCommand, ElfCommandError, elf, macho_execute, show,
-};
+use arwen_cli::cli::{ArwenError, Command, ElfCommand, ElfCommandError, elf, macho_execute, show};
 
 /// Does what a command asks.
-pub(crate) fn execute<R: Files + Print + Eprint + AllocGlobal>(
-    rt: &R,
-    command: Command,
-) -> Result<(), ArwenError> {
+pub(crate) fn execute(rt: &HostRuntime, command: Command) -> Result<(), ArwenError> {
     match command {
         Command::Macho(command) => Ok(macho_execute(rt, command)?),
         Command::Elf(command) => Ok(execute_mark(rt, command)?),
@@ -18,10 +12,7 @@ pub(crate) fn execute<R: Files + Print + Eprint + AllocGlobal>(
 }
 
 /// One of those that take a path alone and edit the file, or another.
-fn execute_mark<R: Files + Print + Eprint + AllocGlobal>(
-    rt: &R,
-    command: ElfCommand,
-) -> Result<(), ElfCommandError> {
+fn execute_mark(rt: &HostRuntime, command: ElfCommand) -> Result<(), ElfCommandError> {
     match command {
         ElfCommand::AddDebugTag(args) => elf::add_debug_tag::execute(rt, args),
         ElfCommand::ClearExecStack(args) => elf::clear_execstack::execute(rt, args),
@@ -34,10 +25,7 @@ fn execute_mark<R: Files + Print + Eprint + AllocGlobal>(
 }
 
 /// One of those that take a value, or another.
-fn execute_value<R: Files + Print + Eprint + AllocGlobal>(
-    rt: &R,
-    command: ElfCommand,
-) -> Result<(), ElfCommandError> {
+fn execute_value(rt: &HostRuntime, command: ElfCommand) -> Result<(), ElfCommandError> {
     match command {
         ElfCommand::AddRpath(args) => elf::add_rpath::execute(rt, args),
         ElfCommand::SetRpath(args) => elf::set_rpath::execute(rt, args),
@@ -51,10 +39,7 @@ fn execute_value<R: Files + Print + Eprint + AllocGlobal>(
 }
 
 /// One of those that take any number of words, or another.
-fn execute_words<R: Files + Print + Eprint + AllocGlobal>(
-    rt: &R,
-    command: ElfCommand,
-) -> Result<(), ElfCommandError> {
+fn execute_words(rt: &HostRuntime, command: ElfCommand) -> Result<(), ElfCommandError> {
     match command {
         ElfCommand::AddNeeded(args) => elf::add_needed::execute(rt, args),
         ElfCommand::RemoveNeeded(args) => elf::remove_needed::execute(rt, args),
@@ -71,10 +56,7 @@ fn execute_words<R: Files + Print + Eprint + AllocGlobal>(
 }
 
 /// One of those that print; any other is done by the function for all of them.
-fn execute_print<R: Files + Print + Eprint + AllocGlobal>(
-    rt: &R,
-    command: ElfCommand,
-) -> Result<(), ElfCommandError> {
+fn execute_print(rt: &HostRuntime, command: ElfCommand) -> Result<(), ElfCommandError> {
     match command {
         ElfCommand::PrintRpath(args) => elf::print_rpath::execute(rt, args),
         ElfCommand::PrintNeeded(args) => elf::print_needed::execute(rt, args),

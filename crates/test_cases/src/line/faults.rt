@@ -1,11 +1,10 @@
 //! What is printed of an answer.
+use arwen_cli::cli::{ArwenError, fault_line};
 use std::alloc::AllocError;
 use std::io;
-use std::rt::Files;
-use test_cases_files::cli::{ArwenError, fault_line};
 
 /// Prints the status, and the first line of a fault.
-pub(crate) fn tell_answer<R: Print, T>(rt: &R, answer: &Result<T, ArwenError>) -> io::Result<()> {
+pub(crate) fn tell_answer<T>(rt: &HostRuntime, answer: &Result<T, ArwenError>) -> io::Result<()> {
     match answer {
         Ok(_) => println!(rt; "status 0"),
         Err(error) => tell(rt, error),
@@ -13,8 +12,8 @@ pub(crate) fn tell_answer<R: Print, T>(rt: &R, answer: &Result<T, ArwenError>) -
 }
 
 /// Prints the status, and the first line of a fault of a line's words, with the file that they name.
-pub(crate) fn tell_named<R: Files + Print + AllocGlobal>(
-    rt: &R,
+pub(crate) fn tell_named(
+    rt: &HostRuntime,
     words: &[&str],
     answer: &Result<(), ArwenError>,
 ) -> io::Result<()> {
@@ -25,11 +24,7 @@ pub(crate) fn tell_named<R: Files + Print + AllocGlobal>(
 }
 
 /// Prints the status after such a fault, and its first line.
-fn tell_fault<R: Files + Print + AllocGlobal>(
-    rt: &R,
-    words: &[&str],
-    error: &ArwenError,
-) -> io::Result<()> {
+fn tell_fault(rt: &HostRuntime, words: &[&str], error: &ArwenError) -> io::Result<()> {
     match named_line(rt, words, error) {
         Ok(line) => println!(rt; "status {}: {}", error.status(), first_line(&line)),
         Err(_) => tell(rt, error),
@@ -37,11 +32,7 @@ fn tell_fault<R: Files + Print + AllocGlobal>(
 }
 
 /// The line of such a fault, made again where memory was refused.
-fn named_line<R: Files + AllocGlobal>(
-    rt: &R,
-    words: &[&str],
-    error: &ArwenError,
-) -> Result<String, AllocError> {
+fn named_line(rt: &HostRuntime, words: &[&str], error: &ArwenError) -> Result<String, AllocError> {
     match fault_line(rt, words, error) {
         Err(_) => fault_line(rt, words, error),
         line => line,
@@ -49,7 +40,7 @@ fn named_line<R: Files + AllocGlobal>(
 }
 
 /// Prints the status after a fault, and its first line.
-pub(crate) fn tell<R: Print>(rt: &R, error: &ArwenError) -> io::Result<()> {
+pub(crate) fn tell(rt: &HostRuntime, error: &ArwenError) -> io::Result<()> {
     let status = error.status();
     match error {
         ArwenError::Line { text, .. } => println!(rt; "status {status}: {}", first_line(text)),

@@ -1,25 +1,25 @@
-//! Prints what is told of each file that the file `cases` names: its lines, and its line of JSON. Of a file that is refused
-//! it prints the error. Then all of them are shown at once, with one that isn't there: what each writer got, and the answer.
-#![tactic(auto)]
-
-use arwen_cli_show::{ShowCommandError, Style, show_bytes, show_paths};
+//! What is told of files, whose names are the lines.
+//!
+//! Printed is of each file what stands in its lines, and its line of JSON; of a file that is refused the error. Then all of
+//! them are shown at once, with one that isn't there: what each writer got, and the answer.
+use arwen_cli::cli::show::{ShowCommandError, Style, show_bytes, show_paths};
 use byte_store::RuntimeFiles;
 use std::alloc::AllocError;
+use std::io;
 use std::io::Write;
-use std::{fs, io};
+use test_cases_files::read_file;
 
-fn main(rt: HostRuntime) -> io::Result<()> {
-    let names = fs::read_to_string(&rt, "cases")?;
+/// Runs lines.
+pub(crate) fn run(rt: &HostRuntime, names: &str) -> io::Result<()> {
     for name in names.lines() {
-        show_file(&rt, name)?;
+        show_file(rt, name)?;
     }
-    let paths = paths_of(&rt, names.as_str())?;
-    show_all(&rt, paths.as_slice())
+    show_names(rt, names)
 }
 
 /// Prints what is told of a file, in both styles.
 fn show_file(rt: &HostRuntime, name: &str) -> io::Result<()> {
-    let bytes = fs::read(rt, name)?;
+    let bytes = read_file(rt, name)?;
     show(rt, name, bytes.as_slice(), Style::Lines)?;
     show(rt, name, bytes.as_slice(), Style::Json)
 }
@@ -41,6 +41,12 @@ fn paths_of(rt: &HostRuntime, names: &str) -> Result<Vec<String>, AllocError> {
     }
     paths.push(String::from_str(rt.alloc(), "missing")?)?;
     Ok(paths)
+}
+
+/// Shows the files that lines name.
+fn show_names(rt: &HostRuntime, names: &str) -> io::Result<()> {
+    let paths = paths_of(rt, names)?;
+    show_all(rt, paths.as_slice())
 }
 
 /// Shows files, each in a line of JSON, and prints what each writer got, and the answer.

@@ -1,18 +1,14 @@
 //! The words of a line, and the command that they mean.
-use crate::bytes;
-use crate::faults::tell;
-use crate::notes::print_notes;
+use crate::line::bytes;
+use crate::line::faults::tell;
+use crate::line::notes::print_notes;
+use arwen_cli::cli::{ArwenError, Command, parse_line};
 use std::alloc::AllocError;
 use std::io;
-use std::rt::Files;
-use test_cases_files::cli::{ArwenError, Command, parse_line};
 use test_cases_files::words::split_words;
 
 /// The words of a line, split again where memory was refused.
-pub(crate) fn words_of<'a, R: AllocGlobal>(
-    rt: &R,
-    line: &'a str,
-) -> Result<Vec<&'a str>, AllocError> {
+pub(crate) fn words_of<'a>(rt: &HostRuntime, line: &'a str) -> Result<Vec<&'a str>, AllocError> {
     match split_words(rt.alloc(), line, ' ') {
         Err(_) => split_words(rt.alloc(), line, ' '),
         words => words,
@@ -20,7 +16,7 @@ pub(crate) fn words_of<'a, R: AllocGlobal>(
 }
 
 /// The command that words mean, read again where memory was refused.
-pub(crate) fn command_of<R: AllocGlobal>(rt: &R, words: &[&str]) -> Result<Command, ArwenError> {
+pub(crate) fn command_of(rt: &HostRuntime, words: &[&str]) -> Result<Command, ArwenError> {
     match parse_line(rt.alloc(), words) {
         Err(ArwenError::Memory) => parse_line(rt.alloc(), words),
         answer => answer,
@@ -43,24 +39,20 @@ pub(crate) enum Use {
 }
 
 /// The command that the words of a line mean.
-fn line_command<R: AllocGlobal>(rt: &R, line: &str) -> Result<Command, ArwenError> {
+fn line_command(rt: &HostRuntime, line: &str) -> Result<Command, ArwenError> {
     let words = words_of(rt, line)?;
     command_of(rt, words.as_slice())
 }
 
 /// Reads the words of a line, and uses the command that they mean.
-pub(crate) fn read<R: Files + Print + AllocGlobal>(
-    rt: &R,
-    line: &str,
-    for_use: Use,
-) -> io::Result<()> {
+pub(crate) fn read(rt: &HostRuntime, line: &str, for_use: Use) -> io::Result<()> {
     let command = line_command(rt, line);
     use_line(rt, &command, for_use)
 }
 
 /// Uses a command, or the answer to words that mean none.
-fn use_line<R: Files + Print + AllocGlobal>(
-    rt: &R,
+fn use_line(
+    rt: &HostRuntime,
     command: &Result<Command, ArwenError>,
     for_use: Use,
 ) -> io::Result<()> {
@@ -71,11 +63,7 @@ fn use_line<R: Files + Print + AllocGlobal>(
 }
 
 /// Uses a command.
-fn use_command<R: Files + Print + AllocGlobal>(
-    rt: &R,
-    command: &Command,
-    for_use: Use,
-) -> io::Result<()> {
+fn use_command(rt: &HostRuntime, command: &Command, for_use: Use) -> io::Result<()> {
     match for_use {
         Use::Show => println!(rt; "{command:?}"),
         Use::ShowNotes => print_notes(rt, command),
@@ -86,7 +74,7 @@ fn use_command<R: Files + Print + AllocGlobal>(
 }
 
 /// Prints the answer to words that mean no command: all of its text, or the status and its first line.
-fn use_answer<R: Print>(rt: &R, error: &ArwenError, for_use: Use) -> io::Result<()> {
+fn use_answer(rt: &HostRuntime, error: &ArwenError, for_use: Use) -> io::Result<()> {
     match (for_use, error) {
         (Use::ShowText, ArwenError::Line { text, status }) => {
             print!(rt; "status {status}:\n{text}")

@@ -1,7 +1,7 @@
 //! Edits of a file by words.
-use crate::compared::compare_image;
+use crate::layouts::compared::compare_image;
+use arwen_elf::elf::{ElfError, Writer};
 use std::alloc::{AllocError, Global};
-use test_cases_files::elf::{ElfError, Writer};
 
 /// Edits a file by words, and lays it out both ways.
 pub(crate) fn compare(

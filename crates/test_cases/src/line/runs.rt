@@ -1,11 +1,10 @@
 //! Lines that are run on a file.
-use crate::changes::print_changes;
-use crate::faults::tell_named;
-use crate::reading::{command_of, words_of};
-use crate::{library, modules};
-use std::rt::Files;
+use crate::line::changes::print_changes;
+use crate::line::faults::tell_named;
+use crate::line::reading::{command_of, words_of};
+use crate::line::{library, modules};
+use arwen_cli::cli::{ArwenError, execute};
 use std::{fs, io};
-use test_cases_files::cli::{ArwenError, execute};
 
 /// The file that lines are run on.
 const FILE: &str = "file";
@@ -22,7 +21,7 @@ pub(crate) enum Way {
 }
 
 /// The bytes of a file, or `None` where there is no such file. Read again where memory was refused.
-fn content<R: Files + AllocGlobal>(rt: &R, path: &str) -> io::Result<Option<Vec<u8>>> {
+fn content(rt: &HostRuntime, path: &str) -> io::Result<Option<Vec<u8>>> {
     match fs::read(rt, path) {
         Ok(bytes) => Ok(Some(bytes)),
         Err(error) if error.kind() == io::ErrorKind::NotFound => Ok(None),
@@ -31,12 +30,12 @@ fn content<R: Files + AllocGlobal>(rt: &R, path: &str) -> io::Result<Option<Vec<
 }
 
 /// The bytes of the file, none where there is no file.
-pub(crate) fn file_bytes<R: Files + AllocGlobal>(rt: &R) -> io::Result<Vec<u8>> {
+pub(crate) fn file_bytes(rt: &HostRuntime) -> io::Result<Vec<u8>> {
     Ok(content(rt, FILE)?.unwrap_or(Vec::new(rt.alloc())))
 }
 
 /// Makes the file a copy of another, or takes it away where there is no other.
-pub(crate) fn copy<R: Files + AllocGlobal>(rt: &R, name: &str) -> io::Result<()> {
+pub(crate) fn copy(rt: &HostRuntime, name: &str) -> io::Result<()> {
     match content(rt, name)? {
         Some(bytes) => fs::write(rt, FILE, bytes.as_slice()),
         None => remove(rt),
@@ -44,7 +43,7 @@ pub(crate) fn copy<R: Files + AllocGlobal>(rt: &R, name: &str) -> io::Result<()>
 }
 
 /// Takes the file away, where there is one.
-fn remove<R: Files + AllocGlobal>(rt: &R) -> io::Result<()> {
+fn remove(rt: &HostRuntime) -> io::Result<()> {
     match fs::remove_file(rt, FILE) {
         Err(error) if error.kind() == io::ErrorKind::NotFound => Ok(()),
         answer => answer,
@@ -52,33 +51,19 @@ fn remove<R: Files + AllocGlobal>(rt: &R) -> io::Result<()> {
 }
 
 /// Does what the words of a line ask, and prints what came of it and of the file.
-pub(crate) fn run<R: Files + Print + Eprint + AllocGlobal>(
-    rt: &R,
-    line: &str,
-    way: Way,
-) -> io::Result<()> {
+pub(crate) fn run(rt: &HostRuntime, line: &str, way: Way) -> io::Result<()> {
     let before = content(rt, FILE)?;
     run_from(rt, line, way, &before)
 }
 
 /// Does it, where the file was read before.
-fn run_from<R: Files + Print + Eprint + AllocGlobal>(
-    rt: &R,
-    line: &str,
-    way: Way,
-    before: &Option<Vec<u8>>,
-) -> io::Result<()> {
+fn run_from(rt: &HostRuntime, line: &str, way: Way, before: &Option<Vec<u8>>) -> io::Result<()> {
     run_line(rt, line, way, before)?;
     print_file(rt, before)
 }
 
 /// Does what the words of a line ask, and prints the status and the fault.
-fn run_line<R: Files + Print + Eprint + AllocGlobal>(
-    rt: &R,
-    line: &str,
-    way: Way,
-    before: &Option<Vec<u8>>,
-) -> io::Result<()> {
+fn run_line(rt: &HostRuntime, line: &str, way: Way, before: &Option<Vec<u8>>) -> io::Result<()> {
     let words = match words_of(rt, line) {
         Ok(words) => words,
         Err(_) => return println!(rt; "no memory for the words"),
@@ -88,14 +73,14 @@ fn run_line<R: Files + Print + Eprint + AllocGlobal>(
 }
 
 /// Prints what became of the file.
-fn print_file<R: Files + Print + AllocGlobal>(rt: &R, before: &Option<Vec<u8>>) -> io::Result<()> {
+fn print_file(rt: &HostRuntime, before: &Option<Vec<u8>>) -> io::Result<()> {
     let after = content(rt, FILE)?;
     print_changes(rt, before, &after)
 }
 
 /// Does what words ask, once more where memory was refused.
-fn answer<R: Files + Print + Eprint + AllocGlobal>(
-    rt: &R,
+fn answer(
+    rt: &HostRuntime,
     words: &[&str],
     way: Way,
     before: &Option<Vec<u8>>,
@@ -107,8 +92,8 @@ fn answer<R: Files + Print + Eprint + AllocGlobal>(
 }
 
 /// Does it once more; the file has to be as it was.
-fn answer_again<R: Files + Print + Eprint + AllocGlobal>(
-    rt: &R,
+fn answer_again(
+    rt: &HostRuntime,
     words: &[&str],
     way: Way,
     before: &Option<Vec<u8>>,
@@ -118,14 +103,14 @@ fn answer_again<R: Files + Print + Eprint + AllocGlobal>(
 }
 
 /// Says so where a command that was refused memory did not leave the file as it was.
-fn check_file<R: Files + Print + AllocGlobal>(rt: &R, before: &Option<Vec<u8>>) -> io::Result<()> {
+fn check_file(rt: &HostRuntime, before: &Option<Vec<u8>>) -> io::Result<()> {
     let after = content(rt, FILE)?;
     check_same(rt, before, &after)
 }
 
 /// Says so where two contents differ.
-fn check_same<R: Print>(
-    rt: &R,
+fn check_same(
+    rt: &HostRuntime,
     before: &Option<Vec<u8>>,
     after: &Option<Vec<u8>>,
 ) -> io::Result<()> {
@@ -136,11 +121,7 @@ fn check_same<R: Print>(
 }
 
 /// Does what words ask.
-fn execute_in_way<R: Files + Print + Eprint + AllocGlobal>(
-    rt: &R,
-    words: &[&str],
-    way: Way,
-) -> Result<(), ArwenError> {
+fn execute_in_way(rt: &HostRuntime, words: &[&str], way: Way) -> Result<(), ArwenError> {
     match way {
         Way::Line => execute(rt, words),
         Way::Module => execute_by_module(rt, words),
@@ -149,9 +130,6 @@ fn execute_in_way<R: Files + Print + Eprint + AllocGlobal>(
 }
 
 /// Does it by the module of its command.
-fn execute_by_module<R: Files + Print + Eprint + AllocGlobal>(
-    rt: &R,
-    words: &[&str],
-) -> Result<(), ArwenError> {
+fn execute_by_module(rt: &HostRuntime, words: &[&str]) -> Result<(), ArwenError> {
     modules::execute(rt, command_of(rt, words)?)
 }

@@ -1,19 +1,15 @@
 //! The notes of commands on files, which stay as they are.
-use crate::faults::tell;
+use crate::line::faults::tell;
+use arwen_cli::cli::{
+    ArwenError, Command, ElfCommand, MachoCommand, Notes, Signing, edit_path, patch_path,
+};
 use byte_store::MemoryFile;
 use std::alloc::Global;
 use std::io;
-use std::rt::Files;
-use test_cases_files::cli::{
-    ArwenError, Command, ElfCommand, MachoCommand, Notes, Signing, edit_path, patch_path,
-};
 use test_cases_files::read_file;
 
 /// Prints the notes of a command, done to a copy of the bytes of its file, or the fault.
-pub(crate) fn print_notes<R: Files + Print + AllocGlobal>(
-    rt: &R,
-    command: &Command,
-) -> io::Result<()> {
+pub(crate) fn print_notes(rt: &HostRuntime, command: &Command) -> io::Result<()> {
     match notes_again(rt, command) {
         Ok(notes) if notes.is_empty() => println!(rt; "no notes"),
         Ok(notes) => print!(rt; "{notes}"),
@@ -22,7 +18,7 @@ pub(crate) fn print_notes<R: Files + Print + AllocGlobal>(
 }
 
 /// The notes of a command, made again where memory was refused.
-fn notes_again<R: Files + AllocGlobal>(rt: &R, command: &Command) -> Result<String, ArwenError> {
+fn notes_again(rt: &HostRuntime, command: &Command) -> Result<String, ArwenError> {
     match notes_of(rt, command) {
         Err(ArwenError::Memory) => notes_of(rt, command),
         answer => answer,
@@ -30,7 +26,7 @@ fn notes_again<R: Files + AllocGlobal>(rt: &R, command: &Command) -> Result<Stri
 }
 
 /// The notes of a command.
-fn notes_of<R: Files + AllocGlobal>(rt: &R, command: &Command) -> Result<String, ArwenError> {
+fn notes_of(rt: &HostRuntime, command: &Command) -> Result<String, ArwenError> {
     match command {
         Command::Macho(command) => macho_notes(rt, command),
         Command::Elf(command) => elf_notes(rt, command),
@@ -39,10 +35,7 @@ fn notes_of<R: Files + AllocGlobal>(rt: &R, command: &Command) -> Result<String,
 }
 
 /// Those of a command for Mach-O files.
-fn macho_notes<R: Files + AllocGlobal>(
-    rt: &R,
-    command: &MachoCommand,
-) -> Result<String, ArwenError> {
+fn macho_notes(rt: &HostRuntime, command: &MachoCommand) -> Result<String, ArwenError> {
     let path = command.path_to_binary();
     let bytes = read_file(rt, path)?;
     let file = file_at(rt.alloc(), path, bytes.as_slice());
@@ -51,7 +44,7 @@ fn macho_notes<R: Files + AllocGlobal>(
 }
 
 /// Those of a command for ELF files.
-fn elf_notes<R: Files + AllocGlobal>(rt: &R, command: &ElfCommand) -> Result<String, ArwenError> {
+fn elf_notes(rt: &HostRuntime, command: &ElfCommand) -> Result<String, ArwenError> {
     let path = command.path_to_binary();
     let bytes = read_file(rt, path)?;
     let file = file_at(rt.alloc(), path, bytes.as_slice());

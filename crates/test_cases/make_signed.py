@@ -1,7 +1,7 @@
 #!/usr/bin/env python3
 """Makes the signed Mach-O files among the sample files: small libraries of 64-byte pages, with signatures of each kind.
 
-Run in this folder: python3 make.py
+Run in this folder: python3 make_signed.py
 """
 import hashlib
 import struct

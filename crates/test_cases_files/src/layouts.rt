@@ -4,18 +4,15 @@
 //! begins with `#` is a row of edits, WORD or WORD=NUMBER: `path`, `name` and `interpreter` set a text of so many letters,
 //! `debug` adds an entry, `stack` sets the permission of the stack, `page` the page size. Printed is for each file whether
 //! both ways found the same.
-#![tactic(auto)]
-
 mod compared;
 mod edits;
 
+use crate::{Cases, run_cases};
 use std::alloc::{AllocError, Global};
 use std::io;
-use std::rt::Files;
-use test_cases_files::{Cases, run_cases};
 
 /// Runs lines, and prints each with what comes of it.
-pub fn run<R: Files + Print + AllocGlobal>(rt: &R, lines: &str) -> io::Result<()> {
+pub fn run(rt: &HostRuntime, lines: &str) -> io::Result<()> {
     run_cases(rt, &Layouts, lines)
 }
 

@@ -15,8 +15,6 @@
 //!   printed of words.
 //!
 //! Blanks stand between words, and `''` is the empty word. Nothing comes of other lines.
-#![tactic(auto)]
-
 mod bytes;
 mod changes;
 mod faults;
@@ -29,11 +27,10 @@ mod runs;
 use reading::Use;
 use runs::Way;
 use std::io;
-use std::rt::Files;
 use test_cases_files::words::split_kind;
 
 /// Runs lines, and prints each with what comes of it.
-pub fn run<R: Files + Print + Eprint + AllocGlobal>(rt: &R, lines: &str) -> io::Result<()> {
+pub fn run(rt: &HostRuntime, lines: &str) -> io::Result<()> {
     for line in lines.lines() {
         println!(rt; "{line}")?;
         step(rt, line)?;
@@ -42,7 +39,7 @@ pub fn run<R: Files + Print + Eprint + AllocGlobal>(rt: &R, lines: &str) -> io::
 }
 
 /// Prints what comes of a line.
-fn step<R: Files + Print + Eprint + AllocGlobal>(rt: &R, line: &str) -> io::Result<()> {
+fn step(rt: &HostRuntime, line: &str) -> io::Result<()> {
     let (kind, words) = split_kind(line);
     match kind {
         "=" => runs::copy(rt, words),

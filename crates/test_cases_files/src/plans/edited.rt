@@ -1,12 +1,12 @@
 //! The plan of a file after edits.
-use crate::lines::put_plan;
-use crate::steps::{put_fault, put_steps};
+use crate::plans::lines::put_plan;
+use crate::plans::steps::{put_fault, put_steps};
+use crate::refused::{put_no_edits, put_refused};
+use crate::words::edits_of;
+use arwen_elf::elf::{ElfEdit, ElfError, Writer};
 use elf_image::Builder;
 use elf_layout::lay_out;
 use std::alloc::{AllocError, Global};
-use test_cases_files::cli::EditsError;
-use test_cases_files::elf::{ElfBatchError, ElfEdit, ElfError, ModifyCause, Writer};
-use test_cases_files::words::edits_of;
 
 /// What is put down of an edited file.
 #[derive(Clone, Copy)]
@@ -45,8 +45,7 @@ fn edit(
     }
     match edits_of(alloc, words) {
         Ok(edits) => apply(alloc, file, edits.as_slice(), shown, out),
-        Err(EditsError::Fault(fault)) => writeln!(out, "{fault}"),
-        Err(EditsError::Memory) => Err(AllocError),
+        Err(error) => put_no_edits(&error, out),
     }
 }
 
@@ -60,23 +59,8 @@ fn apply(
 ) -> Result<(), AllocError> {
     match file.apply(alloc, edits) {
         Ok(()) => put_image(alloc, file.builder(), shown, out),
-        Err(batch) => put_refused(&batch, out),
+        Err(batch) => put_refused(batch.index, &batch.fault, out),
     }
-}
-
-/// Puts down the line of a refused edit.
-fn put_refused(batch: &ElfBatchError, out: &mut String) -> Result<(), AllocError> {
-    let index = batch.index;
-    match &batch.fault {
-        ElfError::Memory => Err(AllocError),
-        ElfError::Modify(cause) => put_cause(index, cause, out),
-        other => writeln!(out, "edit {index} refused: {other}"),
-    }
-}
-
-/// Puts down the line of an edit against which a cause stands.
-fn put_cause(index: usize, cause: &ModifyCause, out: &mut String) -> Result<(), AllocError> {
-    writeln!(out, "edit {index} refused: {cause}")
 }
 
 /// Puts down what is asked for of an image.

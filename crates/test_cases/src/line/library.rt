@@ -1,16 +1,11 @@
 //! The library as a caller uses it: a file is read, edited in a batch, and written.
+use arwen_cli::cli::ArwenError;
+use arwen_cli::macho::{MachoContainer, MachoEdit};
 use std::alloc::{AllocError, Global};
 use std::fs;
-use std::rt::Files;
-use test_cases_files::cli::ArwenError;
-use test_cases_files::macho::{MachoContainer, MachoEdit};
 
 /// Gives a library a further run path and another install id: both, or neither where one is refused.
-pub(crate) fn relocate<R: Files + AllocGlobal>(
-    rt: &R,
-    path: &str,
-    words: &[&str],
-) -> Result<(), ArwenError> {
+pub(crate) fn relocate(rt: &HostRuntime, path: &str, words: &[&str]) -> Result<(), ArwenError> {
     let bytes = fs::read(rt, path)?;
     let new = relocated(rt.alloc(), bytes, words)?;
     Ok(fs::write(rt, path, new.as_slice())?)

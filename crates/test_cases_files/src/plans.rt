@@ -13,21 +13,18 @@
 //! and with two; and the plan by these sizes.
 //!
 //! Words are read by their marks. Nothing comes of other lines.
-#![tactic(auto)]
-
+mod edited;
 mod lines;
-mod plans;
 mod steps;
 
-use crate::plans::Shown;
+use crate::plans::edited::Shown;
+use crate::words::split_kind;
+use crate::{Cases, run_cases};
 use std::alloc::{AllocError, Global};
 use std::io;
-use std::rt::Files;
-use test_cases_files::words::split_kind;
-use test_cases_files::{Cases, run_cases};
 
 /// Runs lines, and prints each with what comes of it.
-pub fn run<R: Files + Print + AllocGlobal>(rt: &R, lines: &str) -> io::Result<()> {
+pub fn run(rt: &HostRuntime, lines: &str) -> io::Result<()> {
     run_cases(rt, &PlanCases, lines)
 }
 
@@ -48,7 +45,7 @@ impl Cases for PlanCases {
     ) -> Result<(), AllocError> {
         let (kind, words) = split_kind(line);
         match shown_by(kind) {
-            Some(shown) => plans::show(alloc, bytes, shown, words, out),
+            Some(shown) => edited::show(alloc, bytes, shown, words, out),
             None => Ok(()),
         }
     }
