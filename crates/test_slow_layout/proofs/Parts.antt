@@ -1,8 +1,8 @@
 -- Parts of sections, one behind the other.
-use Rattle.std.proofs.Common.{◌≡◌, ℕ, zero, suc, ◌+◌, ◌<◌, ◌⊎◌, List, [], ◌∷◌, ◌++◌, get_or, length, sym, ap, ◌∙◌, inl, inr, Some, arith}
+use Rattle.std.proofs.Common.{◌≡◌, ℕ, zero, suc, ◌+◌, ◌<◌, ◌⊎◌, List, [], ◌∷◌, ◌++◌, get_or, length, sym, ap, ◌∙◌, inl, inr, Some, arith, take}
 use Rattle.std.specs.Prelude.{map, option_map, slice_get, slice_index, unwrap_or}
 use Rattle.std.proofs.Math.Seq.{get_or-append_seam}
-use Rattle.std.proofs.lemmas.List.{get_or_append_left, length-append}
+use Rattle.std.proofs.lemmas.List.{get_or_append_left, length-append, map_more, map_push}
 use Rattle.std.proofs.lemmas.Option.{same_Some, slice_get-get_or, slice_get-map}
 use Rattle.elf_format.specs.Image.{Image, ImageSection}
 use Rattle.test_slow_layout.specs.declared.plain.Part.{Part}
@@ -46,3 +46,13 @@ parts_more {A} kept image sizes sections old new i number size x p many within i
           ∙ ap (λ (n : ℕ). Some (part_at image sizes n (kept x))) (sym last)
           ∙ ap (λ (t : ImageSection). Some (part_at image sizes j t)) (sym own)
     ]
+
+-- what is told of the first values in two steps, and of one more, is told of all
+pub pieces_more : {A B C : Type 0} (f : B → C) (g : A → B) (xs : List A) (i : ℕ) (d : A) (old new : List C) (p : C)
+    → i < length xs → old ≡ map f (map g (take i xs)) → p ≡ f (g (get_or xs i d)) → new ≡ old ++ p ∷ [] → new ≡ map f (map g (take (i + 1) xs))
+pieces_more {A} {B} {C} f g xs i d old new p within before is grown =
+    grown
+    ∙ ap (λ (l : List C). l ++ p ∷ []) before
+    ∙ ap (λ (q : C). map f (map g (take i xs)) ++ q ∷ []) is
+    ∙ sym (map_push f (map g (take i xs)) (g (get_or xs i d)))
+    ∙ ap (λ (l : List B). map f l) (sym (map_more g xs i d within))
