@@ -1,4 +1,5 @@
 pub mod NotingLaws
+pub mod FrontLaws
 pub mod Outcomes
 pub mod StoreLaws
 pub mod SigningLaws

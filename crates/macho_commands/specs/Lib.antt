@@ -3,6 +3,7 @@ pub mod Engine
 pub mod Errors
 pub mod Failures
 pub mod Fitting
+pub mod Loading
 pub mod Meaning
 pub mod Notes
 pub mod Refusing
