@@ -1,8 +1,9 @@
 //! Tables of fat files: which are accepted, and what they show.
 
-use crate::support::{Runtime, push_number, put, same};
+use crate::support::{Runtime, lay, same, text_of};
 use macho_image::fat::{FatArch, fat_archs, is_fat};
 use macho_image::format::MachFault;
+use patch_bytes::ByteOrder2;
 use std::alloc::{AllocError, Global};
 
 // A slice for an arm64 processor.
@@ -16,24 +17,21 @@ fn slice((offset, size): (u32, u32)) -> FatArch {
     }
 }
 
-// A header that tells so many slices, and records behind it.
-fn table(alloc: Global, nfat_arch: u32, places: &[(u32, u32)]) -> Result<Vec<u8>, AllocError> {
-    let mut file = Vec::new(alloc);
-    push_number(&mut file, 0xcafe_babe)?;
-    push_number(&mut file, nfat_arch)?;
-    for place in places {
-        let arch = slice(*place);
-        for number in [
+// A header that tells so many slices, and records from its end on.
+fn lay_table(file: &mut [u8], nfat_arch: u32, places: &[(u32, u32)]) {
+    lay(file, 0, &[0xcafe_babe, nfat_arch], ByteOrder2::Big);
+    for i in 0..places.len() {
+        let arch = slice(places[i]);
+        let numbers = [
             arch.cputype,
             arch.cpusubtype,
             arch.offset,
             arch.size,
             arch.align,
-        ] {
-            push_number(&mut file, number)?;
-        }
+        ];
+        let at = i.saturating_mul(20).saturating_add(8);
+        lay(file, at, &numbers, ByteOrder2::Big);
     }
-    Ok(file)
 }
 
 // A file of this length that begins with a table.
@@ -44,67 +42,74 @@ fn file_with(
     places: &[(u32, u32)],
 ) -> Result<Vec<u8>, AllocError> {
     let mut file = vec![in alloc; 0; length]?;
-    put(&mut file, 0, table(alloc, nfat_arch, places)?.as_slice());
+    lay_table(&mut file, nfat_arch, places);
     Ok(file)
 }
 
-// Whether slices are these.
-fn are(archs: &[FatArch], places: &[(u32, u32)]) -> bool {
-    archs.len() == places.len()
-        && archs
-            .iter()
-            .zip(places)
-            .all(|(arch, place)| *arch == slice(*place))
-}
-
-// The check that a file fails; where it passes all, it shows these slices.
-fn fault_of(rt: &impl Runtime, bytes: &[u8], places: &[(u32, u32)]) -> Option<MachFault> {
-    match again!(rt; fat_archs(rt.alloc(), bytes)) {
-        Ok(archs) => {
-            assert!(rt; are(&archs, places), "other slices");
-            None
-        }
-        Err(fault) => Some(fault),
+// Compares slices.
+fn expect_slices(rt: &impl Runtime, archs: &[FatArch], places: &[(u32, u32)]) {
+    same(rt, "how many slices", &archs.len(), &places.len());
+    for i in 0..places.len() {
+        same(rt, "a slice", &archs.get(i), &Some(&slice(places[i])));
     }
 }
 
-// Where slices of files of 8192 bytes begin and how long they are, and what their tables are refused for.
-const TABLES: [(&[(u32, u32)], Option<MachFault>); 20] = [
-    (&[], None),
-    (&[(28, 8164)], None),
-    (&[(4096, 64), (4160, 64)], None),
-    (&[(8191, 1), (4160, 64), (4096, 64)], None),
+// The check that a file fails; where it passes all, it shows these slices.
+fn answer_of(rt: &impl Runtime, bytes: &[u8], places: &[(u32, u32)]) -> Result<(), MachFault> {
+    let archs = fat_archs(rt.alloc(), bytes)?;
+    expect_slices(rt, &archs, places);
+    Ok(())
+}
+
+// How many slices files of 8192 bytes have, where they begin and how long they are, and what their tables are refused for.
+type Table = (usize, u32, u32, u32, u32, u32, u32, &'static str);
+
+const TABLES: [Table; 20] = [
+    (0, 0, 0, 0, 0, 0, 0, "Ok(())"),
+    (1, 28, 8164, 0, 0, 0, 0, "Ok(())"),
+    (2, 4096, 64, 4160, 64, 0, 0, "Ok(())"),
+    (3, 8191, 1, 4160, 64, 4096, 64, "Ok(())"),
     // Empty slices share no byte.
-    (&[(4096, 64), (4100, 0), (4100, 0)], None),
-    (&[(8192, 0), (4096, 0), (4096, 9)], None),
+    (3, 4096, 64, 4100, 0, 4100, 0, "Ok(())"),
+    (3, 8192, 0, 4096, 0, 4096, 9, "Ok(())"),
     // Shared bytes.
-    (&[(4096, 64), (4159, 64)], OVERLAP),
-    (&[(4159, 64), (4096, 64)], OVERLAP),
-    (&[(4096, 64), (5000, 9), (4096, 64)], OVERLAP),
-    (&[(6000, 1), (4096, 2048), (7000, 9)], OVERLAP),
-    (&[(4096, 64), (4100, 0), (4101, 9)], OVERLAP),
+    (2, 4096, 64, 4159, 64, 0, 0, "Err(SlicesOverlap)"),
+    (2, 4159, 64, 4096, 64, 0, 0, "Err(SlicesOverlap)"),
+    (3, 4096, 64, 5000, 9, 4096, 64, "Err(SlicesOverlap)"),
+    (3, 6000, 1, 4096, 2048, 7000, 9, "Err(SlicesOverlap)"),
+    (3, 4096, 64, 4100, 0, 4101, 9, "Err(SlicesOverlap)"),
     // Slices outside.
-    (&[(27, 0)], OUTSIDE),
-    (&[(8193, 0)], OUTSIDE),
-    (&[(27, 1)], OUTSIDE),
-    (&[(47, 1), (4096, 1)], OUTSIDE),
-    (&[(8191, 2)], OUTSIDE),
-    (&[(u32::MAX, u32::MAX)], OUTSIDE),
-    (&[(u32::MAX, 2)], OUTSIDE),
-    (&[(u32::MAX - 99, 200)], OUTSIDE),
-    (&[(4096, 64), (4159, 64), (8191, 2)], OUTSIDE),
+    (1, 27, 0, 0, 0, 0, 0, "Err(SliceOutside)"),
+    (1, 8193, 0, 0, 0, 0, 0, "Err(SliceOutside)"),
+    (1, 27, 1, 0, 0, 0, 0, "Err(SliceOutside)"),
+    (2, 47, 1, 4096, 1, 0, 0, "Err(SliceOutside)"),
+    (1, 8191, 2, 0, 0, 0, 0, "Err(SliceOutside)"),
+    (1, u32::MAX, u32::MAX, 0, 0, 0, 0, "Err(SliceOutside)"),
+    (1, u32::MAX, 2, 0, 0, 0, 0, "Err(SliceOutside)"),
+    (1, u32::MAX - 99, 200, 0, 0, 0, 0, "Err(SliceOutside)"),
+    (3, 4096, 64, 4159, 64, 8191, 2, "Err(SliceOutside)"),
 ];
 
-const OVERLAP: Option<MachFault> = Some(MachFault::SlicesOverlap);
+// What is told of a table of slices in a file of this length.
+fn table_answer(rt: &impl Runtime, length: usize, places: &[(u32, u32)]) -> Result<(), MachFault> {
+    let count = u32::try_from(places.len()).unwrap_or(0);
+    let file = file_with(rt.alloc(), length, count, places)?;
+    answer_of(rt, &file, places)
+}
 
-const OUTSIDE: Option<MachFault> = Some(MachFault::SliceOutside);
+// Compares what is told of such a table.
+fn expect_table(rt: &impl Runtime, row: &Table) -> Result<(), AllocError> {
+    let places = [(row.1, row.2), (row.3, row.4), (row.5, row.6)];
+    let answer = again!(rt; table_answer(rt, 8192, &places[..row.0.min(3)]));
+    let text = text_of(rt.alloc(), Ok(answer))?;
+    same(rt, "a table", &text.as_str(), &row.7);
+    Ok(())
+}
 
 #[test]
 fn reads_and_refuses_tables(rt: HostRuntime) {
-    for (places, want) in &TABLES {
-        let count = u32::try_from(places.len()).unwrap_or(0);
-        let file = sure!(&rt; file_with(rt.alloc(), 8192, count, places));
-        same(&rt, "a table's fault", &fault_of(&rt, &file, places), want);
+    for row in &TABLES {
+        sure!(&rt; expect_table(&rt, row));
     }
 }
 
@@ -122,56 +127,62 @@ const FRONTS: [(&[u8], MachFault); 7] = [
 #[test]
 fn refuses_other_fronts(rt: HostRuntime) {
     for (bytes, fault) in &FRONTS {
-        let found = fault_of(&rt, bytes, &[]);
-        same(&rt, "a front's fault", &found, &Some(*fault));
+        let found = again!(&rt; answer_of(&rt, bytes, &[]));
+        same(&rt, "a front's fault", &found, &Err(*fault));
     }
 }
 
-fn expect_truncated(rt: &impl Runtime, bytes: &[u8]) {
-    let fault = fault_of(rt, bytes, &[]);
-    same(rt, "a table's fault", &fault, &Some(MachFault::Truncated));
+// A file that ends with its header, or before the end of its second record.
+const PAST_THE_END: [(usize, u32); 6] = [
+    (8, 2),
+    (8, 0x0ccc_cccd),
+    (8, u32::MAX),
+    (47, 2),
+    (47, 0x0ccc_cccd),
+    (47, u32::MAX),
+];
+
+// What is told of a table of so many slices in a file of this length.
+fn cut_answer(rt: &impl Runtime, length: usize, nfat_arch: u32) -> Result<(), MachFault> {
+    let file = file_with(rt.alloc(), length, nfat_arch, &[(28, 1)])?;
+    answer_of(rt, &file, &[])
 }
 
 #[test]
 fn refuses_tables_past_the_end(rt: HostRuntime) {
-    for nfat_arch in [2, 0x0ccc_cccd, u32::MAX] {
-        let file = sure!(&rt; file_with(rt.alloc(), 47, nfat_arch, &[(28, 1)]));
-        expect_truncated(&rt, file.get(..8).unwrap_or_default());
-        expect_truncated(&rt, &file);
+    for (length, nfat_arch) in &PAST_THE_END {
+        let found = again!(&rt; cut_answer(&rt, *length, *nfat_arch));
+        same(&rt, "a table's fault", &found, &Err(MachFault::Truncated));
     }
 }
+
+const MAGICS: [(&[u8], bool); 3] = [
+    (b"\xca\xfe\xba\xbe", true),
+    (b"\xbe\xba\xfe\xca", false),
+    (b"\xca\xfe\xba", false),
+];
 
 #[test]
 fn knows_fat_files(rt: HostRuntime) {
-    let rows: [(&[u8], bool); 3] = [
-        (b"\xca\xfe\xba\xbe", true),
-        (b"\xbe\xba\xfe\xca", false),
-        (b"\xca\xfe\xba", false),
-    ];
-    for (bytes, want) in rows {
-        same(&rt, "is_fat", &is_fat(bytes), &want);
+    for (bytes, want) in &MAGICS {
+        same(&rt, "is_fat", &is_fat(bytes), want);
     }
 }
 
-// A table of 100,000 slices of 9 bytes, which stand backwards and end to end behind it, and one of this size.
-fn long_table(alloc: Global, middle: u32) -> Result<Vec<u8>, AllocError> {
-    let mut file = Vec::new(alloc);
-    file.extend_from_slice(b"\xca\xfe\xba\xbe\0\x01\x86\xa0")?;
+// Lays a table of 100,000 slices of 9 bytes, which stand backwards and end to end behind it, and one of this size.
+fn lay_long_table(file: &mut [u8], middle: u32) {
+    lay(file, 0, &[0xcafe_babe, 100_000], ByteOrder2::Big);
     for i in 0..100_000u32 {
         let size = if i == 50_000 { middle } else { 9 };
-        for number in [0, 0, 2_900_000 - 9 * i, size, 0] {
-            push_number(&mut file, number)?;
-        }
+        let numbers = [0, 0, 2_900_000 - 9 * i, size, 0];
+        lay(file, i as usize * 20 + 8, &numbers, ByteOrder2::Big);
     }
-    for _i in 0..1000 {
-        file.extend_from_slice(&[0; 1000])?;
-    }
-    Ok(file)
 }
 
 // What a table of so many slices with this size in the middle answers.
 fn long_answer(alloc: Global, middle: u32) -> Result<usize, MachFault> {
-    let file = long_table(alloc, middle)?;
+    let mut file = vec![in alloc; 0; 3_000_008]?;
+    lay_long_table(&mut file, middle);
     Ok(fat_archs(alloc, &file)?.len())
 }
 

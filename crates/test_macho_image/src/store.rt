@@ -1,217 +1,198 @@
+//! How an area of load commands is stored: two commands in place of one, and then none over the copy that is there.
 ghost use Rattle.std.specs.Prelude.{◌≡◌, ◌+◌, ◌≤◌, IfOk, None, length};
 ghost use Rattle.macho_image.specs.Checks.{area_fault};
 ghost use Rattle.macho_image.specs.Form.{ctx_of, header_size};
-ghost use Rattle.macho_image.specs.Prepared.{IsMadeFor};
 
-use crate::support::same;
-use macho_image::command::{LC_RPATH, LC_SYMTAB};
-use macho_image::format::{MH_MAGIC, MH_MAGIC_64, MachFault};
-use macho_image::{Ctx, MachO, Prepared, header_size, read_commands};
-use patch_bytes::{ByteOrder2, Wide};
+use crate::image::{What, expect_shown};
+use crate::support::{Runtime, same};
+use macho_image::format::MachFault;
+use macho_image::{Ctx, MachO, header_size, read_commands};
 use std::alloc::{AllocError, Global};
-use std::process::Abort;
-use std::test::Fail;
 
-// Bytes that a test lays out one behind the other, up to 128 of them.
+// In four forms: a run path and a symbol table with one symbol and four bytes of strings, and files with one command
+// (another run path), with these two, and with none. Zeros stand behind stored commands up to the strings, and other bytes
+// at the end.
+const NARROW_LITTLE_AREA: &[u8; 40] = b"\x1c\0\0\x80\x10\0\0\0\x0c\0\0\0\x62\0\0\0\
+\x02\0\0\0\x18\0\0\0\x50\0\0\0\x01\0\0\0\x4c\0\0\0\x04\0\0\0";
+
+const NARROW_LITTLE_ONE: &[u8; 84] =
+    b"\xce\xfa\xed\xfe\x07\x07\x07\x07\x07\x07\x07\x07\x07\x07\x07\x07\x01\0\0\0\x10\0\0\0\x09\x09\x09\
+\x09\
+\x1c\0\0\x80\x10\0\0\0\x0c\0\0\0\x61\0\0\0\
+\xff\xff\xff\xff\xff\xff\xff\xff\xff\xff\xff\xff\xff\xff\xff\xff\xff\xff\xff\xff\xff\xff\xff\xff\
+\xff\xff\xff\xff\
+\xff\xff\xff\xff\xff\xff\xff\xff\xff\xff\xff\xff";
+
+const NARROW_LITTLE_TWO: &[u8; 84] =
+    b"\xce\xfa\xed\xfe\x07\x07\x07\x07\x07\x07\x07\x07\x07\x07\x07\x07\x02\0\0\0\x28\0\0\0\x09\x09\x09\
+\x09\
+\x1c\0\0\x80\x10\0\0\0\x0c\0\0\0\x62\0\0\0\
+\x02\0\0\0\x18\0\0\0\x50\0\0\0\x01\0\0\0\x4c\0\0\0\x04\0\0\0\
+\0\0\0\0\
+\xff\xff\xff\xff\xff\xff\xff\xff\xff\xff\xff\xff";
+
+const NARROW_LITTLE_NONE: &[u8; 84] =
+    b"\xce\xfa\xed\xfe\x07\x07\x07\x07\x07\x07\x07\x07\x07\x07\x07\x07\0\0\0\0\0\0\0\0\x09\x09\x09\x09\
+\0\0\0\0\0\0\0\0\0\0\0\0\0\0\0\0\
+\0\0\0\0\0\0\0\0\0\0\0\0\0\0\0\0\0\0\0\0\0\0\0\0\
+\0\0\0\0\
+\xff\xff\xff\xff\xff\xff\xff\xff\xff\xff\xff\xff";
+
+const NARROW_BIG_AREA: &[u8; 40] = b"\x80\0\0\x1c\0\0\0\x10\0\0\0\x0c\x62\0\0\0\
+\0\0\0\x02\0\0\0\x18\0\0\0\x50\0\0\0\x01\0\0\0\x4c\0\0\0\x04";
+
+const NARROW_BIG_ONE: &[u8; 84] =
+    b"\xfe\xed\xfa\xce\x07\x07\x07\x07\x07\x07\x07\x07\x07\x07\x07\x07\0\0\0\x01\0\0\0\x10\x09\x09\x09\
+\x09\
+\x80\0\0\x1c\0\0\0\x10\0\0\0\x0c\x61\0\0\0\
+\xff\xff\xff\xff\xff\xff\xff\xff\xff\xff\xff\xff\xff\xff\xff\xff\xff\xff\xff\xff\xff\xff\xff\xff\
+\xff\xff\xff\xff\
+\xff\xff\xff\xff\xff\xff\xff\xff\xff\xff\xff\xff";
+
+const NARROW_BIG_TWO: &[u8; 84] =
+    b"\xfe\xed\xfa\xce\x07\x07\x07\x07\x07\x07\x07\x07\x07\x07\x07\x07\0\0\0\x02\0\0\0\x28\x09\x09\x09\
+\x09\
+\x80\0\0\x1c\0\0\0\x10\0\0\0\x0c\x62\0\0\0\
+\0\0\0\x02\0\0\0\x18\0\0\0\x50\0\0\0\x01\0\0\0\x4c\0\0\0\x04\
+\0\0\0\0\
+\xff\xff\xff\xff\xff\xff\xff\xff\xff\xff\xff\xff";
+
+const NARROW_BIG_NONE: &[u8; 84] =
+    b"\xfe\xed\xfa\xce\x07\x07\x07\x07\x07\x07\x07\x07\x07\x07\x07\x07\0\0\0\0\0\0\0\0\x09\x09\x09\x09\
+\0\0\0\0\0\0\0\0\0\0\0\0\0\0\0\0\
+\0\0\0\0\0\0\0\0\0\0\0\0\0\0\0\0\0\0\0\0\0\0\0\0\
+\0\0\0\0\
+\xff\xff\xff\xff\xff\xff\xff\xff\xff\xff\xff\xff";
+
+const WIDE_LITTLE_AREA: &[u8; 40] = b"\x1c\0\0\x80\x10\0\0\0\x0c\0\0\0\x62\0\0\0\
+\x02\0\0\0\x18\0\0\0\x54\0\0\0\x01\0\0\0\x50\0\0\0\x04\0\0\0";
+
+const WIDE_LITTLE_ONE: &[u8; 88] =
+    b"\xcf\xfa\xed\xfe\x07\x07\x07\x07\x07\x07\x07\x07\x07\x07\x07\x07\x01\0\0\0\x10\0\0\0\x09\x09\x09\
+\x09\x09\x09\x09\x09\
+\x1c\0\0\x80\x10\0\0\0\x0c\0\0\0\x61\0\0\0\
+\xff\xff\xff\xff\xff\xff\xff\xff\xff\xff\xff\xff\xff\xff\xff\xff\xff\xff\xff\xff\xff\xff\xff\xff\
+\xff\xff\xff\xff\
+\xff\xff\xff\xff\xff\xff\xff\xff\xff\xff\xff\xff";
+
+const WIDE_LITTLE_TWO: &[u8; 88] =
+    b"\xcf\xfa\xed\xfe\x07\x07\x07\x07\x07\x07\x07\x07\x07\x07\x07\x07\x02\0\0\0\x28\0\0\0\x09\x09\x09\
+\x09\x09\x09\x09\x09\
+\x1c\0\0\x80\x10\0\0\0\x0c\0\0\0\x62\0\0\0\
+\x02\0\0\0\x18\0\0\0\x54\0\0\0\x01\0\0\0\x50\0\0\0\x04\0\0\0\
+\0\0\0\0\
+\xff\xff\xff\xff\xff\xff\xff\xff\xff\xff\xff\xff";
+
+const WIDE_LITTLE_NONE: &[u8; 88] =
+    b"\xcf\xfa\xed\xfe\x07\x07\x07\x07\x07\x07\x07\x07\x07\x07\x07\x07\0\0\0\0\0\0\0\0\x09\x09\x09\x09\
+\x09\x09\x09\x09\
+\0\0\0\0\0\0\0\0\0\0\0\0\0\0\0\0\
+\0\0\0\0\0\0\0\0\0\0\0\0\0\0\0\0\0\0\0\0\0\0\0\0\
+\0\0\0\0\
+\xff\xff\xff\xff\xff\xff\xff\xff\xff\xff\xff\xff";
+
+const WIDE_BIG_AREA: &[u8; 40] = b"\x80\0\0\x1c\0\0\0\x10\0\0\0\x0c\x62\0\0\0\
+\0\0\0\x02\0\0\0\x18\0\0\0\x54\0\0\0\x01\0\0\0\x50\0\0\0\x04";
+
+const WIDE_BIG_ONE: &[u8; 88] =
+    b"\xfe\xed\xfa\xcf\x07\x07\x07\x07\x07\x07\x07\x07\x07\x07\x07\x07\0\0\0\x01\0\0\0\x10\x09\x09\x09\
+\x09\x09\x09\x09\x09\
+\x80\0\0\x1c\0\0\0\x10\0\0\0\x0c\x61\0\0\0\
+\xff\xff\xff\xff\xff\xff\xff\xff\xff\xff\xff\xff\xff\xff\xff\xff\xff\xff\xff\xff\xff\xff\xff\xff\
+\xff\xff\xff\xff\
+\xff\xff\xff\xff\xff\xff\xff\xff\xff\xff\xff\xff";
+
+const WIDE_BIG_TWO: &[u8; 88] =
+    b"\xfe\xed\xfa\xcf\x07\x07\x07\x07\x07\x07\x07\x07\x07\x07\x07\x07\0\0\0\x02\0\0\0\x28\x09\x09\x09\
+\x09\x09\x09\x09\x09\
+\x80\0\0\x1c\0\0\0\x10\0\0\0\x0c\x62\0\0\0\
+\0\0\0\x02\0\0\0\x18\0\0\0\x54\0\0\0\x01\0\0\0\x50\0\0\0\x04\
+\0\0\0\0\
+\xff\xff\xff\xff\xff\xff\xff\xff\xff\xff\xff\xff";
+
+const WIDE_BIG_NONE: &[u8; 88] =
+    b"\xfe\xed\xfa\xcf\x07\x07\x07\x07\x07\x07\x07\x07\x07\x07\x07\x07\0\0\0\0\0\0\0\0\x09\x09\x09\x09\
+\x09\x09\x09\x09\
+\0\0\0\0\0\0\0\0\0\0\0\0\0\0\0\0\
+\0\0\0\0\0\0\0\0\0\0\0\0\0\0\0\0\0\0\0\0\0\0\0\0\
+\0\0\0\0\
+\xff\xff\xff\xff\xff\xff\xff\xff\xff\xff\xff\xff";
+
+// The header of each, its commands, and where its content begins.
+const NARROW_ONE: &str = "(Header { magic: 4277009102, cputype: 117901063, cpusubtype: 117901063, \
+filetype: 117901063, ncmds: 1, sizeofcmds: 16, flags: 151587081, reserved: 0 }, \
+[LoadCommand { offset: 28, \
+command: Rpath(RpathCommand { cmd: 2147483676, cmdsize: 16, path: 12 }) }], 84)";
+
+const NARROW_TWO: &str = "(Header { magic: 4277009102, cputype: 117901063, cpusubtype: 117901063, \
+filetype: 117901063, ncmds: 2, sizeofcmds: 40, flags: 151587081, reserved: 0 }, \
+[LoadCommand { offset: 28, \
+command: Rpath(RpathCommand { cmd: 2147483676, cmdsize: 16, path: 12 }) }, \
+LoadCommand { offset: 44, \
+command: Symtab(LoadCommandHeader { cmd: 2, cmdsize: 24 }) }], 76)";
+
+const NARROW_NONE: &str = "(Header { magic: 4277009102, cputype: 117901063, cpusubtype: 117901063, \
+filetype: 117901063, ncmds: 0, sizeofcmds: 0, flags: 151587081, reserved: 0 }, \
+[], 84)";
+
+const WIDE_ONE: &str = "(Header { magic: 4277009103, cputype: 117901063, cpusubtype: 117901063, \
+filetype: 117901063, ncmds: 1, sizeofcmds: 16, flags: 151587081, reserved: 151587081 }, \
+[LoadCommand { offset: 32, \
+command: Rpath(RpathCommand { cmd: 2147483676, cmdsize: 16, path: 12 }) }], 88)";
+
+const WIDE_TWO: &str = "(Header { magic: 4277009103, cputype: 117901063, cpusubtype: 117901063, \
+filetype: 117901063, ncmds: 2, sizeofcmds: 40, flags: 151587081, reserved: 151587081 }, \
+[LoadCommand { offset: 32, \
+command: Rpath(RpathCommand { cmd: 2147483676, cmdsize: 16, path: 12 }) }, \
+LoadCommand { offset: 48, \
+command: Symtab(LoadCommandHeader { cmd: 2, cmdsize: 24 }) }], 80)";
+
+const WIDE_NONE: &str = "(Header { magic: 4277009103, cputype: 117901063, cpusubtype: 117901063, \
+filetype: 117901063, ncmds: 0, sizeofcmds: 0, flags: 151587081, reserved: 151587081 }, \
+[], 88)";
+
+// A file's bytes, and what it shows.
+type State = (&'static [u8], &'static str);
+
+// Commands, and a file with one command, with these two, and with none.
 #[derive(Clone, Copy)]
-struct Laid {
-    bytes: [u8; 128],
-    end: usize,
+struct Row {
+    area: &'static [u8],
+    one: State,
+    two: State,
+    none: State,
 }
 
-impl Laid {
-    // Nothing yet.
-    fn new() -> Laid {
-        Laid {
-            bytes: [0; 128],
-            end: 0,
-        }
-    }
+const ROWS: [Row; 4] = [
+    Row {
+        area: NARROW_LITTLE_AREA,
+        one: (NARROW_LITTLE_ONE, NARROW_ONE),
+        two: (NARROW_LITTLE_TWO, NARROW_TWO),
+        none: (NARROW_LITTLE_NONE, NARROW_NONE),
+    },
+    Row {
+        area: NARROW_BIG_AREA,
+        one: (NARROW_BIG_ONE, NARROW_ONE),
+        two: (NARROW_BIG_TWO, NARROW_TWO),
+        none: (NARROW_BIG_NONE, NARROW_NONE),
+    },
+    Row {
+        area: WIDE_LITTLE_AREA,
+        one: (WIDE_LITTLE_ONE, WIDE_ONE),
+        two: (WIDE_LITTLE_TWO, WIDE_TWO),
+        none: (WIDE_LITTLE_NONE, WIDE_NONE),
+    },
+    Row {
+        area: WIDE_BIG_AREA,
+        one: (WIDE_BIG_ONE, WIDE_ONE),
+        two: (WIDE_BIG_TWO, WIDE_TWO),
+        none: (WIDE_BIG_NONE, WIDE_NONE),
+    },
+];
 
-    // Appends bytes.
-    fn put(&mut self, bytes: &[u8]) {
-        for byte in bytes {
-            if self.end < 128 {
-                self.bytes[self.end] = *byte;
-                self.end += 1;
-            }
-        }
-    }
-
-    // Appends numbers of 32 bits.
-    fn words(&mut self, order: ByteOrder2, words: &[u32]) {
-        for word in words {
-            let spelled = match order {
-                ByteOrder2::Little => word.to_le_bytes(),
-                ByteOrder2::Big => word.to_be_bytes(),
-            };
-            self.put(&spelled);
-        }
-    }
-
-    fn as_slice(&self) -> &[u8] {
-        &self.bytes[..self.end.min(128)]
-    }
-}
-
-// An rpath command of 16 bytes, with a text of one letter.
-fn rpath(order: ByteOrder2, letter: u8) -> Laid {
-    let mut laid = Laid::new();
-    laid.words(order, &[LC_RPATH, 16, 12]);
-    laid.put(&[letter, 0, 0, 0]);
-    laid
-}
-
-// A run path, and a symbol table with one symbol and four bytes of strings.
-fn two_commands(order: ByteOrder2, symbols: u32, strings: u32) -> Laid {
-    let mut laid = rpath(order, b'b');
-    laid.words(order, &[LC_SYMTAB, 24, symbols, 1, strings, 4]);
-    laid
-}
-
-// A file of this form with these counts, and with `body` behind the header.
-fn file_of(ctx: Ctx, counts: [u32; 2], body: &[u8]) -> Laid {
-    let mut laid = Laid::new();
-    match ctx.container {
-        Wide::W32 => laid.words(ctx.le, &[MH_MAGIC]),
-        Wide::W64 => laid.words(ctx.le, &[MH_MAGIC_64]),
-    }
-    laid.put(&[7; 12]);
-    laid.words(ctx.le, &counts);
-    match ctx.container {
-        Wide::W32 => laid.put(&[9; 4]),
-        Wide::W64 => laid.put(&[9; 8]),
-    }
-    laid.put(body);
-    laid
-}
-
-// What stands behind a file's header.
-#[derive(Clone, Copy)]
-enum Content {
-    // A run path, and other bytes.
-    One,
-    // A run path and a symbol table, and zeros behind them.
-    Two,
-    // Zeros in place of commands.
-    None,
-}
-
-// What a file shows.
-#[derive(Clone, Copy)]
-struct Shown {
-    ctx: Ctx,
-    // Where its commands begin.
-    start: u8,
-    content: Content,
-}
-
-impl Shown {
-    // How many commands there are, and how long they are.
-    fn counts(&self) -> [u32; 2] {
-        match self.content {
-            Content::One => [1, 16],
-            Content::Two => [2, 40],
-            Content::None => [0, 0],
-        }
-    }
-
-    // Where each of its commands begins, up to two.
-    fn offsets(&self) -> [usize; 2] {
-        let start = usize::from(self.start);
-        match self.content {
-            Content::One => [start, 0],
-            Content::Two => [start, start + 16],
-            Content::None => [0, 0],
-        }
-    }
-
-    // Its commands.
-    fn area(&self) -> Laid {
-        let strings = u32::from(self.start) + 48;
-        match self.content {
-            Content::One => rpath(self.ctx.le, b'a'),
-            Content::Two => two_commands(self.ctx.le, strings + 4, strings),
-            Content::None => Laid::new(),
-        }
-    }
-
-    // Its bytes behind the header.
-    fn body(&self) -> Laid {
-        let mut body = self.area();
-        match self.content {
-            Content::One => body.put(&[0xff; 28]),
-            Content::Two => body.put(&[0; 4]),
-            Content::None => body.put(&[0; 44]),
-        }
-        body.put(&[0xff; 12]);
-        body
-    }
-
-    // How long it is, to where its commands may be stored, and where its content begins.
-    fn measures(&self) -> [usize; 3] {
-        let end = usize::from(self.start) + 56;
-        match self.content {
-            Content::Two => [end, end - 12, end - 8],
-            Content::One | Content::None => [end, end - 12, end],
-        }
-    }
-
-    // A file of this form with what it shows.
-    fn file(&self, ctx: Ctx) -> Laid {
-        file_of(ctx, self.counts(), self.body().as_slice())
-    }
-
-    // The same with other content.
-    fn with(&self, content: Content) -> Shown {
-        Shown { content, ..*self }
-    }
-}
-
-// Where the commands begin that a file shows, up to two.
-fn offsets(file: &MachO<'_>) -> [usize; 2] {
-    let mut offsets = [0; 2];
-    for (offset, command) in offsets.iter_mut().zip(file.load_commands()) {
-        *offset = command.offset;
-    }
-    offsets
-}
-
-fn expect_file(rt: &impl Abort, file: &MachO<'_>, shown: &Shown) {
-    let expected = shown.file(file.ctx());
-    same(rt, "bytes", &file.bytes(), &expected.as_slice());
-    expect_lists(rt, file, shown);
-}
-
-fn expect_lists(rt: &impl Abort, file: &MachO<'_>, shown: &Shown) {
-    let [ncmds, sizeofcmds] = shown.counts();
-    let counts = [file.header().ncmds, file.header().sizeofcmds];
-    same(rt, "counts", &counts, &[ncmds, sizeofcmds]);
-    let [end, _, content] = shown.measures();
-    let found = [
-        file.bytes().len(),
-        file.load_commands().len(),
-        file.first_content(),
-    ];
-    same(rt, "measures", &found, &[end, ncmds as usize, content]);
-    same(rt, "offsets", &offsets(file), &shown.offsets());
-}
-
-// A call that was refused memory is made once more.
-fn parse<'a>(alloc: Global, bytes: &'a [u8]) -> Result<MachO<'a>, MachFault> {
-    match MachO::parse(alloc, bytes) {
-        Err(MachFault::Memory) => MachO::parse(alloc, bytes),
-        answer => answer,
-    }
-}
-
-fn copied(alloc: Global, bytes: &[u8]) -> Result<Vec<u8>, AllocError>
-    ensures { IfOk result (λ copy. copy.items ≡ bytes.now) }
-{
-    match Vec::from_slice(alloc, bytes) {
-        Err(_) => Vec::from_slice(alloc, bytes),
-        answer => answer,
-    }
+fn expect_state(rt: &impl Runtime, file: &MachO<'_>, state: &State) -> Result<(), MachFault> {
+    same(rt, "bytes", &file.bytes(), &state.0);
+    expect_shown(rt, file, What::Lists, state.1)
 }
 
 // The area passes its checks.
@@ -219,136 +200,92 @@ fn check_area(alloc: Global, ctx: Ctx, count: u32, area: &[u8]) -> Result<(), Ma
     ensures { IfOk result (λ _. area_fault ctx.le count area.now ≡ None) }
 {
     let start = header_size(ctx.container);
-    let first = read_commands(alloc, ctx.le, start, count, area, usize::MAX);
-    if let Err(MachFault::Memory) = first {
-        read_commands(alloc, ctx.le, start, count, area, usize::MAX)?;
-        return Ok(());
+    match read_commands(alloc, ctx.le, start, count, area, usize::MAX) {
+        Ok(_) => Ok(()),
+        Err(fault) => Err(fault),
     }
-    first?;
+}
+
+// Compares what storing writes at the file's front, told before.
+fn expect_front(
+    rt: &impl Runtime,
+    file: &MachO<'_>,
+    count: u32,
+    area: &[u8],
+    want: &[u8],
+) -> Result<(), AllocError>
+    requires area { header_size (ctx_of file.now.bytes).container + length area.now ≤ length want.now }
+    requires front { length want.now ≤ length file.now.bytes }
+{
+    let front = file.front_with(rt.alloc(), count, area, want.len())?;
+    same(rt, "front", &front.as_slice(), &want);
     Ok(())
 }
 
-// An area made ready. Where memory is refused, the file shows what it did before.
-fn prepared(
-    rt: &impl Abort,
-    alloc: Global,
-    file: &MachO<'_>,
-    shown: &Shown,
-    count: u32,
-    area: &[u8],
-) -> Result<Prepared, AllocError>
-    requires commands { area_fault (ctx_of file.now.bytes).le count area.now ≡ None }
-    requires room { header_size (ctx_of file.now.bytes).container + length area.now
-        ≤ length file.now.bytes }
-    ensures { IfOk result (IsMadeFor file.now count area.now) }
-{
-    if let Ok(made) = file.prepare(alloc, count, copied(alloc, area)?) {
-        return Ok(made);
-    }
-    expect_file(rt, file, shown);
-    file.prepare(alloc, count, copied(alloc, area)?)
-}
-
-// What storing writes at the file's front, told before.
-fn told_front(
-    alloc: Global,
-    file: &MachO<'_>,
-    count: u32,
-    area: &[u8],
-    high: usize,
-) -> Result<Vec<u8>, AllocError>
-    requires area { header_size (ctx_of file.now.bytes).container + length area.now ≤ high }
-    requires high { high ≤ length file.now.bytes }
-{
-    match file.front_with(alloc, count, area, high) {
-        Err(_) => file.front_with(alloc, count, area, high),
-        answer => answer,
-    }
-}
-
-// Stores an area of commands that pass their checks in a file that shows this before, with zeros behind
-// the area up to `high`.
+// Stores an area of commands, with zeros behind it up to `high`, and other bytes from there on. Memory is taken before a
+// byte is stored.
 fn store_area(
-    rt: &impl Abort,
-    alloc: Global,
+    rt: &impl Runtime,
     file: &mut MachO<'_>,
-    shown: &Shown,
     count: u32,
     area: &[u8],
-    high: usize,
-) -> Result<(), Fail> {
+    front: &[u8],
+) -> Result<(), MachFault> {
     let ctx = file.ctx();
-    check_area(alloc, ctx, count, area)?;
+    check_area(rt.alloc(), ctx, count, area)?;
     let start = header_size(ctx.container);
-    assert!(rt; area.len() <= high && start <= high - area.len());
-    assert!(rt; high <= file.bytes().len());
-    expect_file(rt, file, shown);
-    let front = told_front(alloc, file, count, area, high)?;
-    let prepared = prepared(rt, alloc, file, shown, count, area)?;
-    file.store(prepared, high);
-    same(
-        rt,
-        "front",
-        &Some(front.as_slice()),
-        &file.bytes().get(..high),
-    );
+    assert!(rt; area.len() <= front.len() && start <= front.len() - area.len());
+    assert!(rt; front.len() <= file.bytes().len());
+    expect_front(rt, file, count, area, front)?;
+    let copy = Vec::from_slice(rt.alloc(), area)?;
+    let prepared = file.prepare(rt.alloc(), count, copy)?;
+    file.store(prepared, front.len());
     Ok(())
 }
 
-// The bytes of a file that was edited are handed out without memory.
-fn expect_handed_out(rt: &impl Abort, alloc: Global, file: MachO<'_>, shown: &Shown) {
-    let expected = shown.file(file.ctx());
-    let handed = file.into_bytes(alloc).expect(rt, "bytes");
-    same(rt, "handed out", &handed.as_slice(), &expected.as_slice());
-}
-
-// Stores other content in a file that shows this before.
-fn store_content(
-    rt: &impl Abort,
-    alloc: Global,
+// Stores an area in a file that shows this before and that after. Where memory is refused, the file shows what it did
+// before.
+fn store(
+    rt: &impl Runtime,
     file: &mut MachO<'_>,
-    shown: &Shown,
-    content: Content,
-) -> Result<(), Fail> {
-    let new = shown.with(content);
-    let [count, _] = new.counts();
-    let [_, high, _] = new.measures();
-    store_area(rt, alloc, file, shown, count, new.area().as_slice(), high)
+    count: u32,
+    area: &[u8],
+    before: &State,
+    after: &State,
+) {
+    sure!(rt; expect_state(rt, file, before));
+    let front = &after.0[..after.0.len().saturating_sub(12)];
+    let mut answer = store_area(rt, file, count, area, front);
+    if answer == Err(MachFault::Memory) {
+        sure!(rt; expect_state(rt, file, before));
+        answer = store_area(rt, file, count, area, front);
+    }
+    same(rt, "stored", &answer, &Ok(()));
+    sure!(rt; expect_state(rt, file, after));
 }
 
-// Stores two commands in place of one, and then none over the copy that is there.
-fn expect_stores(rt: &impl Abort, alloc: Global, shown: &Shown) -> Result<(), Fail> {
-    let bytes = shown.file(shown.ctx);
-    let mut file = parse(alloc, bytes.as_slice())?;
-    store_content(rt, alloc, &mut file, shown, Content::Two)?;
-    store_content(
-        rt,
-        alloc,
-        &mut file,
-        &shown.with(Content::Two),
-        Content::None,
-    )?;
-    expect_file(rt, &file, &shown.with(Content::None));
-    expect_handed_out(rt, alloc, file, &shown.with(Content::None));
-    Ok(())
+// Two commands are stored in place of one, and then none over the copy that is there. The bytes are handed out without
+// memory then.
+fn expect_edits(rt: &impl Runtime, mut file: MachO<'_>, row: &Row) {
+    store(rt, &mut file, 2, row.area, &row.one, &row.two);
+    store(rt, &mut file, 0, &[], &row.two, &row.none);
+    let handed = file.into_bytes(rt.alloc()).expect(rt, "bytes");
+    same(rt, "handed out", &handed.as_slice(), &row.none.0);
+}
+
+fn expect_stores(rt: &impl Runtime, row: &Row) -> Result<(), MachFault> {
+    match MachO::parse(rt.alloc(), row.one.0) {
+        Ok(file) => {
+            expect_edits(rt, file, row);
+            Ok(())
+        }
+        Err(fault) => Err(fault),
+    }
 }
 
 #[test]
-fn stores_in_each_form(rt: HostRuntime) -> Result<(), Fail> {
-    for (container, start) in [(Wide::W32, 28), (Wide::W64, 32)] {
-        for le in [ByteOrder2::Little, ByteOrder2::Big] {
-            let content = Content::One;
-            let ctx = Ctx { container, le };
-            expect_stores(
-                &rt,
-                rt.alloc(),
-                &Shown {
-                    ctx,
-                    start,
-                    content,
-                },
-            )?;
-        }
+fn stores_in_each_form(rt: HostRuntime) {
+    for row in &ROWS {
+        sure!(&rt; expect_stores(&rt, row));
     }
-    Ok(())
 }

@@ -1,7 +1,8 @@
 //! What the tests share: calls that are refused memory, and comparisons.
 
 use macho_image::MachFault;
-use std::alloc::AllocError;
+use patch_bytes::{ByteOrder2, write_u32_at};
+use std::alloc::{AllocError, Global};
 use std::fmt;
 use std::process::Abort;
 
@@ -62,20 +63,40 @@ pub(crate) fn same<T: PartialEq + fmt::Debug>(rt: &impl Abort, what: &str, found
     assert_eq!(rt; found, want, "{what}");
 }
 
+// What `Debug` prints of a value that took memory.
+pub(crate) fn text_of<T: Drop + fmt::Debug>(
+    alloc: Global,
+    value: Result<T, AllocError>,
+) -> Result<String, AllocError> {
+    let value = value?;
+    format!(in alloc; "{value:?}")
+}
+
 // Compares what `Display` prints of a value with a text.
-pub(crate) fn prints<T: fmt::Display>(rt: &impl Runtime, value: &T, text: &str) {
-    let printed = sure!(rt; format!(in rt.alloc(); "{value}"));
+pub(crate) fn prints<T: fmt::Display>(
+    rt: &impl Runtime,
+    value: &T,
+    text: &str,
+) -> Result<(), AllocError> {
+    let printed = format!(in rt.alloc(); "{value}")?;
     same(rt, "printed", &printed.as_str(), &text);
+    Ok(())
 }
 
 // Puts bytes at a place, as far as they lie in the file.
 pub(crate) fn put(file: &mut [u8], place: usize, part: &[u8]) {
-    for (old, new) in file.iter_mut().skip(place).zip(part) {
-        *old = *new;
+    for i in 0..part.len() {
+        let at = place.saturating_add(i);
+        if at < file.len() {
+            file[at] = part[i];
+        }
     }
 }
 
-// Puts a number behind bytes, high byte first.
-pub(crate) fn push_number(file: &mut Vec<u8>, number: u32) -> Result<(), AllocError> {
-    file.extend_from_slice(&number.to_be_bytes())
+// Lays numbers of 32 bits from a place on, as far as they lie in the file.
+pub(crate) fn lay(file: &mut [u8], place: usize, numbers: &[u32], order: ByteOrder2) {
+    for i in 0..numbers.len() {
+        let at = place.saturating_add(i.saturating_mul(4));
+        let _is_laid = write_u32_at(file, at, numbers[i], order).is_ok();
+    }
 }
