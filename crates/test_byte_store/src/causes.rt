@@ -38,8 +38,12 @@ fn store_that_is_read(rt: HostRuntime) {
     };
     let mut store = sure!(&rt; opened(&file));
     if store.bytes.len() <= 9 {
-        let bytes = sure!(&rt; loaded(rt.alloc(), &mut store));
-        same_bytes(&rt, "bytes", &bytes, b"abcdef");
+        same_bytes(
+            &rt,
+            "bytes",
+            &sure!(&rt; loaded(rt.alloc(), &mut store)),
+            b"abcdef",
+        );
     }
 }
 
@@ -60,12 +64,19 @@ fn is_laid(store: &mut MemoryStore) -> bool
     }
 }
 
+// A write behind the end is an error, and counts.
+fn is_refused_behind(store: &mut MemoryStore) -> (bool, u64) {
+    let is_refused = store.open_for_writing().is_ok() && store.write_at(7, b"X").is_err();
+    (is_refused, store.failures())
+}
+
 #[test]
 fn store_that_is_written(rt: HostRuntime) {
     let mut store = MemoryStore::new(copied(&rt, b"abcdef"));
     store.is_open = true;
     if store.bytes.len() == 6 {
-        same(&rt, "laid", &is_laid(&mut store), &true);
+        let found = (is_laid(&mut store), is_refused_behind(&mut store));
+        same(&rt, "laid", &found, &(true, (true, 1)));
         same_bytes(&rt, "bytes", &store.bytes, b"abXYZf");
     }
 }

@@ -2,16 +2,8 @@
 //! call where none fails.
 #![tactic(auto)]
 
-// What a call answers whose answer counts alone. It is made twice, and what it answers first counts where that is not want of
-// memory. Then it is not refused memory again. (So no call needs a branch for it.)
-#[cfg(test)]
-macro_rules! again {
-    ($rt:expr; $call:expr) => {
-        crate::support::granted($rt, $call, $call)
-    };
-}
-
-// What such a call gives, which is to succeed.
+// What a call gives, which is to succeed. It is made twice, and what it answers first counts where that is not want of memory.
+// Then it is not refused memory again. (So no call needs a branch for it.)
 #[cfg(test)]
 macro_rules! sure {
     ($rt:expr; $call:expr) => {
@@ -19,16 +11,24 @@ macro_rules! sure {
     };
 }
 
+// Compares what a call reads, made twice in the same way: how many bytes, and the first of them, or none.
+#[cfg(test)]
+macro_rules! expect {
+    ($rt:expr; $call:expr, $length:expr, $front:expr) => {
+        crate::reading::reads($rt, $call, $call, $length, $front)
+    };
+}
+
 #[cfg(test)]
 mod causes;
 #[cfg(test)]
-mod differences;
-#[cfg(test)]
 mod numbers;
+#[cfg(test)]
+mod plans;
 #[cfg(test)]
 mod reading;
 #[cfg(test)]
-mod runs;
+mod stores;
 #[cfg(test)]
 mod strings;
 #[cfg(test)]

@@ -13,7 +13,7 @@ const LITTLE: ByteOrder2 = ByteOrder2::Little;
 const BIG: ByteOrder2 = ByteOrder2::Big;
 
 // A kind of field: one with calls of its own, or a word of a width.
-#[derive(Clone, Copy, Debug)]
+#[derive(Clone, Copy)]
 enum Field {
     U16,
     U32,
@@ -36,94 +36,141 @@ fn read(field: Field, position: usize, order: ByteOrder2) -> Result<u64, Outside
     }
 }
 
-// What a write of a number below 65,536 answers, and the bytes that it leaves.
-fn written(
+// What a write of 0x0a0b answers.
+fn write(
+    bytes: &mut [u8],
     field: Field,
     position: usize,
-    value: u16,
-    order: ByteOrder2,
-) -> (Result<(), Outside>, [u8; 9]) {
-    let mut bytes = BYTES;
-    let answer = match field {
-        Field::U16 => write_u16_at(&mut bytes, position, value, order),
-        Field::U32 => write_u32_at(&mut bytes, position, u32::from(value), order),
-        Field::U64 => write_u64_at(&mut bytes, position, u64::from(value), order),
-        Field::Word(wide) => write_word(&mut bytes, position, value, wide, order),
-    };
-    (answer, bytes)
-}
-
-fn write_word(
-    bytes: &mut [u8],
-    position: usize,
-    value: u16,
-    wide: Wide,
     order: ByteOrder2,
 ) -> Result<(), Outside> {
-    match wide {
-        Wide::W32 => write_word_at(bytes, position, u64::from(value), Wide::W32, order),
-        Wide::W64 => write_word_at(bytes, position, u64::from(value), Wide::W64, order),
+    match field {
+        Field::U16 => write_u16_at(bytes, position, 0x0a0b, order),
+        Field::U32 => write_u32_at(bytes, position, 0x0a0b, order),
+        Field::U64 => write_u64_at(bytes, position, 0x0a0b, order),
+        Field::Word(Wide::W32) => write_word_at(bytes, position, 0x0a0b, Wide::W32, order),
+        Field::Word(Wide::W64) => write_word_at(bytes, position, 0x0a0b, Wide::W64, order),
     }
 }
 
-const READ: [(Field, usize, ByteOrder2, u64); 8] = [
-    (Field::U16, 7, LITTLE, 0x0908),
-    (Field::U16, 7, BIG, 0x0809),
-    (Field::U32, 1, LITTLE, 0x0504_0302),
-    (Field::U32, 1, BIG, 0x0203_0405),
-    (Field::U64, 1, LITTLE, 0x0908_0706_0504_0302),
-    (Field::U64, 1, BIG, 0x0203_0405_0607_0809),
-    (NARROW, 0, BIG, 0x0102_0304),
-    (WIDE, 0, BIG, 0x0102_0304_0506_0708),
+// A field, its position and byte order, its number in the bytes, and the bytes after a write.
+type Row = (Field, usize, ByteOrder2, Result<u64, Outside>, [u8; 9]);
+
+const OUTSIDE: Result<u64, Outside> = Err(Outside);
+
+const ROWS: [Row; 18] = [
+    (
+        Field::U16,
+        7,
+        LITTLE,
+        Ok(0x0908),
+        [1, 2, 3, 4, 5, 6, 7, 0x0b, 0x0a],
+    ),
+    (
+        Field::U16,
+        7,
+        BIG,
+        Ok(0x0809),
+        [1, 2, 3, 4, 5, 6, 7, 0x0a, 0x0b],
+    ),
+    (
+        Field::U16,
+        0,
+        LITTLE,
+        Ok(0x0201),
+        [0x0b, 0x0a, 3, 4, 5, 6, 7, 8, 9],
+    ),
+    (
+        Field::U32,
+        1,
+        LITTLE,
+        Ok(0x0504_0302),
+        [1, 0x0b, 0x0a, 0, 0, 6, 7, 8, 9],
+    ),
+    (
+        Field::U32,
+        1,
+        BIG,
+        Ok(0x0203_0405),
+        [1, 0, 0, 0x0a, 0x0b, 6, 7, 8, 9],
+    ),
+    (
+        Field::U32,
+        2,
+        BIG,
+        Ok(0x0304_0506),
+        [1, 2, 0, 0, 0x0a, 0x0b, 7, 8, 9],
+    ),
+    (
+        Field::U64,
+        1,
+        LITTLE,
+        Ok(0x0908_0706_0504_0302),
+        [1, 0x0b, 0x0a, 0, 0, 0, 0, 0, 0],
+    ),
+    (
+        Field::U64,
+        1,
+        BIG,
+        Ok(0x0203_0405_0607_0809),
+        [1, 0, 0, 0, 0, 0, 0, 0x0a, 0x0b],
+    ),
+    (
+        NARROW,
+        0,
+        BIG,
+        Ok(0x0102_0304),
+        [0, 0, 0x0a, 0x0b, 5, 6, 7, 8, 9],
+    ),
+    (
+        NARROW,
+        5,
+        LITTLE,
+        Ok(0x0908_0706),
+        [1, 2, 3, 4, 5, 0x0b, 0x0a, 0, 0],
+    ),
+    (
+        WIDE,
+        0,
+        BIG,
+        Ok(0x0102_0304_0506_0708),
+        [0, 0, 0, 0, 0, 0, 0x0a, 0x0b, 9],
+    ),
+    (
+        WIDE,
+        0,
+        LITTLE,
+        Ok(0x0807_0605_0403_0201),
+        [0x0b, 0x0a, 0, 0, 0, 0, 0, 0, 9],
+    ),
+    // Fields that reach past the end.
+    (Field::U16, 8, BIG, OUTSIDE, BYTES),
+    (Field::U32, 6, BIG, OUTSIDE, BYTES),
+    (Field::U64, 2, BIG, OUTSIDE, BYTES),
+    (Field::U64, usize::MAX, BIG, OUTSIDE, BYTES),
+    (NARROW, 6, BIG, OUTSIDE, BYTES),
+    (WIDE, 2, BIG, OUTSIDE, BYTES),
 ];
 
+fn follow(rt: &impl Runtime, row: &Row) {
+    let mut bytes = BYTES;
+    let number = read(row.0, row.1, row.2);
+    let answer = write(&mut bytes, row.0, row.1, row.2);
+    let found = (number, answer.is_ok(), bytes);
+    same(rt, "field", &found, &(row.3, row.3.is_ok(), row.4));
+}
+
 #[test]
-fn reads_numbers(rt: HostRuntime) {
-    for (field, position, order, want) in READ {
-        same(&rt, "number", &read(field, position, order), &Ok(want));
+fn fields(rt: HostRuntime) {
+    for row in &ROWS {
+        follow(&rt, row);
     }
 }
 
-const WRITTEN: [(Field, usize, ByteOrder2, [u8; 9]); 5] = [
-    (Field::U16, 0, LITTLE, [0x0b, 0x0a, 3, 4, 5, 6, 7, 8, 9]),
-    (Field::U32, 2, BIG, [1, 2, 0, 0, 0x0a, 0x0b, 7, 8, 9]),
-    (Field::U64, 1, BIG, [1, 0, 0, 0, 0, 0, 0, 0x0a, 0x0b]),
-    (NARROW, 5, LITTLE, [1, 2, 3, 4, 5, 0x0b, 0x0a, 0, 0]),
-    (WIDE, 0, LITTLE, [0x0b, 0x0a, 0, 0, 0, 0, 0, 0, 9]),
-];
-
 #[test]
-fn writes_numbers(rt: HostRuntime) {
-    for (field, position, order, want) in WRITTEN {
-        let found = written(field, position, 0x0a0b, order);
-        same(&rt, "bytes", &found, &(Ok(()), want));
-    }
-}
-
-const PAST_THE_END: [(Field, usize); 6] = [
-    (Field::U16, 8),
-    (Field::U32, 6),
-    (Field::U64, 2),
-    (Field::U64, usize::MAX),
-    (NARROW, 6),
-    (WIDE, 2),
-];
-
-#[test]
-fn refuses_fields_outside(rt: HostRuntime) {
+fn texts_and_widths(rt: HostRuntime) {
     let text = sure!(&rt; format!(in rt.alloc(); "{Outside}"));
-    same(&rt, "text", &text.as_str(), &"Outside");
-    for (field, position) in PAST_THE_END {
-        same(&rt, "number", &read(field, position, BIG), &Err(Outside));
-        let found = written(field, position, 0x0a0b, BIG);
-        same(&rt, "bytes", &found, &(Err(Outside), BYTES));
-    }
-}
-
-#[test]
-fn knows_wide_words(rt: HostRuntime) {
-    let found = [Wide::W32.is_big(), Wide::W64.is_big()];
-    same(&rt, "is_big", &found, &[false, true]);
+    let found = (text.as_str(), Wide::W32.is_big(), Wide::W64.is_big());
+    same(&rt, "text", &found, &("Outside", false, true));
 }
 
 // Numbers, units, and the first multiples from there on.
@@ -139,7 +186,7 @@ const MULTIPLES: [(u64, u64, Option<u64>); 7] = [
 
 #[test]
 fn rounds_up(rt: HostRuntime) {
-    for (number, unit, want) in MULTIPLES {
-        same(&rt, "multiple", &round_up(number, unit), &want);
+    for (number, unit, want) in &MULTIPLES {
+        same(&rt, "multiple", &round_up(*number, *unit), want);
     }
 }

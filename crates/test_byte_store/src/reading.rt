@@ -1,6 +1,6 @@
 //! Readers, stores and files that are read whole.
 
-use crate::support::{Runtime, copied, same, same_bytes};
+use crate::support::{Runtime, copied, granted, same, same_bytes};
 use byte_store::{
     Creates, FileStore, MemoryFolder, MemoryStore, Piece, ReadError, RuntimeFiles, Store,
     load_up_to, load_whole, read_up_to, read_whole, write_pieces,
@@ -9,57 +9,61 @@ use std::io::Write;
 use std::rt::Files;
 use std::{env, fs, io, process};
 
-// Whether a read failed, and not for want of memory.
-fn fails(answer: &Result<Vec<u8>, ReadError>) -> bool {
-    matches!(answer, Err(ReadError::Io(_)))
+// Compares what a call reads, or the same call made again: so many bytes, which begin with some, or a fault.
+pub(crate) fn reads(
+    rt: &impl Runtime,
+    first: Result<Vec<u8>, ReadError>,
+    second: Result<Vec<u8>, ReadError>,
+    length: Option<usize>,
+    front: &[u8],
+) {
+    match granted(rt, first, second) {
+        Ok(bytes) => {
+            let found = (Some(bytes.len()), bytes.starts_with(front));
+            same(rt, "bytes", &found, &(length, true));
+        }
+        Err(_) => same(rt, "a fault", &None, &length),
+    }
 }
 
+// One without end: its first bytes are read, and all of it is too much.
 #[test]
 fn readers(rt: HostRuntime) {
-    // One without end: its first bytes are read, and all of it is too much.
     let mut zeros = io::repeat(0);
-    let first = sure!(&rt; read_up_to(rt.alloc(), &mut zeros, 0, 300_000));
-    same(&rt, "length", &first.len(), &300_000);
-    let answer = again!(&rt; read_whole(rt.alloc(), &mut zeros, 9, 300_000));
-    same(&rt, "fails", &fails(&answer), &true);
+    expect!(&rt; read_up_to(rt.alloc(), &mut zeros, 0, 300_000), Some(300_000), b"\0\0");
+    expect!(&rt; read_whole(rt.alloc(), &mut zeros, 9, 300_000), None, b"");
     let mut reader = b"abcdef".as_slice();
-    let bytes = sure!(&rt; read_whole(rt.alloc(), &mut reader, 6, 6));
-    same_bytes(&rt, "bytes", &bytes, b"abcdef");
+    expect!(&rt; read_whole(rt.alloc(), &mut reader, 6, 6), Some(6), b"abcdef");
+}
+
+fn expect_store<S: Store>(rt: &impl Runtime, store: &mut S) {
+    expect!(rt; load_whole(rt.alloc(), store, 6), Some(6), b"abcdef");
+    expect!(rt; load_up_to(rt.alloc(), store, 4), Some(4), b"abcd");
+    expect!(rt; load_whole(rt.alloc(), store, 5), None, b"");
 }
 
 #[test]
 fn store_in_memory(rt: HostRuntime) {
-    let mut store = MemoryStore::new(copied(&rt, b"abcdef"));
-    let bytes = sure!(&rt; load_whole(rt.alloc(), &mut store, 6));
-    same_bytes(&rt, "bytes", &bytes, b"abcdef");
-    let first = sure!(&rt; load_up_to(rt.alloc(), &mut store, 4));
-    same_bytes(&rt, "first bytes", &first, b"abcd");
-    let answer = again!(&rt; load_whole(rt.alloc(), &mut store, 5));
-    same(&rt, "fails", &fails(&answer), &true);
-}
-
-// A path with this end that no other run of the tests uses.
-fn own_path(rt: &HostRuntime, end: &str) -> io::Result<String> {
-    let folder = env::temp_dir(rt)?;
-    let folder = folder.as_path().to_string_lossy();
-    let id = process::id(rt.process());
-    Ok(format!(in rt.alloc(); "{folder}/store-test-{id}{end}")?)
+    expect_store(&rt, &mut MemoryStore::new(copied(&rt, b"abcdef")));
 }
 
 // A folder is opened as a file is, and can't be read.
-fn load_folder(rt: &HostRuntime) -> Result<u64, ReadError> {
-    let mut store = FileStore::open(rt, ".")?;
-    match load_whole(rt.alloc(), &mut store, 9) {
-        Ok(_) => Ok(0),
-        Err(ReadError::Memory) => Err(ReadError::Memory),
-        Err(ReadError::Io(_)) => Ok(store.failures()),
+fn expect_folder<S: Store>(rt: &impl Runtime, store: &mut S) {
+    let answer = load_whole(rt.alloc(), store, 9);
+    if store.failures() == 0 {
+        expect!(rt; load_whole(rt.alloc(), store, 9), None, b"");
     }
+    same(
+        rt,
+        "failures",
+        &(answer.is_err(), store.failures()),
+        &(true, 1),
+    );
 }
 
 #[test]
 fn folder_that_is_read(rt: HostRuntime) {
-    let count = sure!(&rt; load_folder(&rt));
-    same(&rt, "failures", &count, &1);
+    expect_folder(&rt, &mut sure!(&rt; FileStore::open(&rt, ".")));
 }
 
 // A file that is created, and gets two bytes.
@@ -72,8 +76,7 @@ fn created<'p, C: Creates<'p>>(files: &C, path: &'p str) -> io::Result<C::Create
 #[test]
 fn file_created_in_memory(rt: HostRuntime) {
     let folder = MemoryFolder { alloc: rt.alloc() };
-    let file = sure!(&rt; created(&folder, "a/b"));
-    same_bytes(&rt, "bytes", &file, b"ab");
+    same_bytes(&rt, "bytes", &sure!(&rt; created(&folder, "a/b")), b"ab");
 }
 
 // A file of six bytes at a path.
@@ -83,56 +86,52 @@ fn put_file<R: Runtime + Files>(rt: &R, path: &str) {
 
 // Compares the bytes of the file at a path, and takes it away.
 fn take_file<R: Runtime + Files>(rt: &R, path: &str, want: &[u8]) {
-    let bytes = sure!(rt; fs::read(rt, path));
-    same_bytes(rt, "bytes of the file", &bytes, want);
+    same_bytes(
+        rt,
+        "bytes of the file",
+        &sure!(rt; fs::read(rt, path)),
+        want,
+    );
     fs::remove_file(rt, path).expect(rt, "no file");
 }
 
-fn create_at<R: Files>(rt: &R, path: &str) -> io::Result<()> {
-    created(&RuntimeFiles { files: rt }, path)?;
-    Ok(())
-}
-
 // What is there at a path is cut.
-#[test]
-fn file_created_at_a_path(rt: HostRuntime) {
-    let path = sure!(&rt; own_path(&rt, "-created"));
-    put_file(&rt, path.as_str());
-    create_at(&rt, path.as_str()).expect(&rt, "a file");
-    take_file(&rt, path.as_str(), b"ab");
+fn expect_created<R: Runtime + Files>(rt: &R, path: &str) {
+    put_file(rt, path);
+    let is_created = created(&RuntimeFiles { files: rt }, path).is_ok();
+    same(rt, "is created", &is_created, &true);
+    take_file(rt, path, b"ab");
 }
 
-// Lays a piece over a file.
-fn lay<R: Files>(store: &mut FileStore<'_, R>) -> io::Result<()> {
-    store.open_for_writing()?;
-    let pieces = [Piece {
-        offset: 3,
-        bytes: b"XY",
-    }];
-    write_pieces(store, 6, &pieces)
+const XY: [Piece<'static>; 1] = [Piece {
+    offset: 3,
+    bytes: b"XY",
+}];
+
+// Loads a file of six bytes, and lays a piece over it.
+fn patch<R: Runtime + Files>(rt: &R, store: &mut FileStore<'_, R>) {
+    expect!(rt; load_whole(rt.alloc(), store, 9), Some(6), b"abcdef");
+    let is_laid = store.open_for_writing().is_ok() && write_pieces(store, 6, &XY).is_ok();
+    same(rt, "is laid", &is_laid, &true);
 }
 
-// Loads a file, and lays a piece over it.
-fn patched<R: Files + AllocGlobal>(rt: &R, path: &str) -> Result<Vec<u8>, ReadError> {
-    let mut store = FileStore::open(rt, path)?;
-    let bytes = load_whole(rt.alloc(), &mut store, 9)?;
-    lay(&mut store)?;
-    Ok(bytes)
-}
-
-// Compares the bytes that are loaded of a file of six bytes before it is patched. It is patched once where memory was refused.
 fn expect_patched<R: Runtime + Files>(rt: &R, path: &str) {
-    let old = match patched(rt, path) {
-        Err(ReadError::Memory) => patched(rt, path),
-        answer => answer,
-    };
-    same_bytes(rt, "old bytes", &old.expect(rt, "bytes"), b"abcdef");
+    put_file(rt, path);
+    patch(rt, &mut sure!(rt; FileStore::open(rt, path)));
+    take_file(rt, path, b"abcXYf");
+}
+
+// A path that no other run of the tests uses.
+fn own_path(rt: &HostRuntime) -> io::Result<String> {
+    let folder = env::temp_dir(rt)?;
+    let folder = folder.as_path().to_string_lossy();
+    let id = process::id(rt.process());
+    Ok(format!(in rt.alloc(); "{folder}/store-test-{id}")?)
 }
 
 #[test]
-fn file_in_its_place(rt: HostRuntime) {
-    let path = sure!(&rt; own_path(&rt, ""));
-    put_file(&rt, path.as_str());
+fn files_at_a_path(rt: HostRuntime) {
+    let path = sure!(&rt; own_path(&rt));
+    expect_created(&rt, path.as_str());
     expect_patched(&rt, path.as_str());
-    take_file(&rt, path.as_str(), b"abcXYf");
 }

@@ -1,5 +1,5 @@
 //! A store in memory whose calls fail on purpose.
-ghost use Rattle.std.specs.Prelude.{◌≡◌, [], IfOk, true};
+ghost use Rattle.std.specs.Prelude.{◌≡◌, [], IfOk};
 ghost use Rattle.std.specs.Io.{WritesAtMost};
 
 use crate::support::Runtime;
@@ -28,52 +28,41 @@ pub(crate) fn copy(alloc: Global, bytes: &[u8]) -> Result<Vec<u8>, AllocError>
     Ok(copied)
 }
 
-// What goes wrong. Calls are those of `write_at`, counted from 0; 99 is never reached.
-#[derive(Clone, Copy)]
-pub(crate) struct Plan {
-    // This write fails.
-    pub(crate) fails_at: usize,
-    // A write takes so many bytes at most.
-    pub(crate) takes: usize,
-    // So many interruptions come before each write.
-    pub(crate) interruptions: usize,
-    // Setting the length fails.
-    pub(crate) keeps_length: bool,
-    // Opening for writing fails.
-    pub(crate) stays_closed: bool,
-}
+// What goes wrong: the write that fails, counted from 0, how much a write takes, how many interruptions come before each, and
+// whether setting the length fails.
+pub(crate) type Calls = (usize, usize, usize, bool);
 
 // A store in memory that follows a plan, and counts its writes, and its failures.
 #[derive(Drop)]
 pub(crate) struct TrialStore {
     pub(crate) inner: MemoryStore,
-    pub(crate) plan: Plan,
+    fails_at: usize,
+    takes: usize,
+    interruptions: usize,
+    keeps_length: bool,
+    // Opening for writing fails.
+    stays_closed: bool,
     pub(crate) writes: usize,
-    pub(crate) interrupted: usize,
-    pub(crate) failed: Failures,
+    interrupted: usize,
+    failed: Failures,
 }
 
 impl TrialStore {
-    // A store with the bytes `abcdef` that is open for writing.
-    pub(crate) fn open(rt: &impl Runtime, plan: Plan) -> TrialStore
-        ensures open { result.inner.is_open ≡ true }
-        ensures plan { result.plan ≡ plan }
-        ensures fresh { (result.writes ≡ 0) × (result.interrupted ≡ 0) }
-    {
-        let mut store = TrialStore::closed(rt, b"abcdef", plan);
-        store.inner.open_for_writing().expect(rt, "a store");
-        store
-    }
-
-    // A store with these bytes that is not open for writing.
-    pub(crate) fn closed(rt: &impl Runtime, bytes: &[u8], plan: Plan) -> TrialStore
-        ensures plan { result.plan ≡ plan }
-        ensures fresh { (result.writes ≡ 0) × (result.interrupted ≡ 0) }
-    {
+    // A store with these bytes that follows a plan.
+    pub(crate) fn new(
+        rt: &impl Runtime,
+        bytes: &[u8],
+        (fails_at, takes, interruptions, keeps_length): Calls,
+        stays_closed: bool,
+    ) -> TrialStore {
         let bytes = copy(rt.alloc(), bytes).expect(rt, "memory");
         TrialStore {
             inner: MemoryStore::new(bytes),
-            plan,
+            fails_at,
+            takes,
+            interruptions,
+            keeps_length,
+            stays_closed,
             writes: 0,
             interrupted: 0,
             failed: Failures::none(),
@@ -86,17 +75,17 @@ impl TrialStore {
         ensures open { self.new.inner.is_open ≡ self.old.inner.is_open }
         ensures failed { self.new.failed ≡ self.old.failed }
     {
-        if self.interrupted < self.plan.interruptions {
+        if self.interrupted < self.interruptions {
             self.interrupted = self.interrupted.saturating_add(1);
             return Err(io::Error::from(io::ErrorKind::Interrupted));
         }
         self.interrupted = 0;
         let call = self.writes;
         self.writes = call.saturating_add(1);
-        if call == self.plan.fails_at {
+        if call == self.fails_at {
             return Err(io::Error::from(io::ErrorKind::StorageFull));
         }
-        let count = bytes.len().min(self.plan.takes);
+        let count = bytes.len().min(self.takes);
         self.inner.write_at(offset, &bytes[..count])
     }
 
@@ -105,7 +94,7 @@ impl TrialStore {
         ensures open { self.new.inner.is_open ≡ self.old.inner.is_open }
         ensures failed { self.new.failed ≡ self.old.failed }
     {
-        if self.plan.keeps_length {
+        if self.keeps_length {
             return Err(io::Error::from(io::ErrorKind::StorageFull));
         }
         self.inner.set_length(length)
@@ -130,7 +119,7 @@ impl Store for TrialStore {
     }
 
     fn open_for_writing(&mut self) -> io::Result<()> {
-        if self.plan.stays_closed {
+        if self.stays_closed {
             self.failed.count_one();
             return Err(io::Error::from(io::ErrorKind::PermissionDenied));
         }
