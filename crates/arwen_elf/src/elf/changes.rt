@@ -1,5 +1,5 @@
 //! The edits of an ELF file, by the names of the program's commands.
-ghost use Rattle.std.specs.Prelude.{◌≡◌, ◌∷◌, [], IfOk, IsOk};
+ghost use Rattle.std.specs.Prelude.{◌≡◌, ◌∷◌, [], IfOk, IsOk, true};
 ghost use Rattle.elf_edits.specs.Edit.{AddDebugEntry, AddNeeded, AddRunPath, ClearExecStack, ClearSymbolVersion, DeleteNeeded, DeleteRunPath, NoDefaultLibrary, RenameDynamicSymbols, ReplaceNeeded, SetExecStack, SetInterpreter, SetOsAbi, SetPageSize, SetRunPath, SetSoname, UseRpath};
 ghost use Rattle.elf_edits.specs.EditModel.{pairs_model, texts_model};
 ghost use Rattle.elf_apply.specs.Taken.{RemovedAre, edits_model, shrink_model};
