@@ -5,7 +5,8 @@ use macho_edits::commands::CommandBuilderError;
 use macho_edits::error::MachoError;
 use macho_image::MachFault;
 use macho_signatures::SignatureFault;
-use std::alloc::AllocError;
+use patch_bytes::{ByteOrder2, write_u32_at};
+use std::alloc::{AllocError, Global};
 use std::fmt;
 use std::process::Abort;
 
@@ -109,4 +110,31 @@ pub(crate) fn shows<T: fmt::Debug>(rt: &impl Runtime, value: &T, text: &str) {
 pub(crate) fn prints<T: fmt::Display>(rt: &impl Runtime, value: &T, text: &str) {
     let printed = sure!(rt; format!(in rt.alloc(); "{value}"));
     same(rt, "printed", &printed.as_str(), &text);
+}
+
+// What `Debug` prints of a value that took memory.
+pub(crate) fn debug_text<T: Drop + fmt::Debug>(
+    alloc: Global,
+    value: Result<T, AllocError>,
+) -> Result<String, AllocError> {
+    let value = value?;
+    format!(in alloc; "{value:?}")
+}
+
+// Puts bytes at a place, as far as they lie in the file.
+pub(crate) fn put(file: &mut [u8], place: usize, part: &[u8]) {
+    for i in 0..part.len() {
+        let at = place.saturating_add(i);
+        if at < file.len() {
+            file[at] = part[i];
+        }
+    }
+}
+
+// Lays numbers of 32 bits from a place on, the highest byte first, as far as they lie in the file.
+pub(crate) fn lay(file: &mut [u8], place: usize, numbers: &[u32]) {
+    for i in 0..numbers.len() {
+        let at = place.saturating_add(i.saturating_mul(4));
+        let _is_laid = write_u32_at(file, at, numbers[i], ByteOrder2::Big).is_ok();
+    }
 }

@@ -1,31 +1,21 @@
 //! Signatures that are read, and why others are refused.
 
-use crate::signatures::file::{SIZE, START, signature, signed_file};
-use crate::support::{Runtime, same};
-use macho_signatures::{HashKind, SignatureFault, read_signature};
+use crate::signatures::file::{SIGNED, SIZE, START};
+use crate::support::{Runtime, debug_text, lay, same};
+use macho_signatures::{SignatureFault, read_signature};
 use std::alloc::{AllocError, Global};
 
-// The first check that fails.
-fn fault_of(
-    rt: &impl Runtime,
+// What is told of a signature.
+fn answer_of(
+    alloc: Global,
     bytes: &[u8],
     dataoff: u32,
     datasize: u32,
-) -> Option<SignatureFault> {
-    again!(rt; read_signature(rt.alloc(), bytes, dataoff, datasize)).err()
-}
-
-// The file with a word put at a place of the signature.
-fn changed_file(alloc: Global, at: usize, word: u32) -> Result<Vec<u8>, AllocError> {
-    let mut bytes = signed_file(alloc, 8)?;
-    for (byte, new) in bytes
-        .iter_mut()
-        .skip(at.saturating_add(12))
-        .zip(word.to_be_bytes())
-    {
-        *byte = new;
+) -> Result<(), SignatureFault> {
+    match read_signature(alloc, bytes, dataoff, datasize) {
+        Ok(_) => Ok(()),
+        Err(fault) => Err(fault),
     }
-    Ok(bytes)
 }
 
 // Compares the first check that fails.
@@ -36,40 +26,58 @@ fn expect_fault(
     datasize: u32,
     want: &Option<SignatureFault>,
 ) {
-    let found = fault_of(rt, bytes, dataoff, datasize);
-    same(rt, "a fault", &found, want);
+    let answer = again!(rt; answer_of(rt.alloc(), bytes, dataoff, datasize));
+    same(rt, "a fault", &answer.err(), want);
+}
+
+// The file with a word put at a place of the signature.
+fn changed(at: usize, word: u32) -> [u8; 378] {
+    let mut bytes = *SIGNED;
+    lay(&mut bytes, at.saturating_add(12), &[word]);
+    bytes
 }
 
 // Looks at a file with one word changed.
 fn expect(rt: &impl Runtime, at: usize, word: u32, want: &Option<SignatureFault>) {
-    let file = sure!(rt; changed_file(rt.alloc(), at, word));
-    expect_fault(rt, &file, START, SIZE, want);
+    expect_fault(rt, &changed(at, word), START, SIZE, want);
+}
+
+// What the file's signature shows.
+const SHOWN: &str = "Signature { start: 12, directories: [\
+Directory { version: 131073, flags: 2, hash: Sha1, page_size: 4, limit: 10, count: 3, slots: 114, \
+identifier: 92, identifier_len: 1 }, \
+Directory { version: 131073, flags: 2, hash: Sha256, page_size: 4, limit: 10, count: 3, slots: 252, \
+identifier: 218, identifier_len: 1 }], is_signed: false }";
+
+fn expect_shown(rt: &impl Runtime) -> Result<(), SignatureFault> {
+    let found = read_signature(rt.alloc(), SIGNED, START, SIZE)?;
+    let text = debug_text(rt.alloc(), Ok(found))?;
+    same(rt, "a signature", &text.as_str(), &SHOWN);
+    Ok(())
 }
 
 #[test]
 fn reads_a_signature(rt: HostRuntime) {
-    let file = sure!(&rt; signed_file(rt.alloc(), 8));
-    let found = sure!(&rt; signature(rt.alloc(), &file));
-    same(&rt, "directories", &found.directories.len(), &2);
-    let mut facts = (0, 0, 0, 0);
-    if let Some(second) = found.directories.get(1) {
-        same(&rt, "hash", &second.hash, &HashKind::Sha256);
-        facts = (
-            second.slots,
-            second.identifier,
-            second.identifier_len,
-            second.page_size,
-        );
-    }
-    same(&rt, "places", &facts, &(12 + 162 + 78, 12 + 162 + 44, 1, 4));
+    sure!(&rt; expect_shown(&rt));
 }
+
+// Whether no identity signed.
+fn is_adhoc(alloc: Global, bytes: &[u8]) -> Result<bool, SignatureFault> {
+    match read_signature(alloc, bytes, START, SIZE) {
+        Ok(found) => Ok(found.is_adhoc()),
+        Err(fault) => Err(fault),
+    }
+}
+
+// How long the message is, and whether the file is ad hoc then.
+const MESSAGES: [(u32, bool); 3] = [(8, true), (9, false), (30, false)];
 
 #[test]
 fn knows_identities(rt: HostRuntime) {
-    for (message, want) in [(8, true), (9, false), (30, false)] {
-        let file = sure!(&rt; signed_file(rt.alloc(), message));
-        let found = sure!(&rt; signature(rt.alloc(), &file));
-        same(&rt, "whether it is ad hoc", &found.is_adhoc(), &want);
+    for (message, want) in &MESSAGES {
+        let file = changed(340, *message);
+        let found = again!(&rt; is_adhoc(rt.alloc(), &file));
+        same(&rt, "whether it is ad hoc", &found, &Ok(*want));
     }
 }
 
@@ -173,39 +181,36 @@ fn expect_cut(rt: &impl Runtime, file: &[u8], row: &Cut) {
 
 #[test]
 fn refuses_cut_files(rt: HostRuntime) {
-    let file = sure!(&rt; signed_file(rt.alloc(), 8));
-    same(&rt, "length", &file.len(), &378);
     for row in &CUT {
-        expect_cut(&rt, &file, row);
+        expect_cut(&rt, SIGNED, row);
     }
 }
 
-// A SuperBlob of 100,000 blobs of 8 bytes, which stand backwards and end to end behind its index, and one of this size.
-fn many_blobs(alloc: Global, middle: u32) -> Result<Vec<u8>, AllocError> {
-    let mut file = Vec::new(alloc);
-    for word in [0xfade_0cc0, 12 + 1_600_000, 100_000u32] {
-        file.extend_from_slice(&word.to_be_bytes())?;
-    }
-    for i in 0..100_000u32 {
-        file.extend_from_slice(&7u32.to_be_bytes())?;
-        file.extend_from_slice(&(12 + 1_599_992 - 8 * i).to_be_bytes())?;
-    }
+// Lays a SuperBlob of 100,000 blobs of 8 bytes, which stand backwards and end to end behind its index, and one of this
+// size.
+fn lay_blobs(file: &mut [u8], middle: u32) {
+    lay(file, 0, &[0xfade_0cc0, 12 + 1_600_000, 100_000]);
     for i in 0..100_000u32 {
         let size = if i == 50_000 { middle } else { 8 };
-        file.extend_from_slice(&0u32.to_be_bytes())?;
-        file.extend_from_slice(&size.to_be_bytes())?;
+        let at = i as usize * 8 + 12;
+        lay(file, at, &[7, 12 + 1_599_992 - 8 * i]);
+        lay(file, at + 800_000, &[0, size]);
     }
-    Ok(file)
+}
+
+fn expect_blobs(
+    rt: &impl Runtime,
+    middle: u32,
+    want: &Option<SignatureFault>,
+) -> Result<(), AllocError> {
+    let mut file = vec![in rt.alloc(); 0; 1_600_012]?;
+    lay_blobs(&mut file, middle);
+    expect_fault(rt, &file, 0, 12 + 1_600_000, want);
+    Ok(())
 }
 
 #[test]
 fn reads_many_blobs(rt: HostRuntime) {
-    let rows = [
-        (8, SignatureFault::NoDirectory),
-        (9, SignatureFault::BadBlob),
-    ];
-    for (middle, want) in rows {
-        let file = sure!(&rt; many_blobs(rt.alloc(), middle));
-        expect_fault(&rt, &file, 0, 12 + 1_600_000, &Some(want));
-    }
+    sure!(&rt; expect_blobs(&rt, 8, &Some(SignatureFault::NoDirectory)));
+    sure!(&rt; expect_blobs(&rt, 9, &Some(SignatureFault::BadBlob)));
 }

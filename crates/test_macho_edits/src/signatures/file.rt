@@ -1,52 +1,53 @@
 //! A small signed file.
 
-use macho_signatures::{Signature, SignatureFault, read_signature};
-use std::alloc::{AllocError, Global};
+// A file of 10 signed bytes and two more, and a signature of 366 bytes behind them: a directory with SHA-1 at 36, one with
+// SHA-256 at 162, and at 336 a message of 8 bytes in the slot of an identity's, in room for 30. The directories are of
+// pages of 4 bytes, with the identifier "a", one special slot and three code slots, which are zeros.
+pub(crate) const SIGNED: &[u8; 378] = b"0123456789AB\
+\xfa\xde\x0c\xc0\0\0\x01\x6e\0\0\0\x03\
+\0\0\0\0\0\0\0\x24\0\0\x10\0\0\0\0\xa2\0\x01\0\0\0\0\x01\x50\
+\xfa\xde\x0c\x02\0\0\0\x7e\0\x02\0\x01\0\0\0\x02\0\0\0\x42\0\0\0\x2c\0\0\0\x01\0\0\0\x03\0\0\0\
+\x0a\x14\x01\0\x02\0\0\0\0\
+a\0\
+\0\0\0\0\0\0\0\0\0\0\0\0\0\0\0\0\0\0\0\0\
+\0\0\0\0\0\0\0\0\0\0\0\0\0\0\0\0\0\0\0\0\
+\0\0\0\0\0\0\0\0\0\0\0\0\0\0\0\0\0\0\0\0\
+\0\0\0\0\0\0\0\0\0\0\0\0\0\0\0\0\0\0\0\0\
+\xfa\xde\x0c\x02\0\0\0\xae\0\x02\0\x01\0\0\0\x02\0\0\0\x4e\0\0\0\x2c\0\0\0\x01\0\0\0\x03\0\0\0\
+\x0a\x20\x02\0\x02\0\0\0\0\
+a\0\
+\0\0\0\0\0\0\0\0\0\0\0\0\0\0\0\0\0\0\0\0\0\0\0\0\0\0\0\0\0\0\0\0\
+\0\0\0\0\0\0\0\0\0\0\0\0\0\0\0\0\0\0\0\0\0\0\0\0\0\0\0\0\0\0\0\0\
+\0\0\0\0\0\0\0\0\0\0\0\0\0\0\0\0\0\0\0\0\0\0\0\0\0\0\0\0\0\0\0\0\
+\0\0\0\0\0\0\0\0\0\0\0\0\0\0\0\0\0\0\0\0\0\0\0\0\0\0\0\0\0\0\0\0\
+\xfa\xde\x0b\x01\0\0\0\x08\
+\x07\x07\x07\x07\x07\x07\x07\x07\x07\x07\x07\x07\x07\x07\x07\x07\x07\x07\x07\x07\x07\x07";
 
-// Appends numbers of 32 bits, the highest byte first.
-fn push_words(bytes: &mut Vec<u8>, words: &[u32]) -> Result<(), AllocError> {
-    for word in words {
-        bytes.extend_from_slice(&word.to_be_bytes())?;
-    }
-    Ok(())
-}
-
-// Appends a directory of 10 signed bytes in pages of 4, whose slots are zeros: with the identifier "a", one special slot and
-// three code slots.
-fn push_directory(bytes: &mut Vec<u8>, kind: u8, size: u8) -> Result<(), AllocError> {
-    let slots = 4 * u32::from(size);
-    let first = 46 + u32::from(size);
-    push_words(bytes, &[0xfade_0c02, 46 + slots, 0x2_0001, 2])?;
-    push_words(bytes, &[first, 44, 1, 3, 10])?;
-    bytes.extend_from_slice(&[size, kind, 0, 2, 0, 0, 0, 0])?;
-    bytes.extend_from_slice(b"a\0")?;
-    for _i in 0..slots {
-        bytes.push(0)?;
-    }
-    Ok(())
-}
-
-// A file of 10 signed bytes and two more, and a signature of 366 bytes behind them: a directory with SHA-1 at 36, one with SHA-256
-// at 162, and at 336 a message of so many bytes in the slot of an identity's, in room for 30.
-pub(crate) fn signed_file(alloc: Global, message: u32) -> Result<Vec<u8>, AllocError> {
-    let mut bytes = Vec::from_slice(alloc, b"0123456789AB")?;
-    push_words(&mut bytes, &[0xfade_0cc0, 366, 3])?;
-    push_words(&mut bytes, &[0, 36, 0x1000, 162, 0x1_0000, 336])?;
-    push_directory(&mut bytes, 1, 20)?;
-    push_directory(&mut bytes, 2, 32)?;
-    push_words(&mut bytes, &[0xfade_0b01, message])?;
-    for _i in 0..22 {
-        bytes.push(7)?;
-    }
-    Ok(bytes)
-}
+// The same with the hashes of "0123", "4567" and "89" in their slots.
+pub(crate) const FITTING: &[u8; 378] = b"0123456789AB\
+\xfa\xde\x0c\xc0\0\0\x01\x6e\0\0\0\x03\
+\0\0\0\0\0\0\0\x24\0\0\x10\0\0\0\0\xa2\0\x01\0\0\0\0\x01\x50\
+\xfa\xde\x0c\x02\0\0\0\x7e\0\x02\0\x01\0\0\0\x02\0\0\0\x42\0\0\0\x2c\0\0\0\x01\0\0\0\x03\0\0\0\
+\x0a\x14\x01\0\x02\0\0\0\0\
+a\0\
+\0\0\0\0\0\0\0\0\0\0\0\0\0\0\0\0\0\0\0\0\
+\xc4\xb5\xc8\x6b\xd5\x77\xda\x3d\x93\xfe\xa7\xc8\x9c\xba\x61\xc7\x8b\x48\xe5\x89\
+\x83\x78\x7f\x06\x0a\x59\x49\x3a\xef\xdc\xd4\xb2\x36\x99\x90\xe7\x30\x3e\x18\x6e\
+\x16\xb0\x6b\xd9\xb7\x38\x83\x5e\x2d\x13\x4f\xe8\xd5\x96\xe9\xab\0\x86\xa9\x85\
+\xfa\xde\x0c\x02\0\0\0\xae\0\x02\0\x01\0\0\0\x02\0\0\0\x4e\0\0\0\x2c\0\0\0\x01\0\0\0\x03\0\0\0\
+\x0a\x20\x02\0\x02\0\0\0\0\
+a\0\
+\0\0\0\0\0\0\0\0\0\0\0\0\0\0\0\0\0\0\0\0\0\0\0\0\0\0\0\0\0\0\0\0\
+\x1b\xe2\xe4\x52\xb4\x6d\x7a\x0d\x96\x56\xbb\xb1\xf7\x68\xe8\x24\x8e\xba\x1b\x75\xba\xed\x65\xf5\
+\xd9\x9e\xaf\xa9\x48\x89\x9a\x6a\
+\xdb\x2e\x7f\x1b\xd5\xab\x99\x68\xae\x76\x19\x9b\x7c\xc7\x47\x95\xca\x74\x04\xd5\xa0\x8d\x78\x56\
+\x77\x15\xce\x53\x2f\x9d\x26\x69\
+\xcd\x70\xbe\xa0\x23\xf7\x52\xa0\x56\x4a\xbb\x6e\xd0\x8d\x42\xc1\x44\x0f\x2e\x33\xe2\x99\x14\xe5\
+\x5e\x0b\xe1\x59\x5e\x24\xf4\x5a\
+\xfa\xde\x0b\x01\0\0\0\x08\
+\x07\x07\x07\x07\x07\x07\x07\x07\x07\x07\x07\x07\x07\x07\x07\x07\x07\x07\x07\x07\x07\x07";
 
 // Where the signature of such a file begins, and how many bytes it has.
 pub(crate) const START: u32 = 12;
 
 pub(crate) const SIZE: u32 = 366;
-
-// The signature of such a file.
-pub(crate) fn signature(alloc: Global, bytes: &[u8]) -> Result<Signature, SignatureFault> {
-    read_signature(alloc, bytes, START, SIZE)
-}
