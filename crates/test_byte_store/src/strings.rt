@@ -9,24 +9,18 @@ fn is_lent(rt: &impl Runtime, string: &mut ByteString<'_>) -> bool {
     string.to_mut(rt.alloc()).is_ok()
 }
 
-// Bytes that a string owns are lent without memory. One that cannot be copied stays as it was.
+// Bytes that a string owns are lent without memory. One that cannot be copied stays as it was, and is then.
 fn lend(rt: &impl Runtime, string: &mut ByteString<'_>, bytes: &[u8]) {
-    let is_owned = string.is_owned();
-    if !is_lent(rt, string) {
-        same(
-            rt,
-            "refused",
-            &(is_owned, string.as_slice()),
-            &(false, bytes),
-        );
-        same(rt, "lent", &is_lent(rt, string), &true);
-    }
-    same(
-        rt,
-        "string",
-        &(string.is_owned(), string.as_slice()),
-        &(true, bytes),
+    let was_owned = string.is_owned();
+    let is_first = is_lent(rt, string) || !was_owned;
+    let stays = string.as_slice() == bytes;
+    let is_second = is_lent(rt, string);
+    let found = (
+        is_first && stays && is_second,
+        string.is_owned(),
+        string.as_slice(),
     );
+    same(rt, "lent", &found, &(true, true, bytes));
 }
 
 fn push(alloc: Global, string: &mut ByteString<'_>) -> Result<(), AllocError> {
@@ -73,16 +67,15 @@ fn string_of(rt: &impl Runtime, row: &Row) -> ByteString<'static> {
 }
 
 // The bytes of which there is a copy stay.
-fn follow(rt: &impl Runtime, row: &Row) {
-    let mut string = string_of(rt, row);
+fn expect(rt: &impl Runtime, string: &mut ByteString<'_>, row: &Row) {
     change_copy(rt, &mut sure!(rt; string.try_clone(rt.alloc())), *row);
-    same(
-        rt,
-        "string",
-        &(string.is_owned(), string.as_slice()),
-        &(row.0, row.1),
-    );
-    lend(rt, &mut string, row.1);
+    let found = (string.is_owned(), string.as_slice());
+    same(rt, "string", &found, &(row.0, row.1));
+    lend(rt, string, row.1);
+}
+
+fn follow(rt: &impl Runtime, row: &Row) {
+    expect(rt, &mut string_of(rt, row), row);
 }
 
 #[test]

@@ -65,7 +65,7 @@ pub(crate) fn given<T: Drop, E: Refusal + fmt::Debug>(
 
 // Compares.
 pub(crate) fn same<T: PartialEq + fmt::Debug>(rt: &impl Abort, what: &str, found: &T, want: &T) {
-    assert_eq!(rt; found, want, "{what}");
+    assert!(rt; found == want, "{what}: {found:?} is not {want:?}");
 }
 
 // Compares bytes.
