@@ -3,8 +3,8 @@
 use crate::support::{Runtime, same, same_bytes, table_of};
 use elf_tables::Finished;
 
-// A text, an offset, and whether it is placed there.
-type Row = (&'static [u8], u32, bool);
+// A text, an offset, whether it is placed there, and where it is once all are.
+type Row = (&'static [u8], u32, bool, Option<u32>);
 
 // A copied table of these bytes.
 fn copied(rt: &impl Runtime, bytes: &[u8]) -> Finished<'static> {
@@ -29,50 +29,56 @@ fn place(
     }
 }
 
-// The places of the texts that were placed.
-fn compare(rt: &impl Runtime, table: &Finished<'static>, rows: &[Row]) {
-    for (text, offset, is_placed) in rows {
-        let want = if *is_placed { Some(*offset) } else { None };
+// No text is placed yet, or all are.
+fn compare(rt: &impl Runtime, table: &Finished<'static>, rows: &[Row], are_placed: bool) {
+    for (text, _, _, place) in rows {
+        let want = if are_placed { *place } else { None };
         same(rt, "place", &table.offset_of(text), &want);
     }
 }
 
-// Each text is placed once, or isn't, and the places of the others stay.
+fn place_each(rt: &impl Runtime, table: &mut Finished<'static>, rows: &[Row]) {
+    for (text, offset, is_placed, _) in rows {
+        same(rt, "is placed", &place(rt, table, text, *offset), is_placed);
+    }
+}
+
+// Each text is placed, or isn't, and the places of the others stay.
+fn expect(rt: &impl Runtime, table: &mut Finished<'static>, rows: &[Row]) {
+    compare(rt, table, rows, false);
+    place_each(rt, table, rows);
+    compare(rt, table, rows, true);
+}
+
 fn follow(rt: &impl Runtime, what: &str, bytes: &[u8], rows: &[Row]) {
     let mut table = copied(rt, bytes);
-    for (text, _, _) in rows {
-        same(rt, what, &table.offset_of(text), &None);
-    }
-    for (text, offset, is_placed) in rows {
-        same(rt, what, &place(rt, &mut table, text, *offset), is_placed);
-    }
-    compare(rt, &table, rows);
+    expect(rt, &mut table, rows);
     same_bytes(rt, what, table.bytes(), bytes);
 }
 
 // The bytes of tables, and texts in them.
-const TABLES: [(&str, &[u8], &[Row]); 6] = [
+const TABLES: [(&str, &[u8], &[Row]); 7] = [
     (
         "texts of a table",
         b"\0libc.so.6\0libm.so.6\0",
         &[
-            (b"libc.so.6", 1, true),
-            (b"libm.so.6", 11, true),
-            (b"", 10, true),
-            (b".6", 8, true),
-            (b"so.6", 16, true),
-            (b"6", 19, true),
+            (b"libc.so.6", 1, true, Some(1)),
+            (b"libm.so.6", 11, true, Some(11)),
+            (b"", 10, true, Some(10)),
+            (b".6", 8, true, Some(8)),
+            (b"so.6", 16, true, Some(16)),
+            (b"6", 19, true, Some(19)),
         ],
     ),
     (
         "wrong offsets",
         b"\0libc.so.6\0",
         &[
-            (b"libc.so.6", 2, false),
-            (b"libc", 1, false),
-            (b"lib", 0, false),
-            (b"libc.so.6\xff", 1, false),
-            (b"", 1, false),
+            (b"libc.so.6", 2, false, None),
+            (b"libc", 1, false, None),
+            (b"lib", 0, false, None),
+            (b"libc.so.6\xff", 1, false, None),
+            (b"", 1, false, None),
         ],
     ),
     // The bytes are there, each time with a NUL behind them.
@@ -80,50 +86,50 @@ const TABLES: [(&str, &[u8], &[Row]); 6] = [
         "texts with a NUL",
         b"\0\0ab\0c\0",
         &[
-            (b"\0", 0, false),
-            (b"\0ab", 1, false),
-            (b"ab\0c", 2, false),
-            (b"ab", 2, true),
+            (b"\0", 0, false, None),
+            (b"\0ab", 1, false, None),
+            (b"ab\0c", 2, false, None),
+            (b"ab", 2, true, Some(2)),
         ],
     ),
     (
         "offsets past the end",
         b"\0a\0",
         &[
-            (b"a", 3, false),
-            (b"", 3, false),
-            (b"ab", 4, false),
-            (b"abc", 0xffff_ffff, false),
+            (b"a", 3, false, None),
+            (b"", 3, false, None),
+            (b"ab", 4, false, None),
+            (b"abc", 0xffff_ffff, false, None),
         ],
     ),
     (
         "no NUL at the end",
         b"\0ab",
         &[
-            (b"ab", 1, false),
-            (b"b", 2, false),
-            (b"abc", 1, false),
-            (b"", 0, true),
+            (b"ab", 1, false, None),
+            (b"b", 2, false, None),
+            (b"abc", 1, false, None),
+            (b"", 0, true, Some(0)),
         ],
     ),
-    ("no byte", b"", &[(b"", 0, false), (b"a", 0, false)]),
+    // The offset that was given last.
+    (
+        "a text placed twice",
+        b"\0a\0",
+        &[(b"", 0, true, Some(2)), (b"", 2, true, Some(2))],
+    ),
+    (
+        "no byte",
+        b"",
+        &[(b"", 0, false, None), (b"a", 0, false, None)],
+    ),
 ];
 
 #[test]
 fn places_texts(rt: HostRuntime) {
-    for (what, bytes, rows) in TABLES {
+    for (what, bytes, rows) in &TABLES {
         follow(&rt, what, bytes, rows);
     }
-}
-
-// The offset that was given last.
-#[test]
-fn a_text_placed_twice(rt: HostRuntime) {
-    let mut table = copied(&rt, b"\0a\0");
-    for offset in [0, 2] {
-        same(&rt, "twice", &place(&rt, &mut table, b"", offset), &true);
-    }
-    same(&rt, "place", &table.offset_of(b""), &Some(2));
 }
 
 // Where `bc` and `abc` are placed, and where the third text stands.
@@ -135,21 +141,29 @@ fn places(table: &Finished<'static>) -> [Option<u32>; 3] {
     ]
 }
 
+// An offset, whether `bc` is placed there, and the places then.
+const PLACED: [(u32, bool, [Option<u32>; 3]); 2] = [
+    (3, false, [Some(6), Some(5), Some(6)]),
+    (2, true, [Some(2), Some(5), Some(6)]),
+];
+
+fn expect_placed(rt: &impl Runtime, table: &mut Finished<'static>) {
+    let found = (table.bytes(), places(table));
+    let want = (b"\0xbc\0abc\0".as_slice(), [Some(6), Some(5), Some(6)]);
+    same(rt, "before", &found, &want);
+    for (offset, is_placed, want) in &PLACED {
+        same(
+            rt,
+            "is placed",
+            &place(rt, table, b"bc", *offset),
+            is_placed,
+        );
+        same(rt, "after", &places(table), want);
+    }
+}
+
 // A text of a table that was made is placed where it stands a second time. Other texts, and what was added, stay.
 #[test]
 fn placed_in_a_table_that_was_made(rt: HostRuntime) {
-    let mut table = table_of(&rt, &[b"abc", b"xbc", b"bc"]);
-    same_bytes(&rt, "bytes", table.bytes(), b"\0xbc\0abc\0");
-    let laid = [Some(6), Some(5), Some(6)];
-    let placed = [Some(2), Some(5), Some(6)];
-    for (offset, is_placed, before, after) in [(3, false, laid, laid), (2, true, laid, placed)] {
-        same(&rt, "before", &places(&table), &before);
-        same(
-            &rt,
-            "is placed",
-            &place(&rt, &mut table, b"bc", offset),
-            &is_placed,
-        );
-        same(&rt, "after", &places(&table), &after);
-    }
+    expect_placed(&rt, &mut table_of(&rt, &[b"abc", b"xbc", b"bc"]));
 }

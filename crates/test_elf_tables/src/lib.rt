@@ -2,20 +2,20 @@
 //! they test does not wait for them.
 #![tactic(auto)]
 
-// What a call answers whose answer counts alone. It is made twice, and what it answers first counts where that is not want of
-// memory. Then it is not refused memory again. (So no call needs a branch for it.)
-#[cfg(test)]
-macro_rules! again {
-    ($rt:expr; $call:expr) => {
-        crate::support::granted($rt, $call, $call)
-    };
-}
-
-// What such a call gives, which is to succeed.
+// What a call gives, which is to succeed. It is made twice, and what it answers first counts where that is not want of memory.
+// Then it is not refused memory again. (So no call needs a branch for it.)
 #[cfg(test)]
 macro_rules! sure {
     ($rt:expr; $call:expr) => {
         crate::support::given($rt, $call, $call)
+    };
+}
+
+// Compares the bytes that a call answers, made twice in the same way.
+#[cfg(test)]
+macro_rules! expect {
+    ($rt:expr; $call:expr, $want:expr) => {
+        crate::support::answers($rt, "bytes", $call, $call, $want)
     };
 }
 

@@ -5,9 +5,9 @@ ghost use Rattle.elf_image.specs.ImageModel.{needs_model};
 ghost use Rattle.elf_tables.specs.Strings.{place_of};
 ghost use Rattle.elf_tables.specs.VersionRecords.{has_needs_texts};
 
-use crate::support::{Runtime, answers, table_of};
+use crate::support::{Runtime, table_of};
 use elf_image::{VersionNeed, VersionNeedName};
-use elf_tables::{Finished, TableFault, build_verneed};
+use elf_tables::{Finished, build_verneed};
 use patch_bytes::{ByteOrder2, ByteString};
 use std::alloc::AllocError;
 
@@ -76,53 +76,67 @@ fn kept(
     Ok(kept)
 }
 
-// The table of these versions, whose texts stand in a table of these texts.
-fn needed(
-    rt: &impl Runtime,
-    libraries: &[Needs<'_>],
-    texts: &[&[u8]],
-) -> Result<Vec<u8>, TableFault> {
-    let table = table_of(rt, texts);
-    let records = sure!(rt; kept(rt, libraries));
-    assert!(rt; has_names(&records, &table), "texts of versions");
-    again!(rt; build_verneed(rt.alloc(), &records, &table, ByteOrder2::Little))
+// Needed versions, texts of a table, and the bytes. There are none where a number is too large.
+#[derive(Clone, Copy)]
+struct Row<'n> {
+    libraries: &'n [Needs<'n>],
+    texts: &'static [&'static [u8]],
+    bytes: Option<&'static [u8]>,
 }
 
-// Needed versions, texts of a table, and the bytes.
-const NEEDED: [(&[Needs<'static>], &[&[u8]], &[u8]); 2] = [
-    (&[], &[], b""),
+// Compares the table of versions whose texts stand in another.
+fn expect(rt: &impl Runtime, row: &Row<'_>, table: &Finished<'_>, records: &[VersionNeed<'_>]) {
+    assert!(rt; has_names(records, table), "texts of versions");
+    expect!(rt; build_verneed(rt.alloc(), records, table, ByteOrder2::Little), row.bytes);
+}
+
+fn follow(rt: &impl Runtime, row: &Row<'_>) {
+    let records = sure!(rt; kept(rt, row.libraries));
+    expect(rt, row, &table_of(rt, row.texts), &records);
+}
+
+const NEEDED: [Row<'static>; 2] = [
+    Row {
+        libraries: &[],
+        texts: &[],
+        bytes: Some(b""),
+    },
     // The texts stand at 1, 11 and 23.
-    (
-        &[(
+    Row {
+        libraries: &[(
             b"libc.so.6",
             &[(3, 0, b"GLIBC_2.2.5"), (2, 2, b"GLIBC_2.34")],
         )],
-        &[b"GLIBC_2.34", b"GLIBC_2.2.5", b"libc.so.6"],
-        b"\x01\0\x02\0\x01\0\0\0\x10\0\0\0\0\0\0\0\
-        \x75\x1a\x69\x09\0\0\x03\0\x0b\0\0\0\x10\0\0\0\
-        \xb4\x91\x96\x06\x02\0\x02\0\x17\0\0\0\0\0\0\0",
-    ),
+        texts: &[b"GLIBC_2.34", b"GLIBC_2.2.5", b"libc.so.6"],
+        bytes: Some(
+            b"\x01\0\x02\0\x01\0\0\0\x10\0\0\0\0\0\0\0\
+            \x75\x1a\x69\x09\0\0\x03\0\x0b\0\0\0\x10\0\0\0\
+            \xb4\x91\x96\x06\x02\0\x02\0\x17\0\0\0\0\0\0\0",
+        ),
+    },
 ];
 
 #[test]
 fn needed_versions(rt: HostRuntime) {
-    for (libraries, texts, want) in &NEEDED {
-        answers(&rt, "needed", needed(&rt, libraries, texts), Ok(want));
+    for row in &NEEDED {
+        follow(&rt, row);
     }
 }
 
 // One version, again and again.
 fn repeated_version(rt: &impl Runtime) -> Result<Vec<(u16, u16, &'static [u8])>, AllocError> {
     let mut versions: Vec<(u16, u16, &'static [u8])> = Vec::new(rt.alloc());
-    for _ in 0..65_536 {
-        versions.push((2, 0, b"abc"))?;
-    }
+    versions.resize(65_536, (2, 0, b"abc"))?;
     Ok(versions)
 }
 
 #[test]
 fn too_many_versions(rt: HostRuntime) {
     let versions = sure!(&rt; repeated_version(&rt));
-    let answer = needed(&rt, &[(b"abc", &versions)], &[b"abc"]);
-    answers(&rt, "versions", answer, Err(TableFault::NumberTooLarge));
+    let row = Row {
+        libraries: &[(b"abc", &versions)],
+        texts: &[b"abc"],
+        bytes: None,
+    };
+    follow(&rt, &row);
 }

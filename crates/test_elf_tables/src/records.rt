@@ -83,96 +83,97 @@ const HEADER: FileHeader = FileHeader {
     e_shstrndx: 27,
 };
 
-// Appends a record, for 32 or for 64 bits.
-fn put(bytes: &mut Vec<u8>, kind: Kind, is_wide: bool) -> Result<(), AllocError> {
-    match (kind, is_wide) {
-        (Kind::Segment, false) => push_segment_header(bytes, NARROW, SEGMENT),
-        (Kind::Segment, true) => push_segment_header(bytes, WIDE, SEGMENT),
-        (Kind::Section, false) => push_section_header(bytes, NARROW, SECTION),
-        (Kind::Section, true) => push_section_header(bytes, WIDE, SECTION),
-        (Kind::Symbol, false) => push_symbol(bytes, NARROW, SYMBOL),
-        (Kind::Symbol, true) => push_symbol(bytes, WIDE, SYMBOL),
-        (Kind::Entry, false) => push_entry(bytes, NARROW, ENTRY),
-        (Kind::Entry, true) => push_entry(bytes, WIDE, ENTRY),
-        (Kind::Header, false) => push_file_header(bytes, NARROW, HEADER),
-        (Kind::Header, true) => push_file_header(bytes, WIDE, HEADER),
+// Appends a record of a form.
+fn put(bytes: &mut Vec<u8>, kind: Kind, form: Form) -> Result<(), AllocError> {
+    match kind {
+        Kind::Segment => push_segment_header(bytes, form, SEGMENT),
+        Kind::Section => push_section_header(bytes, form, SECTION),
+        Kind::Symbol => push_symbol(bytes, form, SYMBOL),
+        Kind::Entry => push_entry(bytes, form, ENTRY),
+        Kind::Header => push_file_header(bytes, form, HEADER),
     }
 }
 
 // The bytes of a record.
-fn bytes_of(rt: &impl Runtime, kind: Kind, is_wide: bool) -> Result<Vec<u8>, AllocError> {
+fn bytes_of(rt: &impl Runtime, kind: Kind, form: Form) -> Result<Vec<u8>, AllocError> {
     let mut bytes = Vec::new(rt.alloc());
-    put(&mut bytes, kind, is_wide)?;
+    put(&mut bytes, kind, form)?;
     Ok(bytes)
 }
 
-// Records, whether they are for 64 bits, and their bytes.
-const ROWS: [(&str, Kind, bool, &[u8]); 10] = [
+// Records, their form, and their bytes.
+type Row = (&'static str, Kind, Form, &'static [u8]);
+
+const ROWS: [Row; 10] = [
     (
         "narrow segment",
         Kind::Segment,
-        false,
+        NARROW,
         b"\x01\x00\x00\x00\x34\x12\x00\x00\x34\x12\x40\x00\x34\x12\x50\x00\x10\x00\x00\x00\x20\x00\x00\x00\x05\x00\x00\x00\x00\x10\x00\x00",
     ),
     (
         "wide segment",
         Kind::Segment,
-        true,
+        WIDE,
         b"\x00\x00\x00\x01\x00\x00\x00\x05\x00\x00\x00\x00\x00\x00\x12\x34\x00\x00\x00\x00\x00\x40\x12\x34\x00\x00\x00\x00\x00\x50\x12\x34\x00\x00\x00\x00\x00\x00\x00\x10\x00\x00\x00\x00\x00\x00\x00\x20\x00\x00\x00\x00\x00\x00\x10\x00",
     ),
     (
         "narrow section",
         Kind::Section,
-        false,
+        NARROW,
         b"\x11\x00\x00\x00\xf6\xff\xff\x6f\x02\x00\x00\x00\x20\x03\x40\x00\x20\x03\x00\x00\x24\x00\x00\x00\x06\x00\x00\x00\x03\x00\x00\x00\x08\x00\x00\x00\x04\x00\x00\x00",
     ),
     (
         "wide section",
         Kind::Section,
-        true,
+        WIDE,
         b"\x00\x00\x00\x11\x6f\xff\xff\xf6\x00\x00\x00\x00\x00\x00\x00\x02\x00\x00\x00\x00\x00\x40\x03\x20\x00\x00\x00\x00\x00\x00\x03\x20\x00\x00\x00\x00\x00\x00\x00\x24\x00\x00\x00\x06\x00\x00\x00\x03\x00\x00\x00\x00\x00\x00\x00\x08\x00\x00\x00\x00\x00\x00\x00\x04",
     ),
     (
         "narrow symbol",
         Kind::Symbol,
-        false,
+        NARROW,
         b"\x09\x00\x00\x00\x34\x12\x01\x00\x07\x00\x00\x00\x12\x02\xf1\xff",
     ),
     (
         "wide symbol",
         Kind::Symbol,
-        true,
+        WIDE,
         b"\x00\x00\x00\x09\x12\x02\xff\xf1\x00\x00\x00\x00\x00\x01\x12\x34\x00\x00\x00\x00\x00\x00\x00\x07",
     ),
     (
         "narrow entry",
         Kind::Entry,
-        false,
+        NARROW,
         b"\xfb\xff\xff\x6f\x00\x08\x00\x00",
     ),
     (
         "wide entry",
         Kind::Entry,
-        true,
+        WIDE,
         b"\x00\x00\x00\x00\x6f\xff\xff\xfb\x00\x00\x00\x00\x00\x00\x08\x00",
     ),
     (
         "narrow header",
         Kind::Header,
-        false,
+        NARROW,
         b"\x7f\x45\x4c\x46\x01\x01\x01\x03\x01\x00\x00\x00\x00\x00\x00\x00\x03\x00\x3e\x00\x01\x00\x00\x00\x40\x10\x00\x00\x40\x00\x00\x00\x00\x30\x00\x00\x07\x00\x00\x00\x34\x00\x38\x00\x09\x00\x40\x00\x1c\x00\x1b\x00",
     ),
     (
         "wide header",
         Kind::Header,
-        true,
+        WIDE,
         b"\x7f\x45\x4c\x46\x02\x02\x01\x03\x01\x00\x00\x00\x00\x00\x00\x00\x00\x03\x00\x3e\x00\x00\x00\x01\x00\x00\x00\x00\x00\x00\x10\x40\x00\x00\x00\x00\x00\x00\x00\x40\x00\x00\x00\x00\x00\x00\x30\x00\x00\x00\x00\x07\x00\x40\x00\x38\x00\x09\x00\x40\x00\x1c\x00\x1b",
     ),
 ];
 
+fn spell(rt: &impl Runtime, row: &Row) {
+    same_bytes(rt, row.0, &sure!(rt; bytes_of(rt, row.1, row.2)), row.3);
+}
+
 #[test]
 fn spells_records(rt: HostRuntime) {
-    for (what, kind, is_wide, want) in ROWS {
-        same_bytes(&rt, what, &sure!(&rt; bytes_of(&rt, kind, is_wide)), want);
+    for row in &ROWS {
+        spell(&rt, row);
     }
 }

@@ -1,6 +1,7 @@
 //! String tables of a few texts: their bytes, and where each text stands.
 
-use crate::support::{Runtime, same, same_bytes, table_of};
+use crate::support::{Runtime, same, table_of};
+use elf_tables::Finished;
 
 // Texts, the table's bytes, where each text stands, and texts that it tells no place of.
 #[derive(Clone, Copy)]
@@ -80,20 +81,23 @@ const ROWS: [Row; 9] = [
 
 // A table is made of the texts, and asked for them and for others, and for the places of all that were added, in order.
 fn follow(rt: &impl Runtime, row: &Row) {
-    let table = table_of(rt, row.texts);
-    same_bytes(rt, row.what, table.bytes(), row.bytes);
-    for (text, place) in row.texts.iter().zip(row.places) {
-        same(rt, row.what, &table.offset_of(text), &Some(*place));
+    compare(rt, row, &table_of(rt, row.texts));
+}
+
+fn compare(rt: &impl Runtime, row: &Row, table: &Finished<'_>) {
+    let found = (table.bytes(), table.in_order());
+    same(rt, row.what, &found, &(row.bytes, row.places));
+    for (i, text) in row.texts.iter().enumerate() {
+        same(
+            rt,
+            row.what,
+            &table.offset_of(text),
+            &row.places.get(i).copied(),
+        );
     }
     for text in row.others {
         same(rt, row.what, &table.offset_of(text), &None);
     }
-    same_places(rt, row.what, table.in_order(), row.places);
-}
-
-// Compares places.
-fn same_places(rt: &impl Runtime, what: &str, found: &[u32], want: &[u32]) {
-    same(rt, what, &found, &want);
 }
 
 #[test]

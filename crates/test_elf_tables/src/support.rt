@@ -1,5 +1,4 @@
 //! What the tests share: calls that are refused memory, comparisons, and string tables of given texts.
-ghost use Rattle.std.specs.Prelude.{◌≡◌, OnOk};
 ghost use Rattle.elf_tables.specs.Strings.{HoldNoNul};
 
 use elf_tables::{Finished, StringTable, TableFault};
@@ -61,7 +60,7 @@ pub(crate) fn given<T: Drop, E: Refusal + fmt::Debug>(
 
 // Compares.
 pub(crate) fn same<T: PartialEq + fmt::Debug>(rt: &impl Abort, what: &str, found: &T, want: &T) {
-    assert_eq!(rt; found, want, "{what}");
+    assert!(rt; found == want, "{what}: {found:?} is not {want:?}");
 }
 
 // Compares bytes.
@@ -69,31 +68,41 @@ pub(crate) fn same_bytes(rt: &impl Abort, what: &str, found: &[u8], want: &[u8])
     same(rt, what, &found, &want);
 }
 
-// Adds a text that has no NUL.
-fn add<'t>(rt: &impl Runtime, table: &mut StringTable<'t>, text: &'t [u8]) -> Result<(), AllocError>
+// Adds a text that has no NUL, once more where memory was refused.
+fn add<'t>(table: &mut StringTable<'t>, text: &'t [u8]) -> bool
     requires { HoldNoNul table.old }
-    ensures { OnOk result (HoldNoNul table.new) }
+    ensures { HoldNoNul table.new }
 {
-    assert!(rt; !text.contains(&0), "a NUL");
-    if table.add(text).is_ok() {
-        return Ok(());
+    !text.contains(&0) && (table.add(text).is_ok() || table.add(text).is_ok())
+}
+
+// Compares the texts of a table.
+fn expect_texts(rt: &impl Runtime, table: &StringTable<'_>, texts: &[&[u8]]) {
+    same(rt, "texts", &table.len(), &texts.len());
+    for i in 0..table.len() {
+        same(
+            rt,
+            "a text that was added",
+            &texts.get(i),
+            &Some(&table.text(i)),
+        );
     }
-    let second = table.add(text);
-    assert!(rt; second.is_ok(), "refused memory twice");
-    second
 }
 
 // The table of these texts, of which half have room before they are added.
 fn finished<'t>(rt: &impl Runtime, texts: &[&'t [u8]]) -> Result<Finished<'t>, TableFault> {
     let mut table = StringTable::new(rt.alloc());
-    again!(rt; table.reserve(texts.len() / 2))?;
+    let half = texts.len() / 2;
+    same(
+        rt,
+        "room",
+        &(table.reserve(half).is_ok() || table.reserve(half).is_ok()),
+        &true,
+    );
     for text in texts {
-        add(rt, &mut table, text)?;
+        assert!(rt; add(&mut table, text), "a text");
     }
-    assert!(rt; table.len() == texts.len(), "as many texts as were added");
-    for i in 0..texts.len() {
-        same_bytes(rt, "a text that was added", table.text(i), texts[i]);
-    }
+    expect_texts(rt, &table, texts);
     table.finish(rt.alloc())
 }
 
@@ -108,21 +117,25 @@ pub(crate) fn table_of<'t>(rt: &impl Runtime, texts: &[&'t [u8]]) -> Finished<'t
 // One text 65,536 times.
 pub(crate) fn repeated(rt: &impl Runtime) -> Result<Vec<&'static [u8]>, AllocError> {
     let mut texts: Vec<&'static [u8]> = Vec::new(rt.alloc());
-    for _ in 0..65_536 {
-        texts.push(b"abc")?;
-    }
+    texts.resize(65_536, b"abc")?;
     Ok(texts)
 }
 
-// Compares the bytes that a call answered, or its fault.
+// Compares the bytes that a call answers, or the same call made again. There are none where a number is too large.
 pub(crate) fn answers(
     rt: &impl Abort,
     what: &str,
-    answer: Result<Vec<u8>, TableFault>,
-    want: Result<&[u8], TableFault>,
+    first: Result<Vec<u8>, TableFault>,
+    second: Result<Vec<u8>, TableFault>,
+    want: Option<&[u8]>,
 ) {
-    match answer {
-        Ok(bytes) => same(rt, what, &Ok(bytes.as_slice()), &want),
-        Err(fault) => same(rt, what, &Err(fault), &want),
+    match granted(rt, first, second) {
+        Ok(bytes) => same(rt, what, &Some(bytes.as_slice()), &want),
+        Err(fault) => same(
+            rt,
+            what,
+            &(fault, None),
+            &(TableFault::NumberTooLarge, want),
+        ),
     }
 }

@@ -5,22 +5,22 @@ ghost use Rattle.elf_image.specs.ImageModel.{definition_model};
 ghost use Rattle.elf_tables.specs.Strings.{place_of};
 ghost use Rattle.elf_tables.specs.VersionRecords.{has_definition_texts};
 
-use crate::support::{Runtime, answers, repeated, table_of};
+use crate::support::{Runtime, repeated, table_of};
 use elf_image::{VersionDef, VersionId};
-use elf_tables::{Finished, TableFault, build_verdef, build_versym};
+use elf_tables::{Finished, build_verdef, build_versym};
 use patch_bytes::{ByteOrder2, ByteString};
 use std::alloc::AllocError;
 
-// Versions of symbols, the byte order, and the bytes.
-const SYMBOLS: [(&[VersionId], ByteOrder2, Result<&[u8], TableFault>); 5] = [
-    (&[], ByteOrder2::Little, Ok(b"")),
+// Versions of symbols, the byte order, and the bytes. There are none where a number is too large.
+const SYMBOLS: [(&[VersionId], ByteOrder2, Option<&[u8]>); 5] = [
+    (&[], ByteOrder2::Little, Some(b"")),
     (
         &[VersionId {
             index: 0x7fff,
             hidden: false,
         }],
         ByteOrder2::Little,
-        Ok(b"\xff\x7f"),
+        Some(b"\xff\x7f"),
     ),
     (
         &[VersionId {
@@ -28,7 +28,7 @@ const SYMBOLS: [(&[VersionId], ByteOrder2, Result<&[u8], TableFault>); 5] = [
             hidden: true,
         }],
         ByteOrder2::Big,
-        Ok(b"\xff\xff"),
+        Some(b"\xff\xff"),
     ),
     (
         &[
@@ -42,7 +42,7 @@ const SYMBOLS: [(&[VersionId], ByteOrder2, Result<&[u8], TableFault>); 5] = [
             },
         ],
         ByteOrder2::Big,
-        Ok(b"\0\0\x80\x02"),
+        Some(b"\0\0\x80\x02"),
     ),
     (
         &[
@@ -56,15 +56,14 @@ const SYMBOLS: [(&[VersionId], ByteOrder2, Result<&[u8], TableFault>); 5] = [
             },
         ],
         ByteOrder2::Little,
-        Err(TableFault::NumberTooLarge),
+        None,
     ),
 ];
 
 #[test]
 fn versions_of_symbols(rt: HostRuntime) {
     for (ids, order, want) in &SYMBOLS {
-        let answer = again!(&rt; build_versym(rt.alloc(), ids, *order));
-        answers(&rt, "versions", answer, *want);
+        expect!(&rt; build_versym(rt.alloc(), ids, *order), *want);
     }
 }
 
@@ -124,61 +123,76 @@ fn kept(
     Ok(kept)
 }
 
-// The table of these versions, whose names stand in a table of these texts.
-fn defined(
-    rt: &impl Runtime,
-    versions: &[Definition<'_>],
-    texts: &[&[u8]],
+// Defined versions, texts of a table, the byte order, and the bytes. There are none where a number is too large.
+#[derive(Clone, Copy)]
+struct Row<'n> {
+    versions: &'n [Definition<'n>],
+    texts: &'static [&'static [u8]],
     order: ByteOrder2,
-) -> Result<Vec<u8>, TableFault> {
-    let table = table_of(rt, texts);
-    let records = sure!(rt; kept(rt, versions));
-    assert!(rt; has_names(&records, &table), "names of versions");
-    again!(rt; build_verdef(rt.alloc(), &records, &table, order))
+    bytes: Option<&'static [u8]>,
+}
+
+// Compares the table of versions whose names stand in another.
+fn expect(rt: &impl Runtime, row: &Row<'_>, table: &Finished<'_>, records: &[VersionDef<'_>]) {
+    assert!(rt; has_names(records, table), "names of versions");
+    expect!(rt; build_verdef(rt.alloc(), records, table, row.order), row.bytes);
+}
+
+fn follow(rt: &impl Runtime, row: &Row<'_>) {
+    let records = sure!(rt; kept(rt, row.versions));
+    expect(rt, row, &table_of(rt, row.texts), &records);
 }
 
 const OWN: Definition<'static> = (1, 1, &[b"libx.so.1"]);
 
 const SECOND: Definition<'static> = (2, 0, &[b"V_2", b"V_1"]);
 
-// Defined versions, texts of a table, the byte order, and the bytes.
-const DEFINED: [(&[Definition<'static>], &[&[u8]], ByteOrder2, &[u8]); 3] = [
-    (&[], &[], ByteOrder2::Little, b""),
+const DEFINED: [Row<'static>; 3] = [
+    Row {
+        versions: &[],
+        texts: &[],
+        order: ByteOrder2::Little,
+        bytes: Some(b""),
+    },
     // The name stands at 1.
-    (
-        &[OWN],
-        &[b"libx.so.1"],
-        ByteOrder2::Little,
-        b"\x01\0\x01\0\x01\0\x01\0\xe1\xf4\xb5\x09\x14\0\0\0\0\0\0\0\
-        \x01\0\0\0\0\0\0\0",
-    ),
+    Row {
+        versions: &[OWN],
+        texts: &[b"libx.so.1"],
+        order: ByteOrder2::Little,
+        bytes: Some(
+            b"\x01\0\x01\0\x01\0\x01\0\xe1\xf4\xb5\x09\x14\0\0\0\0\0\0\0\
+            \x01\0\0\0\0\0\0\0",
+        ),
+    },
     // The names stand at 9, 1 and 5.
-    (
-        &[OWN, SECOND],
-        &[b"libx.so.1", b"V_1", b"V_2"],
-        ByteOrder2::Big,
-        b"\0\x01\0\x01\0\x01\0\x01\x09\xb5\xf4\xe1\0\0\0\x14\0\0\0\x1c\
-        \0\0\0\x09\0\0\0\0\
-        \0\x01\0\0\0\x02\0\x02\0\0\x5c\x22\0\0\0\x14\0\0\0\0\
-        \0\0\0\x01\0\0\0\x08\0\0\0\x05\0\0\0\0",
-    ),
+    Row {
+        versions: &[OWN, SECOND],
+        texts: &[b"libx.so.1", b"V_1", b"V_2"],
+        order: ByteOrder2::Big,
+        bytes: Some(
+            b"\0\x01\0\x01\0\x01\0\x01\x09\xb5\xf4\xe1\0\0\0\x14\0\0\0\x1c\
+            \0\0\0\x09\0\0\0\0\
+            \0\x01\0\0\0\x02\0\x02\0\0\x5c\x22\0\0\0\x14\0\0\0\0\
+            \0\0\0\x01\0\0\0\x08\0\0\0\x05\0\0\0\0",
+        ),
+    },
 ];
 
 #[test]
 fn defined_versions(rt: HostRuntime) {
-    for (versions, texts, order, want) in &DEFINED {
-        answers(
-            &rt,
-            "defined",
-            defined(&rt, versions, texts, *order),
-            Ok(want),
-        );
+    for row in &DEFINED {
+        follow(&rt, row);
     }
 }
 
 #[test]
 fn too_many_names(rt: HostRuntime) {
     let names = sure!(&rt; repeated(&rt));
-    let answer = defined(&rt, &[(2, 0, &names)], &[b"abc"], ByteOrder2::Little);
-    answers(&rt, "names", answer, Err(TableFault::NumberTooLarge));
+    let row = Row {
+        versions: &[(2, 0, &names)],
+        texts: &[b"abc"],
+        order: ByteOrder2::Little,
+        bytes: None,
+    };
+    follow(&rt, &row);
 }

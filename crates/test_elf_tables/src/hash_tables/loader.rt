@@ -18,25 +18,28 @@ fn name(number: usize) -> [u8; 3] {
 
 // A string table of no name and of so many.
 fn texts(rt: &impl Runtime) -> Result<Vec<u8>, AllocError> {
-    let mut texts = Vec::new(rt.alloc());
-    texts.push(0)?;
+    let mut texts = Vec::from_slice(rt.alloc(), &[0])?;
     for i in 0..COUNT {
-        texts.extend_from_slice(&name(i))?;
-        texts.push(0)?;
+        let [first, second, third] = name(i);
+        texts.extend_from_slice(&[first, second, third, 0])?;
     }
     Ok(texts)
 }
 
-// Symbol 0, and symbols of these names. Each third one is defined elsewhere, each seventh one is local.
+// A symbol of the name of this number. Each third one is defined elsewhere, each seventh one is local.
+fn record(i: usize) -> [u8; 24] {
+    let mut record = [0; 24];
+    record[..4].copy_from_slice(&(1 + 4 * (i % COUNT) as u32).to_le_bytes());
+    record[4] = if i % 7 == 0 { 0x02 } else { 0x12 };
+    record[6] = if i % 3 == 0 { 0 } else { 5 };
+    record
+}
+
+// Symbol 0, and symbols of these names.
 fn records(rt: &impl Runtime) -> Result<Vec<u8>, AllocError> {
-    let mut records = Vec::new(rt.alloc());
-    records.extend_from_slice(&[0; 24])?;
+    let mut records = Vec::from_slice(rt.alloc(), &[0; 24])?;
     for i in 0..COUNT {
-        records.extend_from_slice(&(1 + 4 * i as u32).to_le_bytes())?;
-        let info = if i % 7 == 0 { 0x02 } else { 0x12 };
-        let section = if i % 3 == 0 { 0 } else { 5 };
-        records.extend_from_slice(&[info, 0, section, 0])?;
-        records.extend_from_slice(&[0; 16])?;
+        records.extend_from_slice(&record(i))?;
     }
     Ok(records)
 }
@@ -174,10 +177,12 @@ fn search(rt: &impl Runtime, symbols: SymbolsNow<'_>) {
     search_gnu_table(rt, symbols, &order);
 }
 
+fn search_each<'x>(rt: &impl Runtime, texts: &'x [u8], records: &'x [u8]) {
+    let edited = symbols(rt, LITTLE_64, texts, records, None);
+    search(rt, edited.lend());
+}
+
 #[test]
 fn each_name(rt: HostRuntime) {
-    let texts = sure!(&rt; texts(&rt));
-    let records = sure!(&rt; records(&rt));
-    let edited = symbols(&rt, LITTLE_64, &texts, &records, None);
-    search(&rt, edited.lend());
+    search_each(&rt, &sure!(&rt; texts(&rt)), &sure!(&rt; records(&rt)));
 }

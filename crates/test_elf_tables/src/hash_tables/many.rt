@@ -10,8 +10,7 @@ const COUNT: usize = 200_000;
 
 // Symbol 0, and a symbol `f` so many times.
 fn repeated(rt: &impl Runtime, count: usize) -> Result<Vec<u8>, AllocError> {
-    let mut bytes = Vec::new(rt.alloc());
-    bytes.extend_from_slice(&[0; 24])?;
+    let mut bytes = Vec::from_slice(rt.alloc(), &[0; 24])?;
     for _ in 0..count {
         bytes.extend_from_slice(b"\x01\0\0\0\x12\0\x05\0\0\0\0\0\0\0\0\0\0\0\0\0\0\0\0\0")?;
     }
@@ -41,16 +40,18 @@ fn expect_run(rt: &impl Runtime, symbols: SymbolsNow<'_>) {
     same(rt, "header, filter, buckets, words", &table.len(), &want);
 }
 
-#[test]
-fn one_bucket(rt: HostRuntime) {
-    let bytes = sure!(&rt; repeated(&rt, COUNT));
-    let edited = symbols(&rt, LITTLE_64, b"\0f\0", &bytes, None);
-    expect_bucket(&rt, edited.lend());
+// Compares both.
+fn expect_lengths(rt: &impl Runtime, symbols: SymbolsNow<'_>) {
+    expect_bucket(rt, symbols);
+    expect_run(rt, symbols);
+}
+
+fn expect(rt: &impl Runtime, bytes: &[u8]) {
+    let edited = symbols(rt, LITTLE_64, b"\0f\0", bytes, None);
+    expect_lengths(rt, edited.lend());
 }
 
 #[test]
-fn one_run(rt: HostRuntime) {
-    let bytes = sure!(&rt; repeated(&rt, COUNT));
-    let edited = symbols(&rt, LITTLE_64, b"\0f\0", &bytes, None);
-    expect_run(&rt, edited.lend());
+fn one_bucket_and_one_run(rt: HostRuntime) {
+    expect(&rt, &sure!(&rt; repeated(&rt, COUNT)));
 }

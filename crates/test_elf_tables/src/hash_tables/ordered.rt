@@ -1,7 +1,7 @@
 //! Versions of symbols in an order.
 use super::made::{BIG_32, LITTLE_64, are_places, symbols};
 use super::told::have_versions;
-use crate::support::{Runtime, same};
+use crate::support::{Runtime, same_bytes};
 use elf_format::form::Form;
 use elf_hashes::build_versym;
 use elf_image_symbol_edits::SymbolsNow;
@@ -40,16 +40,19 @@ const ROWS: [Row; 2] = [
     },
 ];
 
-fn versions(rt: &impl Runtime, symbols: SymbolsNow<'_>, order: &[usize], form: Form) -> Vec<u8> {
-    assert!(rt; are_places(symbols, order), "positions");
-    assert!(rt; have_versions(symbols), "versions");
-    sure!(rt; build_versym(rt.alloc(), symbols, order, form))
+// Compares the versions of symbols in an order.
+fn expect(rt: &impl Runtime, row: &Row, symbols: SymbolsNow<'_>) {
+    assert!(rt;
+        are_places(symbols, row.order) && have_versions(symbols),
+        "positions and versions"
+    );
+    let found = sure!(rt; build_versym(rt.alloc(), symbols, row.order, row.form));
+    same_bytes(rt, row.what, &found, row.want);
 }
 
 fn follow(rt: &impl Runtime, row: &Row) {
     let edited = symbols(rt, row.form, b"\0", row.records, Some(row.versions));
-    let found = versions(rt, edited.lend(), row.order, row.form);
-    same(rt, row.what, &found.as_slice(), &row.want);
+    expect(rt, row, edited.lend());
 }
 
 #[test]

@@ -1,7 +1,7 @@
 //! Tables whose bytes were laid out by hand. `g` stands in the even bucket of two by both hashes' tables.
 
 use super::made::{BIG_32, LITTLE_64, gabi_table, gnu_table, order_of, symbols};
-use crate::support::{Runtime, same};
+use crate::support::{Runtime, same, same_bytes};
 use elf_format::form::Form;
 use elf_hashes::GnuSizes;
 use elf_image_symbol_edits::SymbolsNow;
@@ -74,8 +74,11 @@ const ORDERS: [Order; 3] = [
 
 fn expect_order(rt: &impl Runtime, row: &Order) {
     let edited = symbols(rt, row.form, TEXTS, row.records, None);
-    let order = order_of(rt, edited.lend(), row.buckets);
-    same(rt, row.what, &order.as_slice(), &row.want);
+    compare_order(rt, row, &order_of(rt, edited.lend(), row.buckets));
+}
+
+fn compare_order(rt: &impl Runtime, row: &Order, found: &[usize]) {
+    same(rt, row.what, &found, &row.want);
 }
 
 #[test]
@@ -174,8 +177,7 @@ fn table_of(rt: &impl Runtime, symbols: SymbolsNow<'_>, row: &Row) -> Vec<u8> {
 
 fn expect_table(rt: &impl Runtime, row: &Row) {
     let edited = symbols(rt, row.form, TEXTS, row.records, None);
-    let table = table_of(rt, edited.lend(), row);
-    same(rt, row.what, &table.as_slice(), &row.want);
+    same_bytes(rt, row.what, &table_of(rt, edited.lend(), row), row.want);
 }
 
 #[test]
