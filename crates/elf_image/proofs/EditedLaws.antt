@@ -19,9 +19,10 @@ use Rattle.elf_format.specs.Image.{Image, ImageSection, counted, entries_read, i
 use Rattle.elf_format.specs.Options.{each, is_one_of}
 use Rattle.elf_format.specs.Records.{entry_numbers, entry_size}
 use Rattle.elf_format.specs.Rules.{ArePartsOf, MeetsRules, dynamic_texts_of, file_of, linked_texts, raw_entries, texts_of}
+use Rattle.elf_format.specs.Versions.{VersionNeeds}
 use Rattle.elf_format.specs.Views.{NamedSymbol, section_memory}
 use Rattle.elf_image_parts.specs.DynamicList.{IsListed, holds_nul}
-use Rattle.elf_image.specs.Edited.{AreEntriesOf, AreKept, ArePicked, AreSegments, IsEdited, IsEditOf, IsInterpreterOf, IsName, IsSameDynamicSymbol, IsSameSection, IsSameSymbol, kept_segment}
+use Rattle.elf_image.specs.Edited.{AreEntriesOf, AreKept, ArePicked, AreSameNeeds, AreSegments, IsEdited, IsEditOf, IsInterpreterOf, IsName, IsSameDynamicSymbol, IsSameSection, IsSameSymbol, kept_segment}
 use Rattle.elf_image.specs.ReadImage.{AreDynamicSymbols, AreStaticSymbols, HoldsParts}
 use Rattle.elf_image.proofs.ReadComplete.{read_is_complete}
 use Rattle.elf_image.proofs.ReadImageLaws.{read_images_hold_parts}
@@ -147,6 +148,10 @@ interpreter_itself : (o : Option (List ℕ)) → IsInterpreterOf o o
 interpreter_itself None = tt
 interpreter_itself (Some bytes) = inl refl
 
+needs_themselves : (needs : List VersionNeeds) → AreSameNeeds needs needs
+needs_themselves [] = tt
+needs_themselves (n ∷ ns) = ((inl refl, refl), needs_themselves ns)
+
 -- ## All of it
 
 module _ (p : Parts) (file : List ℕ) (parts : ArePartsOf file p) (rules : MeetsRules p) (image : Image) (holds : HoldsParts p image) where
@@ -183,7 +188,7 @@ module _ (p : Parts) (file : List ℕ) (parts : ArePartsOf file p) (rules : Meet
     symbols = picked IsSameSymbol image.symbols image.symbol_numbers holds.symbol_numbers (static_same (section_of_type SHT_SYMTAB p.sections) holds.symbols);
     dynamic_symbols = picked IsSameDynamicSymbol image.dynamic_symbols image.dynamic_symbol_numbers holds.dynamic_symbol_numbers (dynamic_same (section_of_type SHT_DYNSYM p.sections) holds.dynamic_symbols);
     definitions = refl;
-    needs = refl;
+    needs = record { same = needs_themselves image.needs; unlisted = λ _. refl };
     entries = list_read p (section_of_type SHT_DYNAMIC p.sections) image.entries holds.entries;
     interpreter = interpreter_itself image.interpreter;
     complete = read_is_complete p file parts rules image holds;

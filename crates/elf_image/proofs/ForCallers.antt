@@ -26,3 +26,5 @@ pub use Rattle.elf_image.proofs.SectionsDeleted
 pub use Rattle.elf_image.proofs.ReadSingles
 -- what a list contains, and what a filter leaves of it
 pub use Rattle.elf_image.proofs.ListsLeft
+-- records of needed versions of which the libraries' names may be others
+pub use Rattle.elf_image.proofs.NeedsKept

@@ -9,6 +9,7 @@ use Rattle.elf_format.specs.declared.records.SegmentHeader.{SegmentHeader}
 use Rattle.elf_format.specs.Dynamic.{Entry}
 use Rattle.elf_format.specs.File.{segment_of_type}
 use Rattle.elf_format.specs.Image.{Image}
+use Rattle.elf_format.specs.Versions.{VersionNeeds}
 use Rattle.elf_image_parts.specs.DynamicList.{all_but_last, holds_nul}
 use Rattle.elf_image.specs.Complete.{IsComplete}
 use Rattle.elf_image.specs.Edited.{AreEntriesOf, AreSegments, IsEdited, IsInterpreterOf}
@@ -105,6 +106,24 @@ with_interpreter image bytes h there no_nul = record {
     complete = complete_with h.read image true image.header image.segments image.entries (Some bytes) image.page_size (sym there) refl h.is_edit.complete;
     unchanged = λ e. absurd (true≢false e);
   };
+}
+
+-- the same sections and symbols, with other records of needed versions
+pub needs_complete : (read image : Image) (needs : List VersionNeeds) → IsComplete read image
+    → IsComplete read (record image { changed = true; needs = needs })
+needs_complete read image needs h = record {
+  lasting = h.lasting;
+  linked = h.linked;
+  first_dynamic = h.first_dynamic;
+  first_static = h.first_static;
+  no_static = h.no_static;
+  dynamic_sections = h.dynamic_sections;
+  static_sections = h.static_sections;
+  dynamic_relocated = h.dynamic_relocated;
+  static_relocated = h.static_relocated;
+  tables = h.tables;
+  interpreter = h.interpreter;
+  interpreter_section = h.interpreter_section;
 }
 
 -- leave that the dynamic section moves

@@ -7,6 +7,7 @@ pub mod EditedLaws
 pub mod SegmentsKept
 pub mod EntriesKept
 pub mod Kept
+pub mod NeedsKept
 pub mod KeptSections
 pub mod LookupSteps
 pub mod ReadComplete

@@ -8,6 +8,7 @@ use Rattle.elf_format.specs.declared.version_id.VersionId.{VersionId}
 use Rattle.elf_format.specs.Dynamic.{Entry}
 use Rattle.elf_format.specs.File.{segment_of_type}
 use Rattle.elf_format.specs.Image.{Image, ImageSection, image_of}
+use Rattle.elf_format.specs.Versions.{VersionNeeds}
 use Rattle.elf_format.specs.Views.{NamedSymbol}
 use Rattle.elf_image_symbol_edits.specs.EditedList.{as_global}
 use Rattle.elf_image.specs.Complete.{IsComplete}
@@ -42,6 +43,24 @@ IsVersionOf old now = (now ≡ old) ⊎ (now ≡ as_global old)
 -- the symbol with another name, its version perhaps cleared
 abbrev pub IsSameDynamicSymbol : NamedSymbol → NamedSymbol → Type 0
 IsSameDynamicSymbol old y = IsName y.name × IsVersionOf old.version y.version × (y ≡ record old { name = y.name; version = y.version })
+
+-- ## Needed versions
+
+-- the versions that are needed of a library, which may have another name, without a NUL (GNU symbol versioning, `Elfxx_Verneed`)
+abbrev pub IsSameNeed : VersionNeeds → VersionNeeds → Type 0
+IsSameNeed old n = ((n.file ≡ old.file) ⊎ IsName n.file) × (n ≡ record old { file = n.file })
+
+-- library by library, in their order
+abbrev pub AreSameNeeds : List VersionNeeds → List VersionNeeds → Type 0
+AreSameNeeds [] [] = Unit {0}
+AreSameNeeds [] (n ∷ ns) = ⊥
+AreSameNeeds (old ∷ olds) [] = ⊥
+AreSameNeeds (old ∷ olds) (n ∷ ns) = IsSameNeed old n × AreSameNeeds olds ns
+
+-- the versions that were needed at read; without a dynamic list all of them are as they were read
+pub record AreNeedsOf (read : Image) (now : List VersionNeeds) : Type 0 where
+  pub same : AreSameNeeds read.needs now
+  pub unlisted : read.entries ≡ None → now ≡ read.needs
 
 -- ## Program headers
 
@@ -105,7 +124,7 @@ pub record IsEditOf (read image : Image) : Type 0 where
   pub symbols : ArePicked IsSameSymbol read.symbols image.symbol_numbers image.symbols
   pub dynamic_symbols : ArePicked IsSameDynamicSymbol read.dynamic_symbols image.dynamic_symbol_numbers image.dynamic_symbols
   pub definitions : image.definitions ≡ read.definitions
-  pub needs : image.needs ≡ read.needs
+  pub needs : AreNeedsOf read image.needs
   pub entries : AreEntriesOf read.entries image.entries
   pub interpreter : IsInterpreterOf read.interpreter image.interpreter
   -- what is there leans on nothing that went

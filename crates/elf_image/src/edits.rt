@@ -5,7 +5,8 @@ ghost use Rattle.std.specs.List.{remove};
 ghost use Rattle.elf_format.specs.declared.constants.TheConstants.{PT_GNU_STACK as STACK};
 ghost use Rattle.elf_image_parts.specs.DynamicList.{IsListed, KeepsTables, all_but_last, can_delete, can_retag, can_follow, holds_nul, is_free_tag, retagged, with_tag_at, without_tag};
 ghost use Rattle.elf_image.specs.File.{segment_of_type};
-ghost use Rattle.elf_image.specs.ImageModel.{entry_model, segment_model};
+ghost use Rattle.elf_image.specs.Edited.{AreSameNeeds};
+ghost use Rattle.elf_image.specs.ImageModel.{entry_model, needs_model, segment_model};
 ghost use Rattle.elf_image_parts.specs.Segments.{added_stack as added_header, with_load_align, with_stack_added, with_stack_flags};
 
 use crate::builder::{Builder, Segment};
@@ -13,6 +14,7 @@ use elf_format::constants::PT_GNU_STACK;
 use elf_format::records::SegmentHeader;
 use elf_image_parts::dynamic::Dynamic;
 use elf_image_parts::segment::{STACK_ALIGN, STACK_FLAGS};
+use elf_image_versions::version::VersionNeed;
 use patch_bytes::ByteString;
 use std::alloc::{AllocError, Global};
 
@@ -133,6 +135,21 @@ impl<'data> Builder<'data> {
     {
         align_loads(&mut self.segments, u64::from(size));
         self.page_size = Some(size);
+        self.changed = true;
+    }
+
+    /// Puts other records of needed versions in place of those that are there (GNU symbol versioning, `Elfxx_Verneed`). The
+    /// caller sees that there is a dynamic list, and that they are the same but for the names of libraries, of which no other
+    /// one has a NUL. Takes no memory.
+    pub fn set_needs(&mut self, needs: Vec<VersionNeed<'data>>)
+        requires listed { IsSome self.old.entries }
+        requires same { AreSameNeeds self.old.needs (map needs_model needs.items) }
+        ensures { self.new ≡ record self.old {
+          changed = true;
+          needs = map needs_model needs.entry.items;
+        } }
+    {
+        self.versions.needs = needs;
         self.changed = true;
     }
 
