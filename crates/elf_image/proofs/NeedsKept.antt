@@ -1,12 +1,12 @@
 -- Records of needed versions of which the libraries' names may be others.
-use Rattle.std.proofs.Common.{◌≡◌, ◌∙◌, ℕ, List, [], ◌∷◌, map, true, Option, Some, None, inl, inr, refl, sym, ap, subst}
+use Rattle.std.proofs.Common.{◌≡◌, ◌∙◌, ℕ, List, [], ◌∷◌, map, Bool, true, Option, Some, None, inl, inr, refl, sym, ap, subst}
 use Rattle.std.specs.Prelude.{IsSome}
 use Rattle.std.proofs.lemmas.Bool.{true≢false}
 use Rattle.std.proofs.lemmas.Option.{none-some}
 use Rattle.elf_format.specs.Dynamic.{Entry}
 use Rattle.elf_format.specs.Image.{Image}
 use Rattle.elf_format.specs.Versions.{VersionName, VersionNeeds}
-use Rattle.elf_image.specs.Edited.{AreEntriesOf, AreSameNeeds, IsEdited, IsName, IsSameNeed}
+use Rattle.elf_image.specs.Edited.{AreEntriesOf, AreNeedsOf, AreSameNeeds, IsEdited, IsName, IsSameNeed}
 use Rattle.elf_image.proofs.Kept.{needs_complete}
 
 -- ## What they keep
@@ -26,16 +26,17 @@ versions_same f (old ∷ olds) (n ∷ ns) same =
     ap (λ v. f v ∷ map (λ n. f n.versions) ns) (ap (λ (x : VersionNeeds). x.versions) same.0.1)
     ∙ ap (λ l. f old.versions ∷ l) (versions_same f olds ns same.1)
 
-abbrev first_text : List (List ℕ) → List ℕ
+first_text : List (List ℕ) → List ℕ
 first_text [] = []
 first_text (t ∷ ts) = t
 
-abbrev other_texts : List (List ℕ) → List (List ℕ)
+other_texts : List (List ℕ) → List (List ℕ)
 other_texts [] = []
 other_texts (t ∷ ts) = ts
 
 -- with the names of read they are those of read
 pub needs_by_files : (read now : List VersionNeeds) → AreSameNeeds read now → map (λ n. n.file) now ≡ map (λ n. n.file) read → now ≡ read
+unfolding first_text other_texts
 needs_by_files [] [] same files = refl
 needs_by_files [] (n ∷ ns) same files = absurd same
 needs_by_files (old ∷ olds) [] same files = absurd same
