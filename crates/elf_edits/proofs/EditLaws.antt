@@ -12,7 +12,7 @@ use Rattle.elf_image.specs.DynamicList.{IsListed, is_free_tag, table_tag}
 use Rattle.elf_image.specs.Image.{lists_tag}
 use Rattle.elf_edits.specs.declared.constants.TheConstants.{DF_1_NODEFLIB}
 use Rattle.elf_edits.specs.Cause.{Facts, interpreter_missing, own_cause}
-use Rattle.elf_edits.specs.Edit.{AddDebugEntry, AddNeeded, AddRunPath, DeleteNeeded, DeleteRunPath, Edit, NoDefaultLibrary, ReplaceNeeded, SetRunPath, SetSoname, ShrinkRunPath, UseRpath, UseRunpath, dropped_tags, edited_entries, is_of_symbols, task_of, texts_of, touches_entries}
+use Rattle.elf_edits.specs.Edit.{AddDebugEntry, AddNeeded, AddRunPath, DeleteNeeded, DeleteRunPath, Edit, NoDefaultLibrary, ReplaceLibrary, ReplaceNeeded, SetRunPath, SetSoname, ShrinkRunPath, UseRpath, UseRunpath, dropped_tags, edited_entries, is_of_more, is_of_symbols, task_of, texts_of, touches_entries}
 use Rattle.elf_edits.specs.Edited.{touches_rest}
 use Rattle.elf_edits.specs.Entries.{changed_where, directories_removed, has_one_of, has_tag, is_run_path, needs_one_of, not_needed_yet, search_of, text_if, with_bits, with_each_added, with_tag, with_text, with_text_changed, without_tags}
 use Rattle.elf_edits.specs.Shrunk.{shrunk_text}
@@ -78,6 +78,7 @@ module _ (tag : ℕ) (is : IsUntouched tag) where
   tags_kept machine UseRpath es = kept_tag tag (has_tag DT_RUNPATH) (with_tag DT_RPATH) (λ e h. changed_tag tag DT_RUNPATH DT_RPATH e is.runpath is.rpath h) es
   tags_kept machine (DeleteNeeded names) es = list_any-filter (has_tag tag) (λ e. not (needs_one_of names e)) (needed_not_it names) es
   tags_kept machine (ReplaceNeeded pairs) es = kept_tag tag (has_tag DT_NEEDED) (with_text_changed (λ name. unwrap_or (value_of pairs name) name)) (λ e _. changed_text tag (λ name. unwrap_or (value_of pairs name) name) e) es
+  tags_kept machine (ReplaceLibrary pairs) es = kept_tag tag (has_tag DT_NEEDED) (with_text_changed (λ name. unwrap_or (value_of pairs name) name)) (λ e _. changed_text tag (λ name. unwrap_or (value_of pairs name) name) e) es
   tags_kept machine (AddNeeded names) es = put_before (not_needed_yet names es) es
   tags_kept machine (SetSoname text) es = either_list tag (lists_tag DT_SONAME es) es (changed_where (has_tag DT_SONAME) (with_text text) es) (es ++ Text DT_SONAME text ∷ []) (kept_tag tag (has_tag DT_SONAME) (with_text text) (λ e _. refl) es) (added_last tag es (Text DT_SONAME text) is.soname)
   tags_kept machine NoDefaultLibrary es = either_list tag (lists_tag DT_FLAGS_1 es) es (changed_where (has_tag DT_FLAGS_1) (with_bits DF_1_NODEFLIB) es) (es ++ Integer DT_FLAGS_1 DF_1_NODEFLIB ∷ []) (kept_tag tag (has_tag DT_FLAGS_1) (with_bits DF_1_NODEFLIB) (λ e _. changed_bits tag DF_1_NODEFLIB e) es) (added_last tag es (Integer DT_FLAGS_1 DF_1_NODEFLIB) is.flags)
@@ -151,6 +152,8 @@ lists_again machine UseRpath es whole all = changed_again (has_tag DT_RUNPATH) (
 lists_again machine (DeleteNeeded names) es whole all = kept_again (λ e. not (needs_one_of names e)) (needed_no_table names) es all
 lists_again machine (ReplaceNeeded pairs) es whole all =
     changed_again (has_tag DT_NEEDED) (with_text_changed (λ name. unwrap_or (value_of pairs name) name)) (λ e h listed. text_changed (λ name. unwrap_or (value_of pairs name) name) (values_whole pairs whole) e listed) es all
+lists_again machine (ReplaceLibrary pairs) es whole all =
+    changed_again (has_tag DT_NEEDED) (with_text_changed (λ name. unwrap_or (value_of pairs name) name)) (λ e h listed. text_changed (λ name. unwrap_or (value_of pairs name) name) (values_whole pairs whole) e listed) es all
 lists_again machine (AddNeeded names) es whole all = first_again (not_needed_yet names es) (none_kept_of holds_nul (λ name. not (is_among (flat_map (text_if (has_tag DT_NEEDED)) es) name)) names whole) es all
 lists_again machine (SetSoname text) es whole all =
     let none = one_whole text whole in
@@ -175,6 +178,7 @@ untouched machine UseRunpath es h = changed_where_none (has_tag DT_RPATH) (with_
 untouched machine UseRpath es h = changed_where_none (has_tag DT_RUNPATH) (with_tag DT_RPATH) es h
 untouched machine (DeleteNeeded names) es h = all_kept (needs_one_of names) es h
 untouched machine (ReplaceNeeded pairs) es h = none_replaced pairs es h
+untouched machine (ReplaceLibrary pairs) es h = none_replaced pairs es h
 untouched machine (AddNeeded names) es h = ap (λ (l : List (List ℕ)). map (Text DT_NEEDED) l ++ es) (none_there (not_needed_yet names es) h)
 untouched machine (SetSoname text) es h = true_not_false h
 untouched machine NoDefaultLibrary es h = true_not_false h
@@ -191,6 +195,7 @@ pub record DropsTags (edit : Edit) (task : List ℕ) : Type 0 where
   pub no_own : (facts : Facts) → own_cause edit facts ≡ None
   pub of_list : touches_rest edit ≡ false
   pub no_symbols : is_of_symbols edit ≡ false
+  pub no_more : is_of_more edit ≡ false
   pub free : AllPass is_free_tag (dropped_tags edit)
   pub entries : (machine : ℕ) (es : List Entry) → edited_entries machine edit es ≡ without_tags (dropped_tags edit) es
   pub touched : (machine : ℕ) (es : List Entry) → touches_entries machine edit es ≡ list_any (has_one_of (dropped_tags edit)) es
@@ -216,6 +221,7 @@ drops_tags DeleteRunPath some = (
     no_own = λ facts. refl;
     of_list = refl;
     no_symbols = refl;
+    no_more = refl;
     free = free_tags;
     entries = λ machine es. ap (λ (f : Entry → Bool). filter (λ e. not (f e)) es) (fun_ext one_of_run_paths);
     touched = λ machine es. ap (λ (f : Entry → Bool). list_any f es) (fun_ext one_of_run_paths);

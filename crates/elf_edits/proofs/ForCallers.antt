@@ -9,6 +9,8 @@ pub use Rattle.elf_edits.proofs.DecidedLaws.{all_edited-push, batch_decided}
 pub use Rattle.elf_edits.proofs.DecidedLaws.{fixed_names_stay}
 -- an edit that writes no name and no version leaves the symbols as they were
 pub use Rattle.elf_edits.proofs.SymbolLaws.{symbols_untouched}
+-- where no library of needed versions has another name, they are as they were
+pub use Rattle.elf_edits.proofs.NeedLaws.{none_replaced}
 -- an edited list is a list again
 pub use Rattle.elf_edits.proofs.EditLaws.{lists_again}
 pub use Rattle.elf_edits.proofs.ListedLaws.{ListsAgain}
@@ -21,5 +23,8 @@ pub use Rattle.elf_edits.proofs.StoredLaws.{stored_whole}
 -- cases on a test; the first of some options; one more element, and one more library of a set
 pub use Rattle.elf_edits.proofs.ListLaws.{by_test, there_or_none}
 pub use Rattle.elf_edits.proofs.LookupSteps.{one_more, other_way}
+-- a name that a map gives has no NUL; what a map has for a name
+pub use Rattle.elf_edits.proofs.SymbolSteps.{value_whole}
+pub use Rattle.elf_edits.proofs.LookupSteps.{is_some-map}
 -- a run path of which no directory goes is as it was
 pub use Rattle.elf_edits.proofs.ShrunkLaws.{none_gone}

@@ -6,6 +6,7 @@ pub mod UntouchedLaws
 pub mod EditLaws
 pub mod EntryLaws
 pub mod SymbolLaws
+pub mod NeedLaws
 pub mod TwiceLaws
 pub mod ShownLaws
 pub mod BatchLaws

@@ -131,7 +131,7 @@ map_more_pair pairs i x here is old new k v name key value so_far put =
     ∙ sym (ap (λ (l : List (Bytes × Bytes)). value_of (pairs_model l) name) (one_more pairs i x here is) ∙ ap (λ l. value_of l name) (map-append pair_model (take i pairs) (x ∷ []))
     ∙ value_of-push (pairs_model (take i pairs)) (pair_model x) name ∙ first_or (bytes_eq name x.0.items) x.1.items (value_of (pairs_model (take i pairs)) name))
 
-is_some-map : {A B : Type 0} (f : A → B) (o : Option A) → is_some (option_map f o) ≡ is_some o
+pub is_some-map : {A B : Type 0} (f : A → B) (o : Option A) → is_some (option_map f o) ≡ is_some o
 is_some-map f None = refl
 is_some-map f (Some x) = refl
 

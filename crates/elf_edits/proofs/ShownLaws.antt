@@ -11,8 +11,8 @@ use Rattle.elf_image.specs.Image.{Image, lists_tag, seen_symbol, shown, shown_if
 use Rattle.elf_image.specs.Versions.{VersionDefinition, VersionNeeds}
 use Rattle.elf_image.specs.Views.{NamedSymbol}
 use Rattle.elf_edits.specs.Cause.{Cause, cause}
-use Rattle.elf_edits.specs.Edit.{ClearExecStack, Edit, SetExecStack, SetPageSize, edited_entries, edited_symbols}
-use Rattle.elf_edits.specs.Edited.{edited_image, edited_segments, edited_view, stack_change, stack_flags_changed, step, touches, with_align, with_stack_changed}
+use Rattle.elf_edits.specs.Edit.{ClearExecStack, Edit, SetExecStack, SetPageSize, edited_entries, edited_needs, edited_symbols}
+use Rattle.elf_edits.specs.Edited.{edited_image, edited_leave, edited_segments, edited_view, stack_change, stack_flags_changed, step, touches, with_align, with_stack_changed}
 use Rattle.elf_edits.specs.Laws.{EditsShow, KeepsTheRest}
 use Rattle.elf_edits.proofs.EditLaws.{IsUntouched, symtab_untouched, tags_kept, verdef_untouched, verdefnum_untouched, verneed_untouched, verneednum_untouched, versym_untouched}
 use Rattle.elf_edits.proofs.ListLaws.{by_test}
@@ -65,8 +65,8 @@ module _ (image : Image) where
   definitions_by : Option (List Entry) → Option (List VersionDefinition)
   definitions_by es = es >>= (λ entries. shown_if (lists_tag DT_VERDEF entries && lists_tag DT_VERDEFNUM entries) image.definitions)
 
-  needs_by : Option (List Entry) → Option (List VersionNeeds)
-  needs_by es = es >>= (λ entries. shown_if (lists_tag DT_VERNEED entries && lists_tag DT_VERNEEDNUM entries) image.needs)
+  needs_by : List VersionNeeds → Option (List Entry) → Option (List VersionNeeds)
+  needs_by ns es = es >>= (λ entries. shown_if (lists_tag DT_VERNEED entries && lists_tag DT_VERNEEDNUM entries) ns)
 
   module _ (machine : ℕ) (edit : Edit) where
     named : (tag : ℕ) → IsUntouched tag → (es : List Entry) → lists_tag tag (edited_entries machine edit es) ≡ lists_tag tag es
@@ -92,12 +92,17 @@ module _ (image : Image) where
         ap (λ b. shown_if (b && lists_tag DT_VERDEFNUM (edited_entries machine edit es)) image.definitions) (named DT_VERDEF verdef_untouched es)
         ∙ ap (λ b. shown_if (lists_tag DT_VERDEF es && b) image.definitions) (named DT_VERDEFNUM verdefnum_untouched es)
 
-    needs_same : (es : Option (List Entry)) → needs_by (option_map (edited_entries machine edit) es) ≡ needs_by es
+    needs_shown : (es : Option (List Entry)) → needs_by (edited_needs edit image.needs) (option_map (edited_entries machine edit) es) ≡ option_map (edited_needs edit) (needs_by image.needs es)
     unfolding needs_by
-    needs_same None = refl
-    needs_same (Some es) =
-        ap (λ b. shown_if (b && lists_tag DT_VERNEEDNUM (edited_entries machine edit es)) image.needs) (named DT_VERNEED verneed_untouched es)
-        ∙ ap (λ b. shown_if (lists_tag DT_VERNEED es && b) image.needs) (named DT_VERNEEDNUM verneednum_untouched es)
+    needs_shown None = refl
+    needs_shown (Some es) =
+        ap (λ b. shown_if (b && lists_tag DT_VERNEEDNUM (edited_entries machine edit es)) (edited_needs edit image.needs)) (named DT_VERNEED verneed_untouched es)
+        ∙ ap (λ b. shown_if (lists_tag DT_VERNEED es && b) (edited_needs edit image.needs)) (named DT_VERNEEDNUM verneednum_untouched es)
+        ∙ edited_if (lists_tag DT_VERNEED es && lists_tag DT_VERNEEDNUM es) image.needs
+      where
+        edited_if : (b : Bool) (ns : List VersionNeeds) → shown_if b (edited_needs edit ns) ≡ option_map (edited_needs edit) (shown_if b ns)
+        edited_if true ns = refl
+        edited_if false ns = refl
 
 edited_shows : (edit : Edit) (old : Image) → shown (edited_image edit old) ≡ edited_view old.header.e_machine edit (shown old)
 unfolding edited_image flags_of stack_in symbols_by definitions_by needs_by
@@ -106,7 +111,7 @@ edited_shows edit old =
     ap (λ (o : Option ℕ). record (shown (edited_image edit old)) { stack_flags = o }) (stack_shown edit old.segments)
     ∙ ap (λ (o : Option (List NamedSymbol)). record (shown (edited_image edit old)) { stack_flags = stack_flags_changed (stack_change edit) (shown old).stack_flags; symbols = o }) (symbols_edited old machine edit old.entries)
     ∙ ap (λ (o : Option (List VersionDefinition)). record (shown (edited_image edit old)) { stack_flags = stack_flags_changed (stack_change edit) (shown old).stack_flags; symbols = option_map (edited_symbols edit) (shown old).symbols; definitions = o }) (definitions_same old machine edit old.entries)
-    ∙ ap (λ (o : Option (List VersionNeeds)). record (shown (edited_image edit old)) { stack_flags = stack_flags_changed (stack_change edit) (shown old).stack_flags; symbols = option_map (edited_symbols edit) (shown old).symbols; definitions = (shown old).definitions; needs = o }) (needs_same old machine edit old.entries)
+    ∙ ap (λ (o : Option (List VersionNeeds)). record (shown (edited_image edit old)) { stack_flags = stack_flags_changed (stack_change edit) (shown old).stack_flags; symbols = option_map (edited_symbols edit) (shown old).symbols; definitions = (shown old).definitions; needs = o }) (needs_shown old machine edit old.entries)
 
 -- ## One step
 
@@ -135,11 +140,19 @@ step_of edit old h = ap (λ o. by_cause o edit old) h
 
 kept_rest : (edit : Edit) (old : Image) → KeepsTheRest old (edited_image edit old)
 unfolding edited_image
-kept_rest edit old = record { source = refl; form = refl; header = refl; sections = refl; symbols = refl; definitions = refl; needs = refl; section_numbers = refl; symbol_numbers = refl; dynamic_symbol_numbers = refl }
+kept_rest edit old = record { source = refl; form = refl; header = refl; sections = refl; symbols = refl; definitions = refl; section_numbers = refl; symbol_numbers = refl; dynamic_symbol_numbers = refl }
 
 symbols_made : (edit : Edit) (old : Image) → (edited_image edit old).dynamic_symbols ≡ edited_symbols edit old.dynamic_symbols
 unfolding edited_image
 symbols_made edit old = refl
+
+needs_made : (edit : Edit) (old : Image) → (edited_image edit old).needs ≡ edited_needs edit old.needs
+unfolding edited_image
+needs_made edit old = refl
+
+leave_made : (edit : Edit) (old : Image) → (edited_image edit old).moves_dynamic ≡ edited_leave edit old.changed old.moves_dynamic
+unfolding edited_image
+leave_made edit old = refl
 
 marked : (edit : Edit) (old : Image) → (edited_image edit old).changed ≡ (old.changed || touches edit old)
 unfolding edited_image
@@ -150,6 +163,8 @@ unfolding step by_cause
 edits_show = record {
   shows = λ edit old new h. ap shown ((accepted_step edit old new h).1) ∙ edited_shows edit old;
   symbols = λ edit old new h. ap (λ (i : Image). i.dynamic_symbols) ((accepted_step edit old new h).1) ∙ symbols_made edit old;
+  needs = λ edit old new h. ap (λ (i : Image). i.needs) ((accepted_step edit old new h).1) ∙ needs_made edit old;
+  leave = λ edit old new h. ap (λ (i : Image). i.moves_dynamic) ((accepted_step edit old new h).1) ∙ leave_made edit old;
   marks = λ edit old new h. ap (λ (i : Image). i.changed) ((accepted_step edit old new h).1) ∙ marked edit old;
   keeps = λ edit old new h. subst (λ (i : Image). KeepsTheRest old i) (sym ((accepted_step edit old new h).1)) (kept_rest edit old);
   accepted = λ edit old new h. (accepted_step edit old new h).0;

@@ -3,20 +3,21 @@ use Rattle.std.proofs.Common.{◌≡◌, ℕ, Bool, true, false, ◌||◌, List,
 use Rattle.std.specs.Prelude.{◌&&◌, if◌then◌else◌, unwrap_or}
 use Rattle.std.specs.List.{list_any}
 use Rattle.std.specs.Str.{bytes_eq}
-use Rattle.std.proofs.lemmas.Bool.{cond-true, cond-false, or_parts}
+use Rattle.std.proofs.lemmas.Bool.{or_parts}
 use Rattle.elf_format.specs.declared.version_id.VersionId.{VersionId}
 use Rattle.elf_image.specs.Dynamic.{Entry}
 use Rattle.elf_image.specs.Image.{seen_symbol}
 use Rattle.elf_image.specs.Names.{texts_of_symbols}
-use Rattle.elf_image.specs.Views.{NamedSymbol, View}
+use Rattle.elf_image.specs.Versions.{VersionNeeds}
+use Rattle.elf_image.specs.Views.{NamedSymbol}
 use Rattle.elf_image_symbol_edits.specs.EditedList.{as_global, with_global_version}
-use Rattle.elf_edits.specs.Edit.{ClearSymbolVersion, Edit, RenameDynamicSymbols, edited_entries, edited_symbols, touches_symbols}
+use Rattle.elf_edits.specs.Edit.{ClearSymbolVersion, Edit, RenameDynamicSymbols, edited_entries, edited_needs, edited_symbols, touches_symbols}
 use Rattle.elf_edits.specs.Edited.{edited_view}
 use Rattle.elf_edits.specs.Laws.{SymbolsAreRenamedAtOnce, swap_of}
 use Rattle.elf_edits.specs.Symbols.{behind_first, cleared, has_new_name, has_version_to_clear, name_of_symbol, names_behind_first, new_name, renamed}
 use Rattle.elf_edits.specs.Texts.{value_of}
 use Rattle.elf_edits.proofs.EntryLaws.{name_swapped_back}
-use Rattle.elf_edits.proofs.ListLaws.{by_test, map_same}
+use Rattle.elf_edits.proofs.ListLaws.{map_same}
 
 -- ## All but the first
 
@@ -150,5 +151,7 @@ symbols_are_renamed_at_once = record {
   swapped_back = λ machine f g view.
       ap (λ (o : Option (List Entry)). record (edited_view machine (RenameDynamicSymbols (swap_of f g)) (edited_view machine (RenameDynamicSymbols (swap_of f g)) view)) { entries = o })
       (twice (edited_entries machine (RenameDynamicSymbols (swap_of f g))) (λ es. refl) view.entries)
+      ∙ ap (λ (o : Option (List VersionNeeds)). record (edited_view machine (RenameDynamicSymbols (swap_of f g)) (edited_view machine (RenameDynamicSymbols (swap_of f g)) view)) { entries = view.entries; needs = o })
+      (twice (edited_needs (RenameDynamicSymbols (swap_of f g))) (λ ns. refl) view.needs)
       ∙ ap (λ (o : Option (List NamedSymbol)). record view { symbols = o }) (twice (edited_symbols (RenameDynamicSymbols (swap_of f g))) (symbols_swapped f g) view.symbols);
 }

@@ -1,11 +1,11 @@
 -- Steps of looking through dynamic symbols, and of changing one after another.
-use Rattle.std.proofs.Common.{◌≡◌, ℕ, zero, suc, ◌+◌, ◌<◌, ◌≤◌, Bool, true, false, ◌||◌, List, [], ◌∷◌, ◌++◌, length, map, take, drop, refl, sym, ap, subst, ◌∙◌, Option, Some, None, is_some, option_map, Bor, arith}
+use Rattle.std.proofs.Common.{◌≡◌, ℕ, zero, suc, ◌+◌, ◌<◌, ◌≤◌, Bool, true, false, ◌||◌, List, [], ◌∷◌, ◌++◌, length, map, take, drop, refl, sym, ap, ◌∙◌, Option, Some, None, is_some, option_map, Bor, arith}
 use Rattle.std.specs.Prelude.{◌&&◌, MatchOption, if◌then◌else◌, not, slice_get, unwrap_or}
 use Rattle.std.specs.List.{flat_map, list_any}
 use Rattle.std.specs.Map.{lookup}
 use Rattle.std.specs.Str.{bytes_eq}
 use Rattle.std.proofs.lemmas.Bool.{cond-true, or_parts}
-use Rattle.std.proofs.lemmas.List.{drop_all, drop_more, take_all}
+use Rattle.std.proofs.lemmas.List.{drop_more}
 use Rattle.std.proofs.lemmas.Option.{get_or_from_slice_get, none-some, same_Some, slice_get_within}
 use Rattle.elf_image.specs.Options.{first_there}
 use Rattle.elf_image.specs.Views.{NamedSymbol}
@@ -13,7 +13,7 @@ use Rattle.elf_image_symbol_edits.specs.EditedList.{EditedList, IsName, changed_
 use Rattle.elf_edits.specs.declared.symbols.SymbolChange.{SymbolChange}
 use Rattle.elf_edits.specs.declared.symbols.SymbolChange.TheVariants as changes
 use Rattle.elf_edits.specs.Changes.{name_for}
-use Rattle.elf_edits.specs.Edit.{ClearSymbolVersion, Edit, RenameDynamicSymbols}
+use Rattle.elf_edits.specs.Edit.{RenameDynamicSymbols}
 use Rattle.elf_edits.specs.SymbolChanges.{AreSymbolsAfter, BeginsAt, GivesNames, changed_symbol, changed_to, is_changed, renamed_by}
 use Rattle.elf_edits.specs.Symbols.{behind_first, cleared, has_new_name, has_version_to_clear, name_of_symbol, names_behind_first, renamed}
 use Rattle.elf_edits.specs.Texts.{holds_nul, value_of}
@@ -234,6 +234,20 @@ any_found change ys (Some i) begins = sym begins.about
 
 -- ## The map of some pairs
 
+-- a value has no NUL where no text of the pairs has one
+module _ (old new : List ℕ) where
+  value_either : (found : Option (List ℕ)) (b : Bool) (v : List ℕ) → (found ≡ Some new → holds_nul new ≡ false) → holds_nul v ≡ false → first_there found (if b then Some v else None) ≡ Some new → holds_nul new ≡ false
+  value_either (Some value) b v later here h = later h
+  value_either None true v later here h = ap holds_nul (sym (same_Some v new h)) ∙ here
+  value_either None false v later here h = absurd (none-some new h)
+
+  pub value_whole : (ps : List (List ℕ × List ℕ)) → list_any holds_nul (flat_map (λ pair. pair.0 ∷ pair.1 ∷ []) ps) ≡ false → value_of ps old ≡ Some new → holds_nul new ≡ false
+  value_whole [] free h = absurd (none-some new h)
+  value_whole (p ∷ ps) free h =
+      let parts = or_parts (holds_nul p.0) (holds_nul p.1 || list_any holds_nul (flat_map (λ pair. pair.0 ∷ pair.1 ∷ []) ps)) free in
+      let more = or_parts (holds_nul p.1) (list_any holds_nul (flat_map (λ pair. pair.0 ∷ pair.1 ∷ []) ps)) parts.1 in
+      value_either (value_of ps old) (bytes_eq old p.0) p.1 (λ later. value_whole ps more.1 later) more.0 h
+
 module _ (names : List (Bor (List ℕ) × Bor (List ℕ))) (pairs : List (List ℕ × List ℕ)) (same : (name : List ℕ) → name_for names name ≡ value_of pairs name) where
   same_test : (ys : List NamedSymbol) → list_any (λ y. is_some (name_for names y.name)) ys ≡ list_any (λ y. has_new_name pairs y.name) ys
   same_test [] = refl
@@ -268,16 +282,4 @@ module _ (names : List (Bor (List ℕ) × Bor (List ℕ))) (pairs : List (List �
 
   -- a name that is given is among the new ones
   pub given_names : list_any holds_nul (flat_map (λ pair. pair.0 ∷ pair.1 ∷ []) pairs) ≡ false → GivesNames names
-  given_names none old new is = is_name new (value_whole pairs none (sym (same old) ∙ is))
-    where
-      either : (found : Option (List ℕ)) (b : Bool) (v : List ℕ) → (found ≡ Some new → holds_nul new ≡ false) → holds_nul v ≡ false → first_there found (if b then Some v else None) ≡ Some new → holds_nul new ≡ false
-      either (Some value) b v later here h = later h
-      either None true v later here h = ap holds_nul (sym (same_Some v new h)) ∙ here
-      either None false v later here h = absurd (none-some new h)
-
-      value_whole : (ps : List (List ℕ × List ℕ)) → list_any holds_nul (flat_map (λ pair. pair.0 ∷ pair.1 ∷ []) ps) ≡ false → value_of ps old ≡ Some new → holds_nul new ≡ false
-      value_whole [] free h = absurd (none-some new h)
-      value_whole (p ∷ ps) free h =
-          let parts = or_parts (holds_nul p.0) (holds_nul p.1 || list_any holds_nul (flat_map (λ pair. pair.0 ∷ pair.1 ∷ []) ps)) free in
-          let more = or_parts (holds_nul p.1) (list_any holds_nul (flat_map (λ pair. pair.0 ∷ pair.1 ∷ []) ps)) parts.1 in
-          either (value_of ps old) (bytes_eq old p.0) p.1 (λ later. value_whole ps more.1 later) more.0 h
+  given_names none old new is = is_name new (value_whole old new pairs none (sym (same old) ∙ is))

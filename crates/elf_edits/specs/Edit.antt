@@ -1,10 +1,11 @@
 -- The edits of what an image shows: the words of their refusals, their texts, and the dynamic list and symbols after each.
-use Rattle.std.specs.Prelude.{ℕ, ◌-◌, List, [], ◌∷◌, codes, drop, length, take, Bool, false, true, not, Option, Some, None}
+use Rattle.std.specs.Prelude.{ℕ, ◌-◌, List, [], ◌∷◌, codes, drop, length, map, take, Bool, false, true, not, Option, Some, None}
 use Rattle.std.specs.List.{flat_map, list_any}
 use Rattle.std.specs.String.{string_bytes}
 use Rattle.elf_format.specs.declared.constants.TheConstants.{DT_DEBUG, DT_RPATH, DT_RUNPATH, DT_SONAME}
 use Rattle.elf_image.specs.Dynamic.{Entry, Integer}
 use Rattle.elf_image.specs.Image.{lists_tag}
+use Rattle.elf_image.specs.Versions.{VersionNeeds}
 use Rattle.elf_image.specs.Views.{NamedSymbol}
 use Rattle.elf_edits.specs.declared.edit.ElfEdit.{ElfEdit}
 use Rattle.elf_edits.specs.declared.edit.ElfEdit.TheVariants as edits
@@ -12,7 +13,7 @@ use Rattle.elf_edits.specs.declared.edit.Task.{Task}
 use Rattle.elf_edits.specs.declared.edit.Task.TheVariants as tasks
 use Rattle.elf_edits.specs.Entries.{directories_removed, has_tag, is_replaced, is_run_path, needs_one_of, not_needed_yet, search_of, with_last_unless_there, with_needed_added, with_needed_replaced, with_run_paths_added, with_run_paths_shrunk, with_tags_changed, with_text_set, without_default_directories, without_needed, without_run_paths}
 pub use Rattle.elf_edits.specs.Shrunk.{Answer}
-use Rattle.elf_edits.specs.Symbols.{behind_first, cleared, has_new_name, has_version_to_clear, renamed}
+use Rattle.elf_edits.specs.Symbols.{behind_first, cleared, has_new_name, has_version_to_clear, renamed, with_library_replaced}
 use Rattle.elf_edits.specs.TextModel.{bytes_of, pairs_model, texts_model}
 use Rattle.elf_edits.specs.Texts.{has_some}
 
@@ -26,9 +27,11 @@ pub data Edit : Type 0 where
   AddRunPath : List (List ℕ) → Edit
   UseRunpath : Edit
   UseRpath : Edit
-  -- the needed libraries: names that go, pairs of an old and a new name, names that come
+  -- the needed libraries: names that go, pairs of an old and a new name, the same with the versions that are needed of them,
+  -- names that come
   DeleteNeeded : List (List ℕ) → Edit
   ReplaceNeeded : List (List ℕ × List ℕ) → Edit
+  ReplaceLibrary : List (List ℕ × List ℕ) → Edit
   AddNeeded : List (List ℕ) → Edit
   -- the library's own name
   SetSoname : List ℕ → Edit
@@ -49,6 +52,8 @@ pub data Edit : Type 0 where
   SetExecStack : Edit
   -- the page size, in bytes
   SetPageSize : ℕ → Edit
+  -- leave that the dynamic section moves, where something was changed
+  AllowDynamicMove : Edit
 
 -- what an edit of the dynamic list does, in the words of its refusal; none for an edit of something else
 abbrev pub task_of : Edit → Option (List ℕ)
@@ -60,6 +65,7 @@ task_of UseRunpath = Some (codes "change runpath")
 task_of UseRpath = Some (codes "change rpath")
 task_of (DeleteNeeded names) = Some (codes "delete needed library")
 task_of (ReplaceNeeded pairs) = Some (codes "replace needed library")
+task_of (ReplaceLibrary pairs) = Some (codes "replace needed library")
 task_of (AddNeeded names) = Some (codes "add needed library")
 task_of (SetSoname text) = Some (codes "set soname")
 task_of NoDefaultLibrary = Some (codes "set soname")
@@ -71,6 +77,7 @@ task_of (ClearSymbolVersion name) = None
 task_of ClearExecStack = None
 task_of SetExecStack = None
 task_of (SetPageSize size) = None
+task_of AllowDynamicMove = None
 
 -- bytes without their last one
 abbrev pub all_but_last : List ℕ → List ℕ
@@ -82,6 +89,7 @@ texts_of (SetRunPath text) = text ∷ []
 texts_of (AddRunPath texts) = texts
 texts_of (DeleteNeeded names) = names
 texts_of (ReplaceNeeded pairs) = flat_map (λ pair. pair.0 ∷ pair.1 ∷ []) pairs
+texts_of (ReplaceLibrary pairs) = flat_map (λ pair. pair.0 ∷ pair.1 ∷ []) pairs
 texts_of (AddNeeded names) = names
 texts_of (SetSoname text) = text ∷ []
 texts_of (ShrinkRunPath prefixes answers) = prefixes
@@ -97,6 +105,7 @@ texts_of NoDefaultLibrary = []
 texts_of ClearExecStack = []
 texts_of SetExecStack = []
 texts_of (SetPageSize size) = []
+texts_of AllowDynamicMove = []
 
 -- ## The dynamic list
 
@@ -110,6 +119,7 @@ edited_entries machine UseRunpath es = with_tags_changed DT_RPATH DT_RUNPATH es
 edited_entries machine UseRpath es = with_tags_changed DT_RUNPATH DT_RPATH es
 edited_entries machine (DeleteNeeded names) es = without_needed names es
 edited_entries machine (ReplaceNeeded pairs) es = with_needed_replaced pairs es
+edited_entries machine (ReplaceLibrary pairs) es = with_needed_replaced pairs es
 edited_entries machine (AddNeeded names) es = with_needed_added names es
 edited_entries machine (SetSoname text) es = with_text_set (has_tag DT_SONAME) DT_SONAME text es
 edited_entries machine NoDefaultLibrary es = without_default_directories es
@@ -121,6 +131,7 @@ edited_entries machine (ClearSymbolVersion name) es = es
 edited_entries machine ClearExecStack es = es
 edited_entries machine SetExecStack es = es
 edited_entries machine (SetPageSize size) es = es
+edited_entries machine AllowDynamicMove es = es
 
 -- Whether an edit adds, removes or writes an entry of the list, be it with what stands there already.
 unfoldable pub touches_entries : ℕ → Edit → List Entry → Bool
@@ -132,6 +143,7 @@ touches_entries machine UseRunpath es = lists_tag DT_RPATH es
 touches_entries machine UseRpath es = lists_tag DT_RUNPATH es
 touches_entries machine (DeleteNeeded names) es = list_any (needs_one_of names) es
 touches_entries machine (ReplaceNeeded pairs) es = list_any (is_replaced pairs) es
+touches_entries machine (ReplaceLibrary pairs) es = list_any (is_replaced pairs) es
 touches_entries machine (AddNeeded names) es = has_some (not_needed_yet names es)
 touches_entries machine (SetSoname text) es = true
 touches_entries machine NoDefaultLibrary es = true
@@ -143,6 +155,7 @@ touches_entries machine (ClearSymbolVersion name) es = false
 touches_entries machine ClearExecStack es = false
 touches_entries machine SetExecStack es = false
 touches_entries machine (SetPageSize size) es = false
+touches_entries machine AllowDynamicMove es = false
 
 -- the tags by which an edit drops entries, whatever they hold; none for an edit that does something else
 abbrev pub dropped_tags : Edit → List ℕ
@@ -173,6 +186,24 @@ touches_symbols (RenameDynamicSymbols pairs) symbols = list_any (λ y. has_new_n
 touches_symbols (ClearSymbolVersion name) symbols = list_any (has_version_to_clear name) (drop 1 symbols)
 touches_symbols _ symbols = false
 
+-- ## The needed versions
+
+-- an edit of more than the dynamic list, the symbols or one number
+abbrev pub is_of_more : Edit → Bool
+is_of_more (ReplaceLibrary pairs) = true
+is_of_more AllowDynamicMove = true
+is_of_more _ = false
+
+-- The versions that are needed, library by library, after an edit: those of a library that is replaced are needed of the other one.
+abbrev pub edited_needs : Edit → List VersionNeeds → List VersionNeeds
+edited_needs (ReplaceLibrary pairs) needs = map (with_library_replaced pairs) needs
+edited_needs _ needs = needs
+
+-- Whether an edit writes the name of a library there, be it what stands there already.
+abbrev pub touches_needs : Edit → List VersionNeeds → Bool
+touches_needs (ReplaceLibrary pairs) needs = list_any (λ n. has_new_name pairs n.file) needs
+touches_needs _ needs = false
+
 -- ## In the code
 
 -- the words for a task
@@ -192,6 +223,7 @@ words_of tasks.ShrinkRunPath = codes "shrink rpath"
 -- which edit the code's edit is
 abbrev pub edit_model : ElfEdit → Edit
 edit_model edits.AddDebugTag = AddDebugEntry
+edit_model edits.AllowDynamicMove = AllowDynamicMove
 edit_model (edits.AddNeeded names) = AddNeeded (texts_model names.items)
 edit_model (edits.AddRpath texts) = AddRunPath (texts_model texts.items)
 edit_model edits.ClearExecStack = ClearExecStack
@@ -202,6 +234,7 @@ edit_model (edits.RemoveNeeded names) = DeleteNeeded (texts_model names.items)
 edit_model edits.RemoveRpath = DeleteRunPath
 edit_model (edits.RenameDynamicSymbols pairs) = RenameDynamicSymbols (pairs_model pairs.items)
 edit_model (edits.ReplaceNeeded pairs) = ReplaceNeeded (pairs_model pairs.items)
+edit_model (edits.ReplaceLibrary pairs) = ReplaceLibrary (pairs_model pairs.items)
 edit_model edits.SetExecStack = SetExecStack
 edit_model (edits.SetInterpreter bytes) = SetInterpreter (bytes_of bytes)
 edit_model (edits.SetOsAbi name) = SetOsAbi (string_bytes name)

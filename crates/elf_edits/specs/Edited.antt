@@ -9,7 +9,7 @@ use Rattle.elf_image.specs.Views.{View}
 use Rattle.elf_edits.specs.declared.constants.TheConstants.{STACK_ALIGN, STACK_FLAGS}
 use Rattle.elf_edits.specs.Abi.{abi_number, with_nul}
 use Rattle.elf_edits.specs.Cause.{Cause, cause}
-use Rattle.elf_edits.specs.Edit.{ClearExecStack, Edit, SetExecStack, SetInterpreter, SetOsAbi, SetPageSize, edited_entries, edited_symbols, touches_entries, touches_symbols}
+use Rattle.elf_edits.specs.Edit.{AllowDynamicMove, ClearExecStack, Edit, SetExecStack, SetInterpreter, SetOsAbi, SetPageSize, edited_entries, edited_needs, edited_symbols, touches_entries, touches_needs, touches_symbols}
 
 -- ## Besides the dynamic list
 
@@ -68,6 +68,11 @@ abbrev pub edited_page_size : Edit → Option ℕ → Option ℕ
 edited_page_size (SetPageSize size) old = Some size
 edited_page_size _ old = old
 
+-- leave that the dynamic section moves; it is given where something was changed
+abbrev pub edited_leave : Edit → Bool → Bool → Bool
+edited_leave AllowDynamicMove changed old = old || changed
+edited_leave _ changed old = old
+
 -- ## Views and images
 
 -- What is shown after an edit. `machine` is the image's, which no view shows.
@@ -78,6 +83,7 @@ edited_view machine edit view = record view {
   interpreter = edited_interpreter edit view.interpreter;
   entries = option_map (edited_entries machine edit) view.entries;
   symbols = option_map (edited_symbols edit) view.symbols;
+  needs = option_map (edited_needs edit) view.needs;
 }
 
 -- an edit of something else than the dynamic list and symbols writes it, be it with what stands there already
@@ -97,7 +103,8 @@ is_list_with test (Some entries) = test entries
 -- Whether an edit adds, removes or writes something. An edit that finds nothing of what it looks for doesn't.
 abbrev pub touches : Edit → Image → Bool
 touches edit image =
-    touches_rest edit || touches_symbols edit image.dynamic_symbols || is_list_with (touches_entries image.header.e_machine edit) image.entries
+    touches_rest edit || touches_symbols edit image.dynamic_symbols || touches_needs edit image.needs
+    || is_list_with (touches_entries image.header.e_machine edit) image.entries
 
 -- The image after an edit: these parts, and all others as they were.
 unfoldable pub edited_image : Edit → Image → Image
@@ -106,9 +113,11 @@ edited_image edit image = record image {
   header = record image.header { os_abi = edited_abi edit image.header.os_abi };
   segments = edited_segments edit image.segments;
   dynamic_symbols = edited_symbols edit image.dynamic_symbols;
+  needs = edited_needs edit image.needs;
   entries = option_map (edited_entries image.header.e_machine edit) image.entries;
   interpreter = edited_interpreter edit image.interpreter;
   page_size = edited_page_size edit image.page_size;
+  moves_dynamic = edited_leave edit image.changed image.moves_dynamic;
 }
 
 -- One edit: the image after it, or the first cause that stands against it.

@@ -3,11 +3,12 @@ use Rattle.std.specs.Prelude.{ℕ, ◌≡◌, List, [], ◌∷◌, ◌++◌, All
 use Rattle.std.specs.List.{list_any}
 use Rattle.elf_image.specs.Dynamic.{Entry, Text}
 use Rattle.elf_image.specs.Image.{Image, entry_tag, shown}
+use Rattle.elf_image.specs.Versions.{VersionNeeds}
 use Rattle.elf_image.specs.Views.{NamedSymbol, View}
 use Rattle.elf_edits.specs.Batch.{Refusal, answer_at, answers, left_by, left_by_all, run, run_from, then_on}
 use Rattle.elf_edits.specs.Cause.{Cause, cause}
-use Rattle.elf_edits.specs.Edit.{AddDebugEntry, DeleteNeeded, Edit, NoDefaultLibrary, RenameDynamicSymbols, ReplaceNeeded, SetRunPath, UseRpath, edited_entries, edited_symbols}
-use Rattle.elf_edits.specs.Edited.{edited_view, step, touches}
+use Rattle.elf_edits.specs.Edit.{AddDebugEntry, DeleteNeeded, Edit, NoDefaultLibrary, RenameDynamicSymbols, ReplaceLibrary, ReplaceNeeded, SetRunPath, UseRpath, edited_entries, edited_needs, edited_symbols, touches_needs}
+use Rattle.elf_edits.specs.Edited.{edited_leave, edited_view, step, touches}
 use Rattle.elf_edits.specs.Entries.{is_run_path, needed_names, needs_one_of}
 use Rattle.elf_edits.specs.Symbols.{names_behind_first, new_name}
 use Rattle.elf_edits.specs.Texts.{value_of}
@@ -22,16 +23,17 @@ pub record KeepsTheRest (old new : Image) : Type 0 where
   pub sections : new.sections ≡ old.sections
   pub symbols : new.symbols ≡ old.symbols
   pub definitions : new.definitions ≡ old.definitions
-  pub needs : new.needs ≡ old.needs
   pub section_numbers : new.section_numbers ≡ old.section_numbers
   pub symbol_numbers : new.symbol_numbers ≡ old.symbol_numbers
   pub dynamic_symbol_numbers : new.dynamic_symbol_numbers ≡ old.dynamic_symbol_numbers
 
--- An edit that isn't refused shows the edited view, has the edited symbols, shown or not, marks the image where it adds, removes or
--- writes something, and keeps the rest; it is refused exactly where a cause stands, with the first one.
+-- An edit that isn't refused shows the edited view, has the edited symbols and needed versions, shown or not, marks the image where it
+-- adds, removes or writes something, gives leave that the dynamic section moves where it is to, and keeps the rest; it is refused exactly where a cause stands, with the first one.
 pub record EditsShow : Type 0 where
   pub shows : (edit : Edit) (old new : Image) → step edit old ≡ Ok new → shown new ≡ edited_view old.header.e_machine edit (shown old)
   pub symbols : (edit : Edit) (old new : Image) → step edit old ≡ Ok new → new.dynamic_symbols ≡ edited_symbols edit old.dynamic_symbols
+  pub needs : (edit : Edit) (old new : Image) → step edit old ≡ Ok new → new.needs ≡ edited_needs edit old.needs
+  pub leave : (edit : Edit) (old new : Image) → step edit old ≡ Ok new → new.moves_dynamic ≡ edited_leave edit old.changed old.moves_dynamic
   pub marks : (edit : Edit) (old new : Image) → step edit old ≡ Ok new → new.changed ≡ (old.changed || touches edit old)
   pub keeps : (edit : Edit) (old new : Image) → step edit old ≡ Ok new → KeepsTheRest old new
   pub accepted : (edit : Edit) (old new : Image) → step edit old ≡ Ok new → cause edit old ≡ None
@@ -96,6 +98,14 @@ pub record MapsAtOnce : Type 0 where
   pub first_swapped : (f g : List ℕ) → value_of (swap_of f g) f ≡ Some g
   pub second_swapped : (f g : List ℕ) → value_of (swap_of f g) g ≡ Some f
   pub swapped_back : (machine : ℕ) (f g : List ℕ) (es : List Entry) → needed_names (edited_entries machine (ReplaceNeeded (swap_of f g)) (edited_entries machine (ReplaceNeeded (swap_of f g)) es)) ≡ needed_names es
+
+-- A replaced library is replaced in the dynamic list, as an edit of the list alone does it, and wherever versions are needed of it, all at
+-- once; the versions stay.
+pub record LibrariesAreReplacedAtOnce : Type 0 where
+  pub list : (machine : ℕ) (pairs : List (List ℕ × List ℕ)) (es : List Entry) → edited_entries machine (ReplaceLibrary pairs) es ≡ edited_entries machine (ReplaceNeeded pairs) es
+  pub files : (pairs : List (List ℕ × List ℕ)) (needs : List VersionNeeds) → map (λ n. n.file) (edited_needs (ReplaceLibrary pairs) needs) ≡ map (new_name pairs) (map (λ n. n.file) needs)
+  pub versions : (pairs : List (List ℕ × List ℕ)) (needs : List VersionNeeds) → map (λ n. n.versions) (edited_needs (ReplaceLibrary pairs) needs) ≡ map (λ n. n.versions) needs
+  pub other : (edit : Edit) (needs : List VersionNeeds) → touches_needs edit needs ≡ false → edited_needs edit needs ≡ needs
 
 -- ## Edits of the dynamic symbols
 

@@ -1,7 +1,8 @@
--- What edits make of the dynamic symbols (gABI, Symbol Table; GNU symbol versioning). The first one stands for no symbol, and no edit
--- is about it.
+-- What edits make of the dynamic symbols and of the needed versions (gABI, Symbol Table; GNU symbol versioning). The first symbol stands
+-- for none, and no edit is about it.
 use Rattle.std.specs.Prelude.{ℕ, List, [], ◌∷◌, map, drop, Bool, ◌&&◌, is_some, unwrap_or, if◌then◌else◌}
 use Rattle.std.specs.Str.{bytes_eq}
+use Rattle.elf_image.specs.Versions.{VersionNeeds}
 use Rattle.elf_image.specs.Views.{NamedSymbol}
 use Rattle.elf_image_symbol_edits.specs.EditedList.{with_global_version, with_name}
 use Rattle.elf_edits.specs.Texts.{value_of}
@@ -30,6 +31,10 @@ new_name pairs name = unwrap_or (value_of pairs name) name
 
 abbrev pub renamed : List (List ℕ × List ℕ) → NamedSymbol → NamedSymbol
 renamed pairs y = with_name (new_name pairs y.name) y
+
+-- the versions that are needed of a library, which may have another name there
+abbrev pub with_library_replaced : List (List ℕ × List ℕ) → VersionNeeds → VersionNeeds
+with_library_replaced pairs n = record n { file = new_name pairs n.file }
 
 -- ## Versions
 

@@ -31,6 +31,9 @@ pub enum ElfEdit {
     /// Adds each directory to every DT_RPATH and DT_RUNPATH, behind a colon where the old text isn't empty; without
     /// one, puts a DT_RUNPATH last, of the directories joined by colons.
     AddRpath(Vec<Vec<u8>>),
+    /// Gives leave that the dynamic section moves where it has grown into what follows it, if something was changed: by an
+    /// edit before it, or earlier. So it stands last in a batch.
+    AllowDynamicMove,
     /// Takes the permission to run from the stack (GNU extension PT_GNU_STACK).
     ClearExecStack,
     /// Gives every dynamic symbol of this name, but the first symbol, where there are versions, that of a global symbol
@@ -47,6 +50,9 @@ pub enum ElfEdit {
     /// Gives dynamic symbols, but the first, other names, all at once: pairs of an old and a new name, of a repeated old
     /// name the last.
     RenameDynamicSymbols(Vec<(Vec<u8>, Vec<u8>)>),
+    /// Replaces libraries, all at once: the texts of DT_NEEDED, and the files of which versions are needed (GNU symbol
+    /// versioning, `Elfxx_Verneed`, `vn_file`). Pairs of an old and a new name, of a repeated old name the last.
+    ReplaceLibrary(Vec<(Vec<u8>, Vec<u8>)>),
     /// Replaces the texts of DT_NEEDED, all at once: pairs of an old and a new name, of a repeated old name the last.
     ReplaceNeeded(Vec<(Vec<u8>, Vec<u8>)>),
     /// Gives the stack the permission to run.
@@ -77,6 +83,7 @@ impl ElfEdit {
             ElfEdit::NoDefaultLib => Some(Task::SetSoname),
             ElfEdit::RemoveNeeded(_) => Some(Task::DeleteNeeded),
             ElfEdit::RemoveRpath => Some(Task::DeleteRunPath),
+            ElfEdit::ReplaceLibrary(_) => Some(Task::ReplaceNeeded),
             ElfEdit::ReplaceNeeded(_) => Some(Task::ReplaceNeeded),
             ElfEdit::SetRpath(_) => Some(Task::SetRunPath),
             ElfEdit::SetSoname(_) => Some(Task::SetSoname),
@@ -94,6 +101,7 @@ impl ElfEdit {
             ElfEdit::ClearSymbolVersion(name) => holds_nul(name.as_slice()),
             ElfEdit::RemoveNeeded(names) => any_nul(names.as_slice()),
             ElfEdit::RenameDynamicSymbols(pairs) => any_nul_in_pairs(pairs.as_slice()),
+            ElfEdit::ReplaceLibrary(pairs) => any_nul_in_pairs(pairs.as_slice()),
             ElfEdit::ReplaceNeeded(pairs) => any_nul_in_pairs(pairs.as_slice()),
             ElfEdit::SetInterpreter(bytes) => nul_before_end(bytes.as_slice()),
             ElfEdit::SetOsAbi(name) => holds_nul(name.as_bytes()),
@@ -133,6 +141,7 @@ impl ElfEdit {
             ElfEdit::NoDefaultLib => leave_out_defaults(alloc, entries),
             ElfEdit::RemoveNeeded(names) => delete_needed(alloc, names.as_slice(), entries),
             ElfEdit::RemoveRpath => delete_where(alloc, &EntryTest::RunPath, entries),
+            ElfEdit::ReplaceLibrary(pairs) => replace_needed(alloc, pairs.as_slice(), entries),
             ElfEdit::ReplaceNeeded(pairs) => replace_needed(alloc, pairs.as_slice(), entries),
             ElfEdit::SetRpath(text) => {
                 let test = EntryTest::RunPath;

@@ -98,8 +98,8 @@ pub(crate) fn with_directories<'d>(
     }
 }
 
-// The text that a map has for a name, a copy of it; else the name.
-fn new_name<'d>(
+/// The text that a map has for a name, a copy of it; else the name. Error: `AllocError`.
+pub fn new_name<'d>(
     alloc: Global,
     names: &HashMap<&[u8], &[u8]>,
     name: &ByteString<'d>,

@@ -1,5 +1,5 @@
 //! What is proved of the edits themselves. The functions do nothing: each stands for the law that is its contract.
-ghost use Rattle.elf_edits.specs.Laws.{BatchesAreTheirEdits, EditsShow, ListsOfBatches, MapsAtOnce, OthersStayInOrder, RunPathsAreSet, SymbolsAreRenamedAtOnce, TwiceIsOnce};
+ghost use Rattle.elf_edits.specs.Laws.{BatchesAreTheirEdits, EditsShow, LibrariesAreReplacedAtOnce, ListsOfBatches, MapsAtOnce, OthersStayInOrder, RunPathsAreSet, SymbolsAreRenamedAtOnce, TwiceIsOnce};
 
 /// An edited image shows the edited view, and all that edits leave is as it was.
 #[tactic(auto, using(crate::proofs::ShownLaws::edits_show))]
@@ -41,6 +41,12 @@ pub fn others_stay_in_order()
 #[tactic(auto, using(crate::proofs::EntryLaws::maps_at_once))]
 pub fn maps_at_once()
     ensures { MapsAtOnce }
+{}
+
+/// A library that is replaced is replaced wherever it is named, and all at once.
+#[tactic(auto, using(crate::proofs::NeedLaws::libraries_are_replaced_at_once))]
+pub fn libraries_are_replaced_at_once()
+    ensures { LibrariesAreReplacedAtOnce }
 {}
 
 /// The same of the dynamic symbols, which twice swapped are shown as they were.

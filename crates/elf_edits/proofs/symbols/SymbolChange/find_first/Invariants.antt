@@ -1,4 +1,4 @@
-use Rattle.std.proofs.Common.{◌≡◌, ◌≤◌, drop, length}
+use Rattle.std.proofs.Common.{◌≡◌, ◌≤◌, drop}
 use Rattle.std.specs.List.{list_any}
 use Rattle.elf_image_symbol_edits.specs.Loan.{symbols_now}
 use Rattle.elf_edits.specs.SymbolChanges.{changed_to, is_changed}

@@ -1,9 +1,6 @@
 -- A first one is found.
-use Rattle.std.proofs.Common.{◌≡◌, Bool, ℕ, Option, Some, None, ◌∙◌, false, is_some, sym, true}
-use Rattle.std.specs.Prelude.{MatchOption, drop}
-use Rattle.std.specs.List.{list_any}
+use Rattle.std.proofs.Common.{◌∙◌}
 use Rattle.elf_image_symbol_edits.specs.Loan.{symbols_now}
-use Rattle.elf_edits.specs.SymbolChanges.{BeginsAt, is_changed}
 use Rattle.elf_edits.proofs.SymbolSteps.{any_found}
 use Rattle.elf_edits.proofs.symbols.SymbolChange.is_about_any.Goals as goal
 
