@@ -1,7 +1,7 @@
 -- What a draft shows once an edit wrote to it, and once it is put in place.
 use Rattle.std.proofs.Common.{◌≡◌, ℕ, Bool, true, false, not, ◌||◌, List, [], ◌∷◌, map, refl, sym, ap, subst, ◌∙◌, Option, Some, None, is_some, option_map, Result, Ok, Err}
 use Rattle.std.specs.Prelude.{All, IfOk, IfSome, IsSome, MatchResult, is_none, if◌then◌else◌, ◌==◌, unwrap_or}
-use Rattle.std.proofs.lemmas.Bool.{cond-true, cond-false, or_parts}
+use Rattle.std.proofs.lemmas.Bool.{cond-true, cond-false, or_parts, true≢false}
 use Rattle.patch_bytes.specs.ByteString.{StringValue, owned_string}
 use Rattle.elf_format.specs.declared.constants.TheConstants.{PT_GNU_STACK, PT_LOAD}
 use Rattle.elf_format.specs.declared.records.SegmentHeader.{SegmentHeader}
@@ -25,7 +25,7 @@ use Rattle.elf_edits.specs.declared.constants.TheConstants.{STACK_FLAGS}
 use Rattle.elf_edits.specs.declared.list.NewList.{NewList}
 use Rattle.elf_edits.specs.Abi.{abi_number, lowercase_name, with_nul}
 use Rattle.elf_edits.specs.Cause.{NoDynamic, NoInterpreter, UnknownAbi, cause_if, facts_of, first_cause}
-use Rattle.elf_edits.specs.Edit.{ClearExecStack, ClearSymbolVersion, Edit, RenameDynamicSymbols, SetExecStack, SetInterpreter, SetOsAbi, SetPageSize, all_but_last, edited_entries, edited_symbols, is_of_symbols, touches_entries, touches_symbols}
+use Rattle.elf_edits.specs.Edit.{AllowDynamicMove, ClearExecStack, ClearSymbolVersion, Edit, RenameDynamicSymbols, ReplaceLibrary, SetExecStack, SetInterpreter, SetOsAbi, SetPageSize, all_but_last, edited_entries, edited_symbols, is_of_more, is_of_symbols, touches_entries, touches_symbols}
 use Rattle.elf_edits.specs.Edited.{edited_image, is_list_with, touches_rest, with_align, with_load_align, with_run, with_stack_changed, without_run}
 use Rattle.elf_edits.specs.Entries.{with_tag, with_tags_changed}
 use Rattle.elf_image.specs.Image.{entry_tag, lists_tag}
@@ -35,7 +35,7 @@ use Rattle.std.specs.declared.vec.Vec.{Vec}
 use Rattle.elf_edits.specs.Texts.{holds_nul}
 use Rattle.elf_edits.proofs.ForCallers.{IsFree, fixed_names_stay, is_free, lists_again, stands_not, stored_whole, symbols_untouched, untouched}
 use Rattle.elf_apply.specs.declared.draft.Draft.{Draft}
-use Rattle.elf_apply.specs.Drafted.{AreSymbolsFor, CanPutEntries, CanPutInterpreter, changed_if, IsDraftOf, ListsEntries, OnlyShows, Writes, drafted, entries_drafted, flags_now, is_written, stack_flags_of, symbols_drafted, with_entries_put, with_flags, with_flags_put, with_interpreter_put, with_list, with_retagged, with_os_abi_put, with_page_size, with_page_size_put, with_symbols, with_symbols_put}
+use Rattle.elf_apply.specs.Drafted.{AreSymbolsFor, CanPutEntries, CanPutInterpreter, changed_if, IsDraftOf, ListsEntries, OnlyShows, Writes, drafted, entries_drafted, flags_now, is_written, needs_drafted, stack_flags_of, symbols_drafted, with_entries_put, with_flags, with_flags_put, with_interpreter_put, with_leave_put, with_list, with_needs_put, with_retagged, with_os_abi_put, with_page_size, with_page_size_put, with_symbols, with_symbols_put}
 
 pub by_test : {P : Type 0} (b : Bool) → (b ≡ true → P) → (b ≡ false → P) → P
 by_test true then_so else_so = then_so refl
@@ -62,19 +62,23 @@ image_with changed abi segments entries interpreter size image = record image {
 
 -- ## Nothing and something written
 
-pub nothing_written : (image : Image) → OnlyShows image image (record { entries = None; interpreter = None; os_abi = None; stack_flags = None; page_size = None; symbols = None })
+pub nothing_written : (image : Image) → OnlyShows image image (record { entries = None; interpreter = None; os_abi = None; stack_flags = None; page_size = None; symbols = None; needs = None; moves_dynamic = false })
 unfolding drafted image_with
 nothing_written image = record {
-  shows = ap (λ changed. image_with changed image.header.os_abi image.segments image.entries image.interpreter image.page_size image) (or_false image.changed);
-  draft = record { tables = tt; entries = tt; interpreter_there = tt; interpreter = tt; symbols = tt };
+  shows = ap (λ changed. image_with changed image.header.os_abi image.segments image.entries image.interpreter image.page_size (record image { moves_dynamic = image.moves_dynamic || false })) (or_false image.changed)
+      ∙ ap (λ leave. record image { moves_dynamic = leave }) (or_false image.moves_dynamic);
+  draft = record { tables = tt; entries = tt; interpreter_there = tt; interpreter = tt; symbols = tt; needs = tt; listed = tt; leave = λ e. absurd (true≢false (sym e)) };
 }
+
+pub is_marked : (changed after : Bool) → after ≡ true → (changed || after) ≡ true
+is_marked changed after h = ap (λ b. changed || b) h ∙ or_true changed
 
 written_marks : (changed before after : Bool) → after ≡ true → (changed || after) ≡ ((changed || before) || true)
 written_marks changed before after h = ap (λ b. changed || b) h ∙ or_true changed ∙ sym (or_true (changed || before))
 
 -- ## Edits of something else than the list
 
-kept_list : (o : Option (List Entry)) → option_map (λ es. es) o ≡ o
+pub kept_list : (o : Option (List Entry)) → option_map (λ es. es) o ≡ o
 kept_list None = refl
 kept_list (Some es) = refl
 
@@ -98,9 +102,13 @@ set_edit : (image : Image) → edited_image SetExecStack image ≡ image_with (i
 unfolding edited_image edited_entries image_with
 set_edit image = ap (λ o. image_with (image.changed || true) image.header.os_abi (with_stack_changed with_run image.segments) o image.interpreter image.page_size image) (kept_list image.entries)
 
--- the image with the symbols that were written
+-- the image with the symbols and needed versions that were written, and the leave
 abbrev based : Image → Draft → Image
-based image d = record image { dynamic_symbols = symbols_drafted d image.dynamic_symbols }
+based image d = record image {
+  dynamic_symbols = symbols_drafted d image.dynamic_symbols;
+  needs = needs_drafted d image.needs;
+  moves_dynamic = image.moves_dynamic || d.moves_dynamic;
+}
 
 -- ## The interpreter
 
@@ -123,11 +131,14 @@ interpreter_written bytes image d free is = record {
     interpreter_there = is_there image.interpreter there;
     interpreter = stored_whole bytes (or_parts (holds_nul (all_but_last bytes)) false free.texts).0;
     symbols = is.symbols;
+    needs = is.needs;
+    listed = is.listed;
+    leave = λ _. is_marked image.changed _ marked;
   };
 }
   where
     marked : is_written (record d { interpreter = Some (owned_string (with_nul bytes)) }) ≡ true
-    marked = ap (λ b. (b || is_some d.entries) || is_some d.symbols) (or_true ((is_some d.stack_flags || is_some d.page_size) || is_some d.os_abi))
+    marked = ap (λ b. ((b || is_some d.entries) || is_some d.symbols) || is_some d.needs) (or_true ((is_some d.stack_flags || is_some d.page_size) || is_some d.os_abi))
 
     there : is_some image.interpreter ≡ true
     there = not_false_is (is_some image.interpreter) (stands_not (not (is_some image.interpreter)) NoInterpreter free.interpreter)
@@ -145,7 +156,7 @@ os_abi_written name number image d free is same =
     subst (λ (o : Option ℕ). Writes (SetOsAbi name) image d (record d { os_abi = o })) (sym (same ∙ found.1)) (by_number found.0 found.1)
   where
     marked : (n : ℕ) → is_written (record d { os_abi = Some n }) ≡ true
-    marked n = ap (λ b. ((b || is_some d.interpreter) || is_some d.entries) || is_some d.symbols) (or_true (is_some d.stack_flags || is_some d.page_size))
+    marked n = ap (λ b. (((b || is_some d.interpreter) || is_some d.entries) || is_some d.symbols) || is_some d.needs) (or_true (is_some d.stack_flags || is_some d.page_size))
 
     by_number : (n : ℕ) → abi_number name ≡ Some n → Writes (SetOsAbi name) image d (record d { os_abi = Some n })
     by_number n is_named = record {
@@ -155,7 +166,7 @@ os_abi_written name number image d free is same =
           ∙ ap (λ o. image_with ((image.changed || is_written d) || true) (unwrap_or o (unwrap_or d.os_abi image.header.os_abi)) (with_page_size d.page_size (with_flags d.stack_flags image.segments)) (first_there (entries_drafted d) image.entries) (first_there (text_model d.interpreter) image.interpreter) (first_there d.page_size image.page_size) (based image d))
           (sym is_named)
           ∙ sym (os_abi_edit name (drafted d image));
-      draft = record { tables = is.tables; entries = is.entries; interpreter_there = is.interpreter_there; interpreter = is.interpreter; symbols = is.symbols };
+      draft = record { tables = is.tables; entries = is.entries; interpreter_there = is.interpreter_there; interpreter = is.interpreter; symbols = is.symbols; needs = is.needs; listed = is.listed; leave = λ _. is_marked image.changed _ (marked n) };
     }
 
 -- ## The page size
@@ -183,11 +194,11 @@ page_size_written size image d is = record {
       ∙ ap (λ segments. image_with ((image.changed || is_written d) || true) (unwrap_or d.os_abi image.header.os_abi) segments (first_there (entries_drafted d) image.entries) (first_there (text_model d.interpreter) image.interpreter) (Some size) (based image d))
       (aligned_last size d.page_size (with_flags d.stack_flags image.segments))
       ∙ sym (page_size_edit size (drafted d image));
-  draft = record { tables = is.tables; entries = is.entries; interpreter_there = is.interpreter_there; interpreter = is.interpreter; symbols = is.symbols };
+  draft = record { tables = is.tables; entries = is.entries; interpreter_there = is.interpreter_there; interpreter = is.interpreter; symbols = is.symbols; needs = is.needs; listed = is.listed; leave = λ _. is_marked image.changed _ marked };
 }
   where
     marked : is_written (record d { page_size = Some size }) ≡ true
-    marked = ap (λ b. (((b || is_some d.os_abi) || is_some d.interpreter) || is_some d.entries) || is_some d.symbols) (or_true (is_some d.stack_flags))
+    marked = ap (λ b. ((((b || is_some d.os_abi) || is_some d.interpreter) || is_some d.entries) || is_some d.symbols) || is_some d.needs) (or_true (is_some d.stack_flags))
 
 -- ## The stack
 
@@ -259,14 +270,14 @@ pub stack_cleared : (image : Image) (d : Draft) → IsDraftOf image d → Writes
 unfolding image_with after flags_changed new_flags
 stack_cleared image d is = record {
   shows = flags_drafted image d without_run ∙ sym (cleared_edit (drafted d image));
-  draft = record { tables = is.tables; entries = is.entries; interpreter_there = is.interpreter_there; interpreter = is.interpreter; symbols = is.symbols };
+  draft = record { tables = is.tables; entries = is.entries; interpreter_there = is.interpreter_there; interpreter = is.interpreter; symbols = is.symbols; needs = is.needs; listed = is.listed; leave = λ _. is_marked image.changed true refl };
 }
 
 pub stack_set : (image : Image) (d : Draft) → IsDraftOf image d → Writes SetExecStack image d (record d { stack_flags = Some (with_run (flags_now d image.segments)) })
 unfolding image_with after flags_changed new_flags
 stack_set image d is = record {
   shows = flags_drafted image d with_run ∙ sym (set_edit (drafted d image));
-  draft = record { tables = is.tables; entries = is.entries; interpreter_there = is.interpreter_there; interpreter = is.interpreter; symbols = is.symbols };
+  draft = record { tables = is.tables; entries = is.entries; interpreter_there = is.interpreter_there; interpreter = is.interpreter; symbols = is.symbols; needs = is.needs; listed = is.listed; leave = λ _. is_marked image.changed true refl };
 }
 
 -- ## The dynamic list
@@ -275,36 +286,40 @@ not_both : {P : Type 0} → true ≡ false → P
 not_both h = absurd (cc)
 
 -- an edit of the list leaves all else
-pub rest_stays : (edit : Edit) → touches_rest edit ≡ false → is_of_symbols edit ≡ false → (image : Image) → edited_image edit image ≡ record image {
+pub rest_stays : (edit : Edit) → touches_rest edit ≡ false → is_of_symbols edit ≡ false → is_of_more edit ≡ false → (image : Image) → edited_image edit image ≡ record image {
   changed = image.changed || is_list_with (touches_entries image.header.e_machine edit) image.entries;
   entries = option_map (edited_entries image.header.e_machine edit) image.entries;
 }
 unfolding edited_image
-rest_stays (SetInterpreter bytes) h k image = not_both h
-rest_stays (SetOsAbi name) h k image = not_both h
-rest_stays ClearExecStack h k image = not_both h
-rest_stays SetExecStack h k image = not_both h
-rest_stays (SetPageSize size) h k image = not_both h
-rest_stays (RenameDynamicSymbols pairs) h k image = not_both k
-rest_stays (ClearSymbolVersion name) h k image = not_both k
-rest_stays _ h k image = refl
+rest_stays (SetInterpreter bytes) h k m image = not_both h
+rest_stays (SetOsAbi name) h k m image = not_both h
+rest_stays ClearExecStack h k m image = not_both h
+rest_stays SetExecStack h k m image = not_both h
+rest_stays (SetPageSize size) h k m image = not_both h
+rest_stays (RenameDynamicSymbols pairs) h k m image = not_both k
+rest_stays (ClearSymbolVersion name) h k m image = not_both k
+rest_stays (ReplaceLibrary pairs) h k m image = not_both m
+rest_stays AllowDynamicMove h k m image = not_both m
+rest_stays _ h k m image = refl
 
 -- and has a list
 there : (task : List ℕ) (image : Image) → cause_if (not (is_some image.entries)) (NoDynamic task) ≡ None → is_some image.entries ≡ true
 there task image h = not_false_is (is_some image.entries) (stands_not (not (is_some image.entries)) (NoDynamic task) h)
 
-list_there : (edit : Edit) (image : Image) → touches_rest edit ≡ false → is_of_symbols edit ≡ false → IsFree edit (facts_of image) → is_some image.entries ≡ true
-list_there (SetInterpreter bytes) image h k free = not_both h
-list_there (SetOsAbi name) image h k free = not_both h
-list_there ClearExecStack image h k free = not_both h
-list_there SetExecStack image h k free = not_both h
-list_there (SetPageSize size) image h k free = not_both h
-list_there (RenameDynamicSymbols pairs) image h k free = not_both k
-list_there (ClearSymbolVersion name) image h k free = not_both k
-list_there _ image h k free = there _ image free.list
+list_there : (edit : Edit) (image : Image) → touches_rest edit ≡ false → is_of_symbols edit ≡ false → is_of_more edit ≡ false → IsFree edit (facts_of image) → is_some image.entries ≡ true
+list_there (SetInterpreter bytes) image h k m free = not_both h
+list_there (SetOsAbi name) image h k m free = not_both h
+list_there ClearExecStack image h k m free = not_both h
+list_there SetExecStack image h k m free = not_both h
+list_there (SetPageSize size) image h k m free = not_both h
+list_there (RenameDynamicSymbols pairs) image h k m free = not_both k
+list_there (ClearSymbolVersion name) image h k m free = not_both k
+list_there (ReplaceLibrary pairs) image h k m free = not_both m
+list_there AllowDynamicMove image h k m free = not_both m
+list_there _ image h k m free = there _ image free.list
 
-pub listed_in : (edit : Edit) (image : Image) → touches_rest edit ≡ false → is_of_symbols edit ≡ false → IsFree edit (facts_of image) → (es : List Entry) × (image.entries ≡ Some es)
-listed_in edit image h k free = by_list image.entries (list_there edit image h k free)
+pub listed_in : (edit : Edit) (image : Image) → touches_rest edit ≡ false → is_of_symbols edit ≡ false → is_of_more edit ≡ false → IsFree edit (facts_of image) → (es : List Entry) × (image.entries ≡ Some es)
+listed_in edit image h k m free = by_list image.entries (list_there edit image h k m free)
   where
     by_list : (o : Option (List Entry)) → is_some o ≡ true → (es : List Entry) × (o ≡ Some es)
     by_list None k = absurd (cc)
@@ -336,13 +351,13 @@ same_two : (c c' : Bool) (e e' : Option (List Entry)) (abi : ℕ) (segments : Li
     → image_with c abi segments e interpreter size image ≡ image_with c' abi segments e' interpreter size image
 same_two c c' e e' abi segments interpreter size image changed entries = cc
 
-pub list_written : (edit : Edit) (image : Image) (d : Draft) (made : NewList) → touches_rest edit ≡ false → is_of_symbols edit ≡ false → IsFree edit (facts_of image) → ListsEntries image → IsDraftOf image d
+pub list_written : (edit : Edit) (image : Image) (d : Draft) (made : NewList) → touches_rest edit ≡ false → is_of_symbols edit ≡ false → is_of_more edit ≡ false → IsFree edit (facts_of image) → ListsEntries image → IsDraftOf image d
     → ((machine : ℕ) → map entry_model made.entries.items ≡ edited_entries machine edit (unwrap_or (first_there (entries_drafted d) image.entries) []))
     → ((machine : ℕ) → made.is_touched ≡ touches_entries machine edit (unwrap_or (first_there (entries_drafted d) image.entries) []))
     → Writes edit image d (with_list made d)
 unfolding drafted image_with now_listed
-list_written edit image d made kind other free listed is list touched =
-    let read = listed_in edit image kind other free in
+list_written edit image d made kind other more free listed is list touched =
+    let read = listed_in edit image kind other more free in
     let now = is_now image d read.0 read.1 listed is in
     by_test made.is_touched
     (λ holds. subst (λ (x : Draft). Writes edit image d x) (sym (cond-true made.is_touched (record d { entries = Some made.entries }) d holds)) (when_touched read.0 now.0 read.1 now.1 holds))
@@ -357,7 +372,11 @@ list_written edit image d made kind other free listed is list touched =
     -- what the edit makes, by the list with what was written
     edited_parts : edited_image edit (drafted d image) ≡ image_with ((image.changed || is_written d) || is_list_with (touches_entries machine edit) (now_listed image d)) (unwrap_or d.os_abi image.header.os_abi)
         (with_page_size d.page_size (with_flags d.stack_flags image.segments)) (option_map (edited_entries machine edit) (now_listed image d)) (first_there (text_model d.interpreter) image.interpreter) (first_there d.page_size image.page_size) (based image d)
-    edited_parts = rest_stays edit kind other (drafted d image)
+    edited_parts = rest_stays edit kind other more (drafted d image)
+
+    -- a list that was made marks the image
+    entries_mark : is_written new ≡ true
+    entries_mark = ap (λ b. (b || is_some d.symbols) || is_some d.needs) (or_true (((is_some d.stack_flags || is_some d.page_size) || is_some d.os_abi) || is_some d.interpreter))
 
     when_touched : (read es : List Entry) → image.entries ≡ Some read → IsNow image d read es → made.is_touched ≡ true → Writes edit image d new
     when_touched read es there now holds =
@@ -370,7 +389,7 @@ list_written edit image d made kind other free listed is list touched =
               same_two (image.changed || is_written new) ((image.changed || is_written d) || is_list_with (touches_entries machine edit) (now_listed image d))
               (Some (map entry_model made.entries.items)) (option_map (edited_entries machine edit) (now_listed image d))
               (unwrap_or d.os_abi image.header.os_abi) (with_page_size d.page_size (with_flags d.stack_flags image.segments)) (first_there (text_model d.interpreter) image.interpreter) (first_there d.page_size image.page_size) (based image d)
-              (written_marks image.changed (is_written d) (is_written new) (ap (λ b. b || is_some d.symbols) (or_true (((is_some d.stack_flags || is_some d.page_size) || is_some d.os_abi) || is_some d.interpreter))) ∙ sym (ap (λ b. (image.changed || is_written d) || b) marked))
+              (written_marks image.changed (is_written d) (is_written new) entries_mark ∙ sym (ap (λ b. (image.changed || is_written d) || b) marked))
               (ap Some made_is ∙ sym (ap (option_map (edited_entries machine edit)) now.now))
               ∙ sym edited_parts;
           draft = record {
@@ -379,6 +398,9 @@ list_written edit image d made kind other free listed is list touched =
             interpreter_there = is.interpreter_there;
             interpreter = is.interpreter;
             symbols = is.symbols;
+            needs = is.needs;
+            listed = is.listed;
+            leave = λ _. is_marked image.changed (is_written new) entries_mark;
           };
         }
 
@@ -401,12 +423,12 @@ list_written edit image d made kind other free listed is list touched =
 -- ## The dynamic symbols
 
 alone : (edit : Edit) (image : Image) (touched : Bool) → record image {
-  changed = image.changed || (touched || is_list_with (λ es. false) image.entries);
+  changed = image.changed || ((touched || false) || is_list_with (λ es. false) image.entries);
   dynamic_symbols = edited_symbols edit image.dynamic_symbols;
   entries = option_map (λ es. es) image.entries;
 } ≡ record image { changed = image.changed || touched; dynamic_symbols = edited_symbols edit image.dynamic_symbols }
 alone edit image touched =
-    ap (λ b. record image { changed = image.changed || b; dynamic_symbols = edited_symbols edit image.dynamic_symbols; entries = option_map (λ es. es) image.entries }) (ap (λ b. touched || b) (no_list image.entries) ∙ or_false touched)
+    ap (λ b. record image { changed = image.changed || b; dynamic_symbols = edited_symbols edit image.dynamic_symbols; entries = option_map (λ es. es) image.entries }) (ap (λ b. (touched || false) || b) (no_list image.entries) ∙ or_false (touched || false) ∙ or_false touched)
     ∙ ap (λ (o : Option (List Entry)). record image { changed = image.changed || touched; dynamic_symbols = edited_symbols edit image.dynamic_symbols; entries = o }) (kept_list image.entries)
   where
     no_list : (o : Option (List Entry)) → is_list_with (λ es. false) o ≡ false
@@ -423,12 +445,16 @@ symbols_alone (RenameDynamicSymbols pairs) h image = alone (RenameDynamicSymbols
 symbols_alone (ClearSymbolVersion name) h image = alone (ClearSymbolVersion name) image (touches_symbols (ClearSymbolVersion name) image.dynamic_symbols)
 symbols_alone _ h image = not_both (sym h)
 
+-- symbols that were made mark the image
+symbols_mark : (d : Draft) (made : EditedList) → is_written (record d { symbols = Some made }) ≡ true
+symbols_mark d made = ap (λ b. b || is_some d.needs) (or_true ((((is_some d.stack_flags || is_some d.page_size) || is_some d.os_abi) || is_some d.interpreter) || is_some d.entries))
+
 -- what was written before, with these symbols
 symbols_written_as : (edit : Edit) (image : Image) (d : Draft) (made : EditedList) → is_of_symbols edit ≡ true → touches_symbols edit (symbols_drafted d image.dynamic_symbols) ≡ true
     → made.symbols ≡ edited_symbols edit (symbols_drafted d image.dynamic_symbols) → drafted (record d { symbols = Some made }) image ≡ edited_image edit (drafted d image)
 unfolding drafted
 symbols_written_as edit image d made kind touched is =
-    ap (λ b. record (drafted (record d { symbols = Some made }) image) { changed = b }) (written_marks image.changed (is_written d) (is_written (record d { symbols = Some made })) (or_true ((((is_some d.stack_flags || is_some d.page_size) || is_some d.os_abi) || is_some d.interpreter) || is_some d.entries))
+    ap (λ b. record (drafted (record d { symbols = Some made }) image) { changed = b }) (written_marks image.changed (is_written d) (is_written (record d { symbols = Some made })) (symbols_mark d made)
     ∙ sym (ap (λ b. (image.changed || is_written d) || b) touched))
     ∙ ap (λ (l : List NamedSymbol). record (drafted d image) { changed = (image.changed || is_written d) || touches_symbols edit (symbols_drafted d image.dynamic_symbols); dynamic_symbols = l }) is
     ∙ sym (symbols_alone edit kind (drafted d image))
@@ -463,6 +489,9 @@ symbols_written edit image d now (Some made) kind free is same for after = recor
       numbers = ap (λ (e : EditedList). e.numbers) after.1 ∙ for.numbers;
       names = λ fixed. ap (λ (e : EditedList). texts_of_symbols e.symbols) after.1 ∙ names_for edit image now.symbols free fixed (for.names fixed);
     };
+    needs = is.needs;
+    listed = is.listed;
+    leave = λ _. is_marked image.changed _ (symbols_mark d made);
   };
 }
 
@@ -506,31 +535,43 @@ marks_if : {A : Type 0} (part : Option A) (old : Bool) → changed_if part old �
 marks_if None old = sym (or_false old)
 marks_if (Some x) old = sym (or_true old)
 
-or_each : (c a b d e f g : Bool) → ((((((c || a) || b) || d) || e) || f) || g) ≡ (c || (((((a || b) || d) || e) || f) || g))
-or_each true a b d e f g = refl
-or_each false a b d e f g = refl
+or_each : (c a b d e f g h : Bool) → (((((((c || a) || b) || d) || e) || f) || g) || h) ≡ (c || ((((((a || b) || d) || e) || f) || g) || h))
+or_each true a b d e f g h = refl
+or_each false a b d e f g h = refl
 
 -- a text is kept where there is one
 kept_there : (o : Option StringValue) → is_some (text_model o) ≡ is_some o
 kept_there None = refl
 kept_there (Some text) = refl
 
+-- the leave is given in an image that is marked
+leave_put : (leave changed moves : Bool) (image : Image) → (leave ≡ true → changed ≡ true)
+    → with_leave_put leave (record image { changed = changed; moves_dynamic = moves }) ≡ record image { changed = changed; moves_dynamic = moves || leave }
+leave_put true changed moves image h =
+    ap (λ b. record image { changed = b; moves_dynamic = true }) (sym (h refl))
+    ∙ ap (λ b. record image { changed = changed; moves_dynamic = b }) (sym (or_true moves))
+leave_put false changed moves image h = ap (λ b. record image { changed = changed; moves_dynamic = b }) (sym (or_false moves))
+
 -- part by part, all of it is put in place
-pub put_together : (d : Draft) (image : Image) → with_symbols_put d.symbols (with_entries_put d.entries (with_interpreter_put (text_model d.interpreter) (with_os_abi_put d.os_abi (with_page_size_put d.page_size (with_flags_put d.stack_flags image))))) ≡ drafted d image
+pub put_together : (d : Draft) (image : Image) → (d.moves_dynamic ≡ true → (image.changed || is_written d) ≡ true)
+    → with_leave_put d.moves_dynamic (with_needs_put d.needs (with_symbols_put d.symbols (with_entries_put d.entries (with_interpreter_put (text_model d.interpreter) (with_os_abi_put d.os_abi (with_page_size_put d.page_size (with_flags_put d.stack_flags image))))))) ≡ drafted d image
 unfolding drafted image_with
-put_together d image =
-    ap (λ changed. image_with changed (unwrap_or d.os_abi image.header.os_abi) (with_page_size d.page_size (with_flags d.stack_flags image.segments)) (first_there (entries_drafted d) image.entries) (first_there (text_model d.interpreter) image.interpreter) (first_there d.page_size image.page_size) (based image d)) marked
+put_together d image is_left =
+    ap (λ changed. with_leave_put d.moves_dynamic (image_with changed (unwrap_or d.os_abi image.header.os_abi) (with_page_size d.page_size (with_flags d.stack_flags image.segments)) (first_there (entries_drafted d) image.entries) (first_there (text_model d.interpreter) image.interpreter) (first_there d.page_size image.page_size)
+    (record image { dynamic_symbols = symbols_drafted d image.dynamic_symbols; needs = needs_drafted d image.needs }))) marked
+    ∙ leave_put d.moves_dynamic (image.changed || is_written d) image.moves_dynamic (drafted d image) is_left
   where
-    marked : changed_if d.symbols (changed_if d.entries (changed_if (text_model d.interpreter) (changed_if d.os_abi (changed_if d.page_size (changed_if d.stack_flags image.changed))))) ≡ (image.changed || is_written d)
+    marked : changed_if d.needs (changed_if d.symbols (changed_if d.entries (changed_if (text_model d.interpreter) (changed_if d.os_abi (changed_if d.page_size (changed_if d.stack_flags image.changed)))))) ≡ (image.changed || is_written d)
     marked =
-        marks_if d.symbols (changed_if d.entries (changed_if (text_model d.interpreter) (changed_if d.os_abi (changed_if d.page_size (changed_if d.stack_flags image.changed)))))
+        marks_if d.needs (changed_if d.symbols (changed_if d.entries (changed_if (text_model d.interpreter) (changed_if d.os_abi (changed_if d.page_size (changed_if d.stack_flags image.changed))))))
+        ∙ ap (λ b. b || is_some d.needs) (marks_if d.symbols (changed_if d.entries (changed_if (text_model d.interpreter) (changed_if d.os_abi (changed_if d.page_size (changed_if d.stack_flags image.changed)))))
         ∙ ap (λ b. b || is_some d.symbols) (marks_if d.entries (changed_if (text_model d.interpreter) (changed_if d.os_abi (changed_if d.page_size (changed_if d.stack_flags image.changed))))
         ∙ ap (λ b. b || is_some d.entries) (marks_if (text_model d.interpreter) (changed_if d.os_abi (changed_if d.page_size (changed_if d.stack_flags image.changed)))
         ∙ ap (λ b. b || is_some (text_model d.interpreter)) (marks_if d.os_abi (changed_if d.page_size (changed_if d.stack_flags image.changed))
         ∙ ap (λ b. b || is_some d.os_abi) (marks_if d.page_size (changed_if d.stack_flags image.changed)
-        ∙ ap (λ b. b || is_some d.page_size) (marks_if d.stack_flags image.changed)))))
-        ∙ or_each image.changed (is_some d.stack_flags) (is_some d.page_size) (is_some d.os_abi) (is_some (text_model d.interpreter)) (is_some d.entries) (is_some d.symbols)
-        ∙ ap (λ b. image.changed || (((((is_some d.stack_flags || is_some d.page_size) || is_some d.os_abi) || b) || is_some d.entries) || is_some d.symbols)) (kept_there d.interpreter)
+        ∙ ap (λ b. b || is_some d.page_size) (marks_if d.stack_flags image.changed))))))
+        ∙ or_each image.changed (is_some d.stack_flags) (is_some d.page_size) (is_some d.os_abi) (is_some (text_model d.interpreter)) (is_some d.entries) (is_some d.symbols) (is_some d.needs)
+        ∙ ap (λ b. image.changed || ((((((is_some d.stack_flags || is_some d.page_size) || is_some d.os_abi) || b) || is_some d.entries) || is_some d.symbols) || is_some d.needs)) (kept_there d.interpreter)
 
 -- the flags of a stack that is there, and one that is added
 flags_at_first : (b : Bool) (flags : ℕ) (p : SegmentHeader) (ps : List SegmentHeader) → with_stack_flags flags ps ≡ with_stack_changed (λ _. flags) ps

@@ -125,7 +125,7 @@ tags_dropped edit task old drops =
     in_turn (dropped_tags edit) old
     ∙ ap (λ b. with_both (old.changed || b) (option_map (without_tags (dropped_tags edit)) old.entries) old) (marked machine old.entries)
     ∙ ap (λ o. with_both (old.changed || is_list_with (touches_entries machine edit) old.entries) o old) (by_list machine old.entries)
-    ∙ sym (rest_stays edit drops.of_list drops.no_symbols old)
+    ∙ sym (rest_stays edit drops.of_list drops.no_symbols drops.no_more old)
   where
     marked : (machine : ℕ) (o : Option (List Entry)) → list_any (has_one_of (dropped_tags edit)) (unwrap_or o []) ≡ is_list_with (touches_entries machine edit) o
     marked machine None = refl

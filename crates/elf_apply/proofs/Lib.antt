@@ -1,4 +1,6 @@
 pub mod DraftLaws
+pub mod NeedLaws
+pub mod NeedSteps
 pub mod StackLaws
 pub mod HeldLaws
 pub mod TakenLaws

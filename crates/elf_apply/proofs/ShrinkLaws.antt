@@ -65,7 +65,7 @@ module _ (prefixes : List (List ℕ)) (answers : List Answer) (old : Image) (non
 
   there : (es : List Entry) × (old.entries ≡ Some es)
   unfolding cause
-  there = listed_in (ShrinkRunPath prefixes answers) old refl refl (is_free (ShrinkRunPath prefixes answers) (facts_of old) none)
+  there = listed_in (ShrinkRunPath prefixes answers) old refl refl refl (is_free (ShrinkRunPath prefixes answers) (facts_of old) none)
 
   -- the list that is there
   listed : unwrap_or old.entries [] ≡ there.0
@@ -106,7 +106,7 @@ module _ (prefixes : List (List ℕ)) (answers : List Answer) (old : Image) (non
       let listed_new : option_map (edited_entries old.header.e_machine (ShrinkRunPath prefixes answers)) old.entries ≡ Some (map entry_model made.entries.items) =
       ap (option_map (edited_entries old.header.e_machine (ShrinkRunPath prefixes answers))) there.1 ∙ ap Some (sym (shrunk_entries made is)) in
       step_is (ShrinkRunPath prefixes answers) old none
-      ∙ ap Ok (rest_stays (ShrinkRunPath prefixes answers) refl refl old
+      ∙ ap Ok (rest_stays (ShrinkRunPath prefixes answers) refl refl refl old
       ∙ ap (λ b. record old { changed = b; entries = option_map (edited_entries old.header.e_machine (ShrinkRunPath prefixes answers)) old.entries }) (ap (λ b. old.changed || b) (marked made is ∙ some) ∙ or_true old.changed)
       ∙ ap (λ (o : Option (List Entry)). record old { changed = true; entries = o }) listed_new
       ∙ sym put)
@@ -119,7 +119,7 @@ module _ (prefixes : List (List ℕ)) (answers : List Answer) (old : Image) (non
       ∙ ap Some (untouched old.header.e_machine (ShrinkRunPath prefixes answers) there.0 (sym (ap (is_list_with (touches_entries old.header.e_machine (ShrinkRunPath prefixes answers))) there.1) ∙ mark))
       ∙ sym there.1 in
       step_is (ShrinkRunPath prefixes answers) old none
-      ∙ ap Ok (rest_stays (ShrinkRunPath prefixes answers) refl refl old
+      ∙ ap Ok (rest_stays (ShrinkRunPath prefixes answers) refl refl refl old
       ∙ ap (λ b. record old { changed = b; entries = option_map (edited_entries old.header.e_machine (ShrinkRunPath prefixes answers)) old.entries }) (ap (λ b. old.changed || b) mark ∙ or_false old.changed)
       ∙ ap (λ (o : Option (List Entry)). record old { changed = old.changed; entries = o }) same
       ∙ sym put)

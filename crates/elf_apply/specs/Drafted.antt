@@ -1,22 +1,27 @@
 -- The parts of an image that edits wrote, before they are put in place.
+use Rattle.std.specs.List.{list_any}
 use Rattle.std.specs.Prelude.{ℕ, ◌≡◌, List, [], ◌∷◌, map, Bool, false, true, ◌||◌, if◌then◌else◌, Option, Some, None, is_some, option_map, unwrap_or, IsSome, IfSome, All}
 use Rattle.elf_format.specs.declared.constants.TheConstants.{PT_GNU_STACK}
 use Rattle.elf_format.specs.declared.records.SegmentHeader.{SegmentHeader}
 use Rattle.elf_image.specs.Dynamic.{Entry}
 use Rattle.elf_image.specs.DynamicList.{IsListed, KeepsTables, without_tag}
+use Rattle.elf_image.specs.Edited.{AreSameNeeds}
 use Rattle.elf_image.specs.File.{segment_of_type}
 use Rattle.elf_image.specs.Image.{Image, lists_tag}
-use Rattle.elf_image.specs.ImageModel.{entry_model, text_model}
+use Rattle.elf_image.specs.ImageModel.{entry_model, needs_model, text_model}
 use Rattle.elf_image.specs.Names.{texts_of_symbols}
 use Rattle.elf_image.specs.Options.{first_there}
 use Rattle.elf_image.specs.Renumbering.{can_renumber}
 use Rattle.elf_image.specs.SymbolsRead.{OfRead}
+use Rattle.elf_image.specs.Versions.{VersionNeeds}
 use Rattle.elf_image.specs.Views.{NamedSymbol}
+use Rattle.elf_image.specs.declared.version.VersionNeed.{VersionNeed}
 use Rattle.elf_image_symbol_edits.specs.EditedList.{EditedList}
 use Rattle.elf_edits.specs.declared.constants.TheConstants.{STACK_FLAGS}
 use Rattle.elf_edits.specs.Edit.{all_but_last, edited_entries}
 use Rattle.elf_edits.specs.Edited.{with_load_align, with_stack_changed}
 use Rattle.elf_edits.specs.Entries.{with_tags_changed}
+use Rattle.elf_edits.specs.Symbols.{has_new_name, with_library_replaced}
 use Rattle.elf_edits.specs.Texts.{holds_nul}
 use Rattle.elf_edits.specs.declared.list.NewList.{NewList}
 use Rattle.elf_edits.specs.Edit.{Edit}
@@ -33,13 +38,21 @@ use Rattle.elf_apply.specs.declared.draft.Draft.{Draft}
 abbrev pub entries_drafted : Draft → Option (List Entry)
 entries_drafted d = option_map (λ list. map entry_model list.items) d.entries
 
+-- the needed versions of a draft
+abbrev pub needs_written : Draft → Option (List VersionNeeds)
+needs_written d = option_map (λ needs. map needs_model needs.items) d.needs
+
 -- the dynamic symbols with what was written
 abbrev pub symbols_drafted : Draft → List NamedSymbol → List NamedSymbol
 symbols_drafted d symbols = elim d.symbols [ None ↦ symbols | Some edited ↦ edited.symbols ]
 
+-- the needed versions with what was written
+abbrev pub needs_drafted : Draft → List VersionNeeds → List VersionNeeds
+needs_drafted d needs = unwrap_or (needs_written d) needs
+
 -- some part was written
 abbrev pub is_written : Draft → Bool
-is_written d = ((((is_some d.stack_flags || is_some d.page_size) || is_some d.os_abi) || is_some d.interpreter) || is_some d.entries) || is_some d.symbols
+is_written d = (((((is_some d.stack_flags || is_some d.page_size) || is_some d.os_abi) || is_some d.interpreter) || is_some d.entries) || is_some d.symbols) || is_some d.needs
 
 -- the program header of the stack with these flags, where they were written; without one, one is added last
 abbrev pub with_flags : Option ℕ → List SegmentHeader → List SegmentHeader
@@ -58,9 +71,11 @@ drafted d image = record image {
   header = record image.header { os_abi = unwrap_or d.os_abi image.header.os_abi };
   segments = with_page_size d.page_size (with_flags d.stack_flags image.segments);
   dynamic_symbols = symbols_drafted d image.dynamic_symbols;
+  needs = needs_drafted d image.needs;
   entries = first_there (entries_drafted d) image.entries;
   interpreter = first_there (text_model d.interpreter) image.interpreter;
   page_size = first_there d.page_size image.page_size;
+  moves_dynamic = image.moves_dynamic || d.moves_dynamic;
 }
 
 -- the flags of the stack, which without a program header for it are those of an added one
@@ -88,6 +103,9 @@ pub record IsDraftOf (image : Image) (d : Draft) : Type 0 where
   pub interpreter_there : IfSome (text_model d.interpreter) (λ _. IsSome image.interpreter)
   pub interpreter : IfSome (text_model d.interpreter) (λ bytes. holds_nul (all_but_last bytes) ≡ false)
   pub symbols : IfSome d.symbols (AreSymbolsFor image)
+  pub needs : IfSome (needs_written d) (AreSameNeeds image.needs)
+  pub listed : IfSome (needs_written d) (λ _. IsSome image.entries)
+  pub leave : d.moves_dynamic ≡ true → (image.changed || is_written d) ≡ true
 
 -- a draft of an image that shows another one
 pub record OnlyShows (image shown : Image) (d : Draft) : Type 0 where
@@ -106,6 +124,21 @@ with_list made d = if made.is_touched then record d { entries = Some made.entrie
 abbrev pub with_symbols : Option EditedList → Draft → Draft
 with_symbols None d = d
 with_symbols (Some made) d = record d { symbols = Some made }
+
+-- needed versions that were made, where the edit wrote something
+abbrev pub with_needs : Option (Vec VersionNeed Global) → Draft → Draft
+with_needs None d = d
+with_needs (Some made) d = record d { needs = Some made }
+
+-- The needed versions with the names that some pairs have for those of libraries, where they have one; none where they have none.
+abbrev pub AreNeedsAfter : List (List ℕ × List ℕ) → List VersionNeeds → Option (Vec VersionNeed Global) → Type 0
+AreNeedsAfter pairs old None = list_any (λ n. has_new_name pairs n.file) old ≡ false
+AreNeedsAfter pairs old (Some made) =
+    (list_any (λ n. has_new_name pairs n.file) old ≡ true) × (map needs_model made.items ≡ map (with_library_replaced pairs) old)
+
+-- the leave is given where something was changed
+abbrev pub with_leave : Image → Draft → Draft
+with_leave image d = record d { moves_dynamic = d.moves_dynamic || (image.changed || is_written d) }
 
 -- ## Putting it in place, part by part
 
@@ -131,6 +164,18 @@ with_entries_put list image = record image { changed = changed_if list image.cha
 
 abbrev pub with_symbols_put : Option EditedList → Image → Image
 with_symbols_put symbols image = record image { changed = changed_if symbols image.changed; dynamic_symbols = elim symbols [ None ↦ image.dynamic_symbols | Some edited ↦ edited.symbols ] }
+
+abbrev pub with_needs_put : Option (Vec VersionNeed Global) → Image → Image
+with_needs_put needs image = record image { changed = changed_if needs image.changed; needs = unwrap_or (option_map (λ l. map needs_model l.items) needs) image.needs }
+
+abbrev pub with_leave_put : Bool → Image → Image
+with_leave_put false image = image
+with_leave_put true image = record image { changed = true; moves_dynamic = true }
+
+-- a list is there, and the needed versions are the same, of libraries that may have other names
+pub record CanPutNeeds (image : Image) (needs : Option (Vec VersionNeed Global)) : Type 0 where
+  pub listed : IfSome needs (λ _. IsSome image.entries)
+  pub same : IfSome needs (λ l. AreSameNeeds image.needs (map needs_model l.items))
 
 -- an interpreter is there, and the bytes have a NUL last alone
 pub record CanPutInterpreter (image : Image) (bytes : Option (List ℕ)) : Type 0 where

@@ -3,19 +3,20 @@ ghost use Rattle.std.specs.Prelude.{◌≡◌, [], false, true, IfOk, IfSome, Ma
 ghost use Rattle.patch_bytes.specs.ByteString.{owned_string};
 ghost use Rattle.elf_edits.specs.Abi.{with_nul as stored_with_nul};
 ghost use Rattle.elf_edits.specs.Cause.{facts_of, first_cause};
-ghost use Rattle.elf_edits.specs.Edit.{is_of_symbols};
-ghost use Rattle.elf_edits.specs.EditModel.{edit_model};
+ghost use Rattle.elf_edits.specs.Edit.{ReplaceLibrary, is_of_more, is_of_symbols};
+ghost use Rattle.elf_edits.specs.EditModel.{edit_model, pairs_model};
 ghost use Rattle.elf_edits.specs.Edited.{touches_rest};
 ghost use Rattle.elf_image.specs.Image.{Image};
-ghost use Rattle.elf_image.specs.ImageModel.{entry_model, text_model};
+ghost use Rattle.elf_image.specs.ImageModel.{entry_model, needs_model, text_model};
 ghost use Rattle.elf_image.specs.Options.{first_there};
-ghost use Rattle.elf_apply.specs.Drafted.{AreSymbolsFor, CanPutEntries, CanPutInterpreter, IsDraftOf, ListsEntries, OnlyShows, Writes, drafted, entries_drafted, flags_now, symbols_drafted, with_entries_put, with_flags_put, with_interpreter_put, with_list, with_os_abi_put, with_page_size_put, with_symbols, with_symbols_put};
+ghost use Rattle.elf_apply.specs.Drafted.{AreSymbolsFor, CanPutEntries, CanPutInterpreter, CanPutNeeds, IsDraftOf, ListsEntries, OnlyShows, Writes, drafted, entries_drafted, flags_now, is_written, needs_drafted, symbols_drafted, with_entries_put, with_flags_put, with_interpreter_put, with_leave, with_leave_put, with_list, with_needs, with_needs_put, with_os_abi_put, with_page_size_put, with_symbols, with_symbols_put};
 
+use crate::needs::rename_files;
 use elf_edits::abi::{abi_number, with_nul};
 use elf_edits::constants::STACK_FLAGS;
 use elf_edits::{ElfEdit, NewList, edit_list, edit_symbols};
 use elf_image::constants::PF_X;
-use elf_image::{Builder, Dynamic};
+use elf_image::{Builder, Dynamic, VersionNeed};
 use elf_image_symbol_edits::EditedSymbols;
 use patch_bytes::ByteString;
 use std::alloc::{AllocError, Global};
@@ -29,6 +30,9 @@ pub(crate) struct Draft<'data> {
     stack_flags: Option<u32>,
     page_size: Option<u32>,
     symbols: Option<EditedSymbols<'data>>,
+    needs: Option<Vec<VersionNeed<'data>>>,
+    // Leave is given that the dynamic section moves.
+    moves_dynamic: bool,
 }
 
 impl<'data> Draft<'data> {
@@ -43,7 +47,29 @@ impl<'data> Draft<'data> {
             stack_flags: None,
             page_size: None,
             symbols: None,
+            needs: None,
+            moves_dynamic: false,
         }
+    }
+
+    // Whether some part was written.
+    fn is_written(&self) -> bool
+        ensures { result ≡ is_written self.now }
+    {
+        self.stack_flags.is_some()
+            || self.page_size.is_some()
+            || self.os_abi.is_some()
+            || self.interpreter.is_some()
+            || self.entries.is_some()
+            || self.symbols.is_some()
+            || self.needs.is_some()
+    }
+
+    // Notes the leave that the dynamic section moves, where something was changed.
+    fn note_leave(&mut self, builder: &Builder<'data>)
+        ensures { self.new ≡ with_leave builder.now self.old }
+    {
+        self.moves_dynamic = self.moves_dynamic || builder.changed() || self.is_written();
     }
 
     // The dynamic list with what was written; there is none without one.
@@ -85,6 +111,25 @@ impl<'data> Draft<'data> {
     {
         if let Some(made) = made {
             self.symbols = Some(made);
+        }
+    }
+
+    // The needed versions with what was written.
+    fn needs<'s>(&'s self, builder: &'s Builder<'data>) -> &'s [VersionNeed<'data>]
+        ensures { map needs_model result.now ≡ needs_drafted self.now builder.now.needs }
+    {
+        match &self.needs {
+            Some(needs) => needs.as_slice(),
+            None => builder.versions().needs.as_slice(),
+        }
+    }
+
+    // Notes the needed versions that an edit made, where the edit wrote something.
+    fn note_needs(&mut self, made: Option<Vec<VersionNeed<'data>>>)
+        ensures { self.new ≡ with_needs made.entry self.old }
+    {
+        if let Some(made) = made {
+            self.needs = Some(made);
         }
     }
 
@@ -138,6 +183,7 @@ impl<'data> Draft<'data> {
     ) -> Result<(), AllocError>
         requires list { touches_rest (edit_model edit.now) ≡ false }
         requires no_symbols { is_of_symbols (edit_model edit.now) ≡ false }
+        requires no_more { is_of_more (edit_model edit.now) ≡ false }
         requires free { first_cause (edit_model edit.now) (facts_of builder.now) ≡ none }
         requires listed { ListsEntries builder.now }
         requires draft { IsDraftOf builder.now self.old }
@@ -145,6 +191,27 @@ impl<'data> Draft<'data> {
     {
         let made = edit_list(alloc, edit, self.list(builder))?;
         self.note_list(made);
+        Ok(())
+    }
+
+    // Writes what an edit that replaces libraries makes of the dynamic list and of the needed versions.
+    fn write_library(
+        &mut self,
+        alloc: Global,
+        builder: &Builder<'data>,
+        edit: &ElfEdit,
+        pairs: &[(Vec<u8>, Vec<u8>)],
+    ) -> Result<(), AllocError>
+        requires edit { edit_model edit.now ≡ ReplaceLibrary (pairs_model pairs.now) }
+        requires free { first_cause (edit_model edit.now) (facts_of builder.now) ≡ none }
+        requires listed { ListsEntries builder.now }
+        requires draft { IsDraftOf builder.now self.old }
+        ensures { IfOk result (λ _. Writes (edit_model edit.now) builder.now self.old self.new) }
+    {
+        let made = edit_list(alloc, edit, self.list(&*builder))?;
+        let needs = rename_files(alloc, pairs, self.needs(&*builder))?;
+        self.note_list(made);
+        self.note_needs(needs);
         Ok(())
     }
 
@@ -182,6 +249,13 @@ impl<'data> Draft<'data> {
             }
             ElfEdit::RenameDynamicSymbols(_) => self.write_symbols(alloc, builder, edit),
             ElfEdit::ClearSymbolVersion(_) => self.write_symbols(alloc, builder, edit),
+            ElfEdit::ReplaceLibrary(pairs) => {
+                self.write_library(alloc, builder, edit, pairs.as_slice())
+            }
+            ElfEdit::AllowDynamicMove => {
+                self.note_leave(builder);
+                Ok(())
+            }
             edit_of_list => self.write_list(alloc, builder, edit_of_list),
         }
     }
@@ -204,6 +278,8 @@ impl<'data> Draft<'data> {
             stack_flags,
             page_size,
             symbols,
+            needs,
+            moves_dynamic,
         } = self;
         put_stack_flags(alloc, builder, stack_flags)?;
         put_page_size(builder, page_size);
@@ -211,6 +287,8 @@ impl<'data> Draft<'data> {
         put_interpreter(builder, interpreter);
         put_entries(builder, entries);
         put_symbols(builder, symbols);
+        put_needs(builder, needs);
+        put_leave(builder, moves_dynamic);
         Ok(())
     }
 }
@@ -285,5 +363,22 @@ fn put_symbols<'data>(builder: &mut Builder<'data>, symbols: Option<EditedSymbol
     let _source = builder.source();
     if let Some(symbols) = symbols {
         builder.put_dynamic_symbols(symbols);
+    }
+}
+
+fn put_needs<'data>(builder: &mut Builder<'data>, needs: Option<Vec<VersionNeed<'data>>>)
+    requires { CanPutNeeds builder.old needs }
+    ensures { builder.new ≡ with_needs_put needs.entry builder.old }
+{
+    if let Some(needs) = needs {
+        builder.set_needs(needs);
+    }
+}
+
+fn put_leave(builder: &mut Builder<'_>, is_given: bool)
+    ensures { builder.new ≡ with_leave_put is_given builder.old }
+{
+    if is_given {
+        builder.allow_dynamic_move();
     }
 }

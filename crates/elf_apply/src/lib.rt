@@ -6,6 +6,7 @@ pub mod batch;
 mod draft;
 pub mod error;
 pub mod ext;
+mod needs;
 mod refusals;
 pub mod steps;
 pub mod symbols;
