@@ -1,7 +1,7 @@
 //! The edits of a file's image.
 ghost use Rattle.std.specs.Prelude.{◌≡◌, [], IfOk, IsOk, OnErr, map, true};
 ghost use Rattle.std.specs.HashSet.{keys};
-ghost use Rattle.elf_edits.specs.Edit.{AddDebugEntry, AddNeeded, AddRunPath, ClearExecStack, ClearSymbolVersion, DeleteNeeded, DeleteRunPath, NoDefaultLibrary, RenameDynamicSymbols, ReplaceNeeded, SetExecStack, SetInterpreter, SetOsAbi, SetPageSize, SetRunPath, SetSoname, UseRpath, UseRunpath};
+ghost use Rattle.elf_edits.specs.Edit.{AddDebugEntry, AddNeeded, AddRunPath, ClearExecStack, ClearSymbolVersion, DeleteNeeded, DeleteRunPath, NoDefaultLibrary, RenameDynamicSymbols, ReplaceLibrary, ReplaceNeeded, SetExecStack, SetInterpreter, SetOsAbi, SetPageSize, SetRunPath, SetSoname, UseRpath, UseRunpath};
 ghost use Rattle.elf_edits.specs.EditModel.{edit_model, pairs_model, texts_model};
 ghost use Rattle.elf_edits_shrink.specs.Questions.{shrink_questions as all_questions};
 ghost use Rattle.elf_edits_shrink.specs.ShrinkModel.{pair_lent};
@@ -169,6 +169,20 @@ impl<'data> Writer<'data> {
     {
         let pairs = copy_map(alloc, names)?;
         self.edit(alloc, ElfEdit::ReplaceNeeded(pairs))
+    }
+
+    /// Replaces libraries that are keys by their values, all at once: in the texts of DT_NEEDED, and wherever versions are
+    /// needed of them (GNU symbol versioning, `Elfxx_Verneed`).
+    pub fn elf_replace_library(
+        &mut self,
+        alloc: Global,
+        names: &HashMap<Vec<u8>, Vec<u8>>,
+    ) -> Result<(), ElfError>
+        ensures { TakesEdit (ReplaceLibrary (pairs_model names.now.entries))
+            self.old self.new result }
+    {
+        let pairs = copy_map(alloc, names)?;
+        self.edit(alloc, ElfEdit::ReplaceLibrary(pairs))
     }
 
     /// Puts the names that no DT_NEEDED has before all entries, in order and with repeats.

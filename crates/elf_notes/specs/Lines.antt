@@ -15,7 +15,7 @@ line_of file before name behind = codes "note: " ++ file ++ codes ": " ++ before
 
 abbrev pub old_need_line : Words → Name → Words
 old_need_line file name =
-    line_of file (codes "versions are needed of ") name (codes ", and no entry needs it any more: glibc refuses to load this")
+    line_of file (codes "versions are needed of ") name (codes ", and no entry needs it any more: glibc refuses to load this (replace-library renames both)")
 
 abbrev pub unmatched_line : Words → Name → Words
 unmatched_line file name = line_of file (codes "no entry needs ") name []

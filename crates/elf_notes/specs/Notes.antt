@@ -2,7 +2,7 @@
 use Rattle.std.specs.Prelude.{ℕ, ◌≡◌, ◌==◌, ◌&&◌, ◌||◌, List, [], ◌∷◌, Bool, true, false, not, drop, map, filter, is_none, take, bit_and, nat_eq, unwrap_or}
 use Rattle.std.specs.List.{flat_map, list_any, starts_with}
 use Rattle.elf_edits.specs.Batch.{left_by, run}
-use Rattle.elf_edits.specs.Edit.{AddNeeded, AddRunPath, ClearSymbolVersion, DeleteNeeded, Edit, RenameDynamicSymbols, ReplaceNeeded, SetRunPath}
+use Rattle.elf_edits.specs.Edit.{AddNeeded, AddRunPath, ClearSymbolVersion, DeleteNeeded, Edit, RenameDynamicSymbols, ReplaceLibrary, ReplaceNeeded, SetRunPath}
 use Rattle.elf_edits.specs.Entries.{needed_names}
 use Rattle.elf_edits.specs.Symbols.{names_behind_first}
 use Rattle.elf_edits.specs.Texts.{has_some, is_among}
@@ -43,12 +43,14 @@ versioned_of image = map (λ n. n.file) (written_needs (image_at_read image) ima
 abbrev pub asked_by : Edit → List Name
 asked_by (DeleteNeeded names) = names
 asked_by (ReplaceNeeded pairs) = map (λ pair. pair.0) pairs
+asked_by (ReplaceLibrary pairs) = map (λ pair. pair.0) pairs
 asked_by _ = []
 
 -- the names that it may put among them
 abbrev pub put_by : Edit → List Name
 put_by (AddNeeded names) = names
 put_by (ReplaceNeeded pairs) = map (λ pair. pair.1) pairs
+put_by (ReplaceLibrary pairs) = map (λ pair. pair.1) pairs
 put_by _ = []
 
 abbrev pub asked : List Edit → List Name
@@ -78,6 +80,7 @@ symbols_put edits = flat_map symbols_put_by edits
 abbrev pub has_no_names : Edit → Bool
 has_no_names (DeleteNeeded names) = not (has_some names)
 has_no_names (ReplaceNeeded pairs) = not (has_some pairs)
+has_no_names (ReplaceLibrary pairs) = not (has_some pairs)
 has_no_names (AddNeeded names) = not (has_some names)
 has_no_names _ = false
 

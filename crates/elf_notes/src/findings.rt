@@ -147,6 +147,7 @@ fn is_without_names(edit: &ElfEdit) -> bool
     match edit {
         ElfEdit::AddNeeded(names) => names.is_empty(),
         ElfEdit::RemoveNeeded(names) => names.is_empty(),
+        ElfEdit::ReplaceLibrary(pairs) => pairs.is_empty(),
         ElfEdit::ReplaceNeeded(pairs) => pairs.is_empty(),
         _ => false,
     }

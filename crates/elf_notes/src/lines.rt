@@ -103,7 +103,8 @@ fn put_old_needs(
         ++ flat_map (old_need_line file.now) (map (λ n. n.now) names.now)) }
 {
     for name in names {
-        let behind = ", and no entry needs it any more: glibc refuses to load this";
+        let behind =
+            ", and no entry needs it any more: glibc refuses to load this (replace-library renames both)";
         put_line(alloc, text, file, ("versions are needed of ", name, behind))?;
     }
     Ok(())

@@ -57,6 +57,7 @@ fn push_asked<'e>(names: &mut Vec<&'e [u8]>, edit: &'e ElfEdit) -> Result<(), Al
 {
     match edit {
         ElfEdit::RemoveNeeded(texts) => push_texts(names, texts.as_slice()),
+        ElfEdit::ReplaceLibrary(pairs) => push_old(names, pairs.as_slice()),
         ElfEdit::ReplaceNeeded(pairs) => push_old(names, pairs.as_slice()),
         _ => Ok(()),
     }
@@ -81,6 +82,7 @@ fn push_put<'e>(names: &mut Vec<&'e [u8]>, edit: &'e ElfEdit) -> Result<(), Allo
 {
     match edit {
         ElfEdit::AddNeeded(texts) => push_texts(names, texts.as_slice()),
+        ElfEdit::ReplaceLibrary(pairs) => push_new(names, pairs.as_slice()),
         ElfEdit::ReplaceNeeded(pairs) => push_new(names, pairs.as_slice()),
         _ => Ok(()),
     }

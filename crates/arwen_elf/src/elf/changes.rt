@@ -1,6 +1,6 @@
 //! The edits of an ELF file, by the names of the program's commands.
 ghost use Rattle.std.specs.Prelude.{◌≡◌, ◌∷◌, [], IfOk, IsOk, true};
-ghost use Rattle.elf_edits.specs.Edit.{AddDebugEntry, AddNeeded, AddRunPath, ClearExecStack, ClearSymbolVersion, DeleteNeeded, DeleteRunPath, NoDefaultLibrary, RenameDynamicSymbols, ReplaceNeeded, SetExecStack, SetInterpreter, SetOsAbi, SetPageSize, SetRunPath, SetSoname, UseRpath};
+ghost use Rattle.elf_edits.specs.Edit.{AddDebugEntry, AddNeeded, AddRunPath, ClearExecStack, ClearSymbolVersion, DeleteNeeded, DeleteRunPath, NoDefaultLibrary, RenameDynamicSymbols, ReplaceLibrary, ReplaceNeeded, SetExecStack, SetInterpreter, SetOsAbi, SetPageSize, SetRunPath, SetSoname, UseRpath};
 ghost use Rattle.elf_edits.specs.EditModel.{pairs_model, texts_model};
 ghost use Rattle.elf_apply.specs.Taken.{RemovedAre, edits_model, shrink_model};
 ghost use Rattle.elf_symbol_edits.specs.EditModel.{edit_model as symbol_edit_model};
@@ -130,6 +130,18 @@ impl<'a> ElfContainer<'a> {
             self.old self.new result }
     {
         self.inner.elf_replace_needed(alloc, names)
+    }
+
+    /// Replaces libraries that are keys by their values, all at once, also where versions are needed of them.
+    pub fn replace_library(
+        &mut self,
+        alloc: Global,
+        names: &HashMap<Vec<u8>, Vec<u8>>,
+    ) -> Result<()>
+        ensures { EditTaken (ReplaceLibrary (pairs_model names.now.entries))
+            self.old self.new result }
+    {
+        self.inner.elf_replace_library(alloc, names)
     }
 
     /// Gives the dynamic symbols but the first whose names are keys the keys' values, all at once.
