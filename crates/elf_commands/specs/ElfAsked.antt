@@ -1,11 +1,11 @@
 -- What a command for ELF files asks of the bytes of its file.
-use Rattle.std.specs.Prelude.{Bool, true, false, List, Result, Ok, Err}
-use Rattle.elf_edits.specs.Edit.{Answer, Edit, ShrinkRunPath}
+use Rattle.std.specs.Prelude.{Bool, true, false, List, [], ◌∷◌, ◌++◌, Result, Ok, Err}
+use Rattle.elf_edits.specs.Edit.{AllowDynamicMove, Answer, Edit, ShrinkRunPath}
 use Rattle.elf_symbol_edits.specs.SymbolEdit.{SymbolEdit}
 use Rattle.elf_commands_groups.specs.Groups.{GroupEdit, has_symbols, plain, plain_of, symbols}
 use Rattle.elf_commands.specs.ElfWords.{elf_edits_of}
 use Rattle.command_words.specs.Rows.{Text}
-use Rattle.elf_commands.specs.Meaning.{ElfMeaning, apply_elf, edit_elf, shrink_elf, symbols_elf}
+use Rattle.elf_commands.specs.Meaning.{ElfMeaning, apply_elf, apply_moving_elf, edit_elf, shrink_elf, symbols_elf}
 use Rattle.command_words.specs.declared.edits.EditFault.{EditFault}
 
 -- One edit, those of a batch that words name, that the run path shrinks with these prefixes, an edit of symbols or sections, edits of both
@@ -32,9 +32,15 @@ abbrev pub asked_of_words : Result (List GroupEdit) EditFault → ElfAsked
 asked_of_words (Ok edits) = asked_of_edits (has_symbols edits) edits
 asked_of_words (Err fault) = several (Err fault)
 
+-- edits that words name, with leave behind them that the dynamic section moves
+abbrev pub with_leave : Result (List GroupEdit) EditFault → Result (List GroupEdit) EditFault
+with_leave (Ok edits) = Ok (edits ++ plain AllowDynamicMove ∷ [])
+with_leave (Err fault) = Err fault
+
 abbrev pub elf_asked : ElfMeaning → ElfAsked
 elf_asked (edit_elf edit path) = one edit
 elf_asked (apply_elf path words) = asked_of_words (elf_edits_of words)
+elf_asked (apply_moving_elf path words) = asked_of_words (with_leave (elf_edits_of words))
 elf_asked (shrink_elf path prefixes) = shrinking prefixes
 elf_asked (symbols_elf edit path) = of_symbols edit
 elf_asked _ = printing

@@ -2,21 +2,25 @@
 use Rattle.std.specs.Prelude.{ℕ, ◌∷◌, [], List, Option, Some, None, Result, Ok, Err, codes, false, map, true}
 use Rattle.std.specs.Prelude.{string_bytes}
 use Rattle.elf_edits.specs.Edit.{Edit, AddDebugEntry, AddNeeded, AddRunPath, ClearExecStack, ClearSymbolVersion, DeleteNeeded}
-use Rattle.elf_edits.specs.Edit.{DeleteRunPath, NoDefaultLibrary, RenameDynamicSymbols, ReplaceNeeded, SetExecStack}
+use Rattle.elf_edits.specs.Edit.{DeleteRunPath, NoDefaultLibrary, RenameDynamicSymbols, ReplaceLibrary, ReplaceNeeded, SetExecStack}
 use Rattle.elf_edits.specs.Edit.{SetInterpreter, SetOsAbi, SetPageSize, SetRunPath, SetSoname, UseRpath}
 use Rattle.elf_symbol_edits.specs.SymbolEdit.{DeleteAllSymbols, DeleteSections, RenameAllSymbols, RenameSections, SymbolEdit}
 use Rattle.command_words.specs.Groups.{Wrong}
 use Rattle.command_words.specs.KeyValue.{decimal_number}
-use Rattle.command_words.specs.Rows.{Asks, Line, Text, by_options, by_path, by_text, by_words}
+use Rattle.command_words.specs.Rows.{Asks, Given, Line, Text, by_options, by_path, by_text, by_words, options, path, text, texts, words}
+use Rattle.std.specs.Prelude.{if◌then◌else◌}
+use Rattle.std.specs.Str.{bytes_eq}
+use Rattle.std.specs.Option.{option_map}
 use Rattle.command_words.specs.WordValues.{no_number, text_pair_model, pairs_from}
 use Rattle.elf_commands.specs.declared.command.ElfCommand.{ElfCommand}
 use Rattle.elf_commands.specs.declared.command.ElfCommand.TheVariants as elf
 
--- what is asked of the ELF file at a path: an edit, or the edits that words name, or that its run path shrinks, with the
--- prefixes that are allowed, or an edit of symbols or sections, or something to print
+-- what is asked of the ELF file at a path: an edit, or the edits that words name, perhaps with leave that the dynamic section moves, or
+-- that its run path shrinks, with the prefixes that are allowed, or an edit of symbols or sections, or something to print
 pub data ElfMeaning : Type 0 where
   edit_elf : Edit → Text → ElfMeaning
   apply_elf : Text → List Text → ElfMeaning
+  apply_moving_elf : Text → List Text → ElfMeaning
   shrink_elf : Text → List Text → ElfMeaning
   symbols_elf : SymbolEdit → Text → ElfMeaning
   print_rpath : Text → ElfMeaning
@@ -96,6 +100,7 @@ elf_lines = edit_line (codes "add-debug-tag") (by_none AddDebugEntry)
     ∷ edit_line (codes "add-needed") (by_many AddNeeded)
     ∷ edit_line (codes "remove-needed") (by_many DeleteNeeded)
     ∷ edit_line (codes "replace-needed") (by_pairs ReplaceNeeded)
+    ∷ edit_line (codes "replace-library") (by_pairs ReplaceLibrary)
     ∷ edit_line (codes "rename-dynamic-symbols") (by_pairs RenameDynamicSymbols)
     ∷ other_line (codes "apply") (by_words (λ path words. Ok (apply_elf path words)))
     ∷ other_line (codes "shrink-rpath")
@@ -111,6 +116,25 @@ elf_lines = edit_line (codes "add-debug-tag") (by_none AddDebugEntry)
     ∷ print_line (codes "print-os-abi") print_os_abi
     ∷ print_line (codes "print-exec-stack") print_exec_stack
     ∷ []
+
+-- ---- with leave that the dynamic section moves
+
+-- the file of an edit, and the words of that edit in `apply`
+abbrev pub group_of : Text → Given → Option (Text × List Text)
+group_of name (path file) = Some (file, name ∷ [])
+group_of name (text value file) = Some (file, name ∷ value ∷ [])
+group_of name (texts first second file) = None
+group_of name (words file list) = Some (file, name ∷ list)
+group_of name (options file list) = None
+
+-- the file and the words of `apply` itself
+abbrev pub groups_of : Text → Given → Option (Text × List Text)
+groups_of name (words file list) = if bytes_eq name (codes "apply") then Some (file, list) else group_of name (words file list)
+groups_of name given = group_of name given
+
+-- what a command asks for with its values and the leave: what `apply` does with it; none of one that `apply` has no words for
+abbrev pub meant_moving : Text → Given → Option ElfMeaning
+meant_moving name given = option_map (λ asked. apply_moving_elf asked.0 asked.1) (groups_of name given)
 
 -- ---- what a value of the program stands for
 
@@ -141,10 +165,14 @@ elf_command_model (elf.RemoveNeeded args) =
     edit_elf (DeleteNeeded (map string_bytes args.dt_needed.items)) (string_bytes args.path_to_binary)
 elf_command_model (elf.ReplaceNeeded args) =
     edit_elf (ReplaceNeeded (map text_pair_model args.dt_needed.items)) (string_bytes args.path_to_binary)
+elf_command_model (elf.ReplaceLibrary args) =
+    edit_elf (ReplaceLibrary (map text_pair_model args.libraries.items)) (string_bytes args.path_to_binary)
 elf_command_model (elf.RenameDynamicSymbols args) =
     edit_elf (RenameDynamicSymbols (map text_pair_model args.rename_symbols.items)) (string_bytes args.path_to_binary)
 elf_command_model (elf.Apply args) =
     apply_elf (string_bytes args.path_to_binary) (map string_bytes args.edits.items)
+elf_command_model (elf.ApplyMoving args) =
+    apply_moving_elf (string_bytes args.path_to_binary) (map string_bytes args.edits.items)
 elf_command_model (elf.ShrinkRpath args) =
     shrink_elf (string_bytes args.path_to_binary) (map string_bytes args.allowed_rpath_prefixes.items)
 elf_command_model (elf.RenameSymbols args) =
@@ -170,6 +198,7 @@ reading_of command = Ok (elf_command_model command)
 abbrev pub elf_file_of : ElfMeaning → Text
 elf_file_of (edit_elf asked path) = path
 elf_file_of (apply_elf path words) = path
+elf_file_of (apply_moving_elf path words) = path
 elf_file_of (shrink_elf path prefixes) = path
 elf_file_of (symbols_elf edit path) = path
 elf_file_of (print_rpath path) = path

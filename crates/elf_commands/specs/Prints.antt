@@ -11,13 +11,14 @@ use Rattle.elf_format.specs.declared.fault.ElfFault.{ElfFault}
 use Rattle.arwen_elf.specs.Counted.{Stops}
 use Rattle.elf_commands.specs.declared.error.ElfCommandError.{ElfCommandError}
 use Rattle.elf_commands.specs.declared.error.ElfCommandError.TheVariants.{Elf, Io, Memory}
-use Rattle.elf_commands.specs.Meaning.{ElfMeaning, apply_elf, edit_elf, print_exec_stack, print_interpreter, print_needed}
+use Rattle.elf_commands.specs.Meaning.{ElfMeaning, apply_elf, apply_moving_elf, edit_elf, print_exec_stack, print_interpreter, print_needed}
 use Rattle.elf_commands.specs.Meaning.{print_os_abi, print_rpath, print_soname, shrink_elf, symbols_elf}
 
 -- the bytes that a command prints of what a file shows; an edit prints nothing
 abbrev pub printed : ElfMeaning → View → List ℕ
 printed (edit_elf edit path) view = []
 printed (apply_elf path words) view = []
+printed (apply_moving_elf path words) view = []
 printed (shrink_elf path prefixes) view = []
 printed (symbols_elf edit path) view = []
 printed (print_rpath path) view = printed_runpath view

@@ -1,7 +1,7 @@
 //! The edits that a command asks for.
 ghost use Rattle.std.specs.Prelude.{◌≡◌, ◌∷◌, [], Ok, IfErr, IfOk, map, string_bytes};
 ghost use Rattle.elf_commands_groups.specs.Groups.{group_model};
-ghost use Rattle.elf_commands.specs.ElfAsked.{asked_of_one, asked_of_words, elf_asked};
+ghost use Rattle.elf_commands.specs.ElfAsked.{asked_of_one, asked_of_words, elf_asked, with_leave};
 ghost use Rattle.elf_commands.specs.ElfEngine.{AreAsked, AreAskedIf, TellsEachFile};
 ghost use Rattle.elf_commands.specs.ElfWords.{elf_edits_of};
 ghost use Rattle.elf_commands.specs.Meaning.{elf_command_model};
@@ -33,6 +33,9 @@ pub(crate) fn asked_by(alloc: Global, command: &ElfCommand) -> Result<AskedEdits
     if let ElfCommand::Apply(args) = command {
         return asked_by_words(alloc, args.edits.as_slice());
     }
+    if let ElfCommand::ApplyMoving(args) = command {
+        return asked_with_leave(alloc, args.edits.as_slice());
+    }
     match command.group_edit(alloc)? {
         Some(edit) => Ok(one_edit(alloc, edit)?),
         None => Ok(AskedEdits::Nothing),
@@ -48,6 +51,19 @@ fn asked_by_words(alloc: Global, words: &[String]) -> Result<AskedEdits, ElfComm
 {
     let words = words_of(alloc, words)?;
     let edits = parse_elf_edits(alloc, words.as_slice())?;
+    Ok(batch_or_in_turn(alloc, edits)?)
+}
+
+/// The edits that words name, with leave behind them that the dynamic section moves.
+fn asked_with_leave(alloc: Global, words: &[String]) -> Result<AskedEdits, ElfCommandError>
+    ensures ok { IfOk result
+        (AreAsked (asked_of_words (with_leave (elf_edits_of (map string_bytes words.now))))) }
+    ensures err { IfErr result
+        (TellsEachFile (asked_of_words (with_leave (elf_edits_of (map string_bytes words.now))))) }
+{
+    let words = words_of(alloc, words)?;
+    let mut edits = parse_elf_edits(alloc, words.as_slice())?;
+    edits.push(GroupEdit::Plain(ElfEdit::AllowDynamicMove))?;
     Ok(batch_or_in_turn(alloc, edits)?)
 }
 

@@ -1,14 +1,14 @@
 //! What is asked of an ELF file, with its values, and the rows of the commands, as help shows them.
-ghost use Rattle.std.specs.Prelude.{◌≡◌, map};
+ghost use Rattle.std.specs.Prelude.{◌≡◌, ◌∷◌, [], IfOk, Some, map, option_map, string_bytes};
 ghost use Rattle.command_words.specs.Rows.{named_of, row_model};
-ghost use Rattle.elf_commands.specs.Meaning.{elf_lines};
+ghost use Rattle.elf_commands.specs.Meaning.{apply_moving_elf, elf_command_model, elf_lines};
 
 use crate::elf::{
     add_debug_tag, add_needed, add_rpath, apply, clear_execstack, clear_version_symbol,
     delete_sections, delete_symbols, force_rpath, no_default_lib, path_alone, print_execstack,
     print_interpreter, print_needed, print_os_abi, print_rpath, print_soname, remove_needed,
-    remove_rpath, rename_dynamic_symbols, rename_sections, rename_symbols, replace_needed,
-    set_execstack, set_interpreter, set_os_abi, set_page_size, set_rpath, set_soname, shrink_rpath,
+    remove_rpath, rename_dynamic_symbols, rename_sections, rename_symbols, replace_library,
+    replace_needed, set_execstack, set_interpreter, set_os_abi, set_page_size, set_rpath, set_soname, shrink_rpath,
 };
 use command_words::{
     Row, Value, ValueError, ValueForm, ValueOption, Values, copied, number_of, pairs_of,
@@ -53,10 +53,14 @@ pub enum ElfCommand {
     RemoveNeeded(remove_needed::Args),
     /// Replace needed libraries, all at once.
     ReplaceNeeded(replace_needed::Args),
+    /// Replace libraries with the versions that are needed of them, all at once.
+    ReplaceLibrary(replace_library::Args),
     /// Rename dynamic symbols, all at once.
     RenameDynamicSymbols(rename_dynamic_symbols::Args),
     /// Several of these edits, all or none.
     Apply(apply::Args),
+    /// The same, with leave that the dynamic section moves where it has no room.
+    ApplyMoving(apply::Args),
     /// Leave directories out of the run path.
     ShrinkRpath(shrink_rpath::Args),
     /// Rename symbols, all at once.
@@ -86,7 +90,7 @@ impl ElfCommand {
     ghost use Rattle.elf_edits.specs.EditModel.{edit_model};
     ghost use Rattle.elf_commands.specs.ElfAsked.{elf_asked, is_printing};
     ghost use Rattle.elf_commands.specs.ElfWords.{elf_edit_asked, group_edit_asked, symbols_asked};
-    ghost use Rattle.elf_commands.specs.Meaning.{elf_file_of, elf_lines, elf_command_model, reading_of};
+    ghost use Rattle.elf_commands.specs.Meaning.{elf_file_of, elf_lines, elf_command_model, meant_moving, reading_of};
     ghost use Rattle.elf_commands_groups.specs.Groups.{group_model};
     ghost use Rattle.elf_commands_groups.specs.SymbolTexts.{symbol_texts_model};
     ghost use Rattle.command_words.specs.Rows.{given_model, meant_with, options, path, text, words as words_given};
@@ -207,6 +211,10 @@ impl ElfCommand {
                 path_to_binary,
                 dt_needed: pairs_of(alloc, words.as_slice())?,
             }),
+            replace_library::NAME => ElfCommand::ReplaceLibrary(replace_library::Args {
+                path_to_binary,
+                libraries: pairs_of(alloc, words.as_slice())?,
+            }),
             rename_dynamic_symbols::NAME => {
                 ElfCommand::RenameDynamicSymbols(rename_dynamic_symbols::Args {
                     path_to_binary,
@@ -248,6 +256,31 @@ impl ElfCommand {
                 allowed_rpath_prefixes: values,
             })),
             _ => None,
+        }
+    }
+
+    /// What a command of a name asks for with its values, as `apply` does it, with leave that the dynamic section moves where
+    /// it has no room; `None` where `apply` has no words for it. Error: `AllocError`.
+    pub fn with_leave(
+        alloc: Global,
+        name: &str,
+        values: Values,
+    ) -> Result<Option<ElfCommand>, AllocError>
+        ensures { IfOk result (λ command. option_map elf_command_model command
+            ≡ meant_moving name.now (given_model values)) }
+    {
+        match values {
+            Values::Path(file) => moving(alloc, name, file, Vec::new(alloc)),
+            Values::Text(value, file) => moving_with(alloc, name, file, value),
+            Values::Words(file, words) => if name == apply::NAME {
+                Ok(Some(ElfCommand::ApplyMoving(apply::Args {
+                    path_to_binary: file,
+                    edits: words,
+                })))
+            } else {
+                moving(alloc, name, file, words)
+            },
+            _ => Ok(None),
         }
     }
 
@@ -299,6 +332,9 @@ impl ElfCommand {
             }
             ElfCommand::ReplaceNeeded(args) => {
                 ElfEdit::ReplaceNeeded(pairs_copied(alloc, args.dt_needed.as_slice())?)
+            }
+            ElfCommand::ReplaceLibrary(args) => {
+                ElfEdit::ReplaceLibrary(pairs_copied(alloc, args.libraries.as_slice())?)
             }
             ElfCommand::RenameDynamicSymbols(args) => {
                 ElfEdit::RenameDynamicSymbols(pairs_copied(alloc, args.rename_symbols.as_slice())?)
@@ -365,8 +401,10 @@ impl ElfCommand {
             ElfCommand::AddNeeded(args) => args.path_to_binary.as_str(),
             ElfCommand::RemoveNeeded(args) => args.path_to_binary.as_str(),
             ElfCommand::ReplaceNeeded(args) => args.path_to_binary.as_str(),
+            ElfCommand::ReplaceLibrary(args) => args.path_to_binary.as_str(),
             ElfCommand::RenameDynamicSymbols(args) => args.path_to_binary.as_str(),
             ElfCommand::Apply(args) => args.path_to_binary.as_str(),
+            ElfCommand::ApplyMoving(args) => args.path_to_binary.as_str(),
             ElfCommand::ShrinkRpath(args) => args.path_to_binary.as_str(),
             ElfCommand::RenameSymbols(args) => args.path_to_binary.as_str(),
             ElfCommand::DeleteSymbols(args) => args.path_to_binary.as_str(),
@@ -380,6 +418,41 @@ impl ElfCommand {
             ElfCommand::PrintExecStack(args) => args.path_to_binary.as_str(),
         }
     }
+}
+
+/// An edit, by its name and the words behind it, with leave that the dynamic section moves.
+fn moving(
+    alloc: Global,
+    name: &str,
+    path_to_binary: String,
+    mut words: Vec<String>,
+) -> Result<Option<ElfCommand>, AllocError>
+    ensures { IfOk result (λ command. option_map elf_command_model command
+        ≡ Some (apply_moving_elf (string_bytes path_to_binary)
+        (name.now ∷ map string_bytes words.items))) }
+{
+    let name = String::from_str(alloc, name)?;
+    words.insert(0, name)?;
+    Ok(Some(ElfCommand::ApplyMoving(apply::Args {
+        path_to_binary,
+        edits: words,
+    })))
+}
+
+/// The same of one word behind the name.
+fn moving_with(
+    alloc: Global,
+    name: &str,
+    path_to_binary: String,
+    value: String,
+) -> Result<Option<ElfCommand>, AllocError>
+    ensures { IfOk result (λ command. option_map elf_command_model command
+        ≡ Some (apply_moving_elf (string_bytes path_to_binary)
+        (name.now ∷ string_bytes value ∷ []))) }
+{
+    let mut words = Vec::new(alloc);
+    words.push(value)?;
+    moving(alloc, name, path_to_binary, words)
 }
 
 /// What help says of `apply` of edits of an ELF file below its values.
@@ -400,6 +473,7 @@ const ELF_EDITS: &str = "Edits:
   add-needed [NEW]...
   remove-needed [OLD]...
   replace-needed [OLD=NEW]...
+  replace-library [OLD=NEW]...
   rename-dynamic-symbols [OLD=NEW]...
   rename-symbols [OLD=NEW]...
   delete-symbols [NAME]...
@@ -411,7 +485,7 @@ Example:
 ";
 
 /// The commands for ELF files.
-pub static ELF_ROWS: [Row; 29] = [
+pub static ELF_ROWS: [Row; 30] = [
     Row {
         name: add_debug_tag::NAME,
         about: "Add an entry for a debugger",
@@ -547,6 +621,16 @@ pub static ELF_ROWS: [Row; 29] = [
     Row {
         name: replace_needed::NAME,
         about: "Replace needed libraries, all at once",
+        form: ValueForm::Words(Value {
+            name: "OLD=NEW",
+            help: "Pairs of an old and a new name",
+        }),
+        is_edit: true,
+        more: "",
+    },
+    Row {
+        name: replace_library::NAME,
+        about: "Replace libraries with the versions needed of them, all at once",
         form: ValueForm::Words(Value {
             name: "OLD=NEW",
             help: "Pairs of an old and a new name",

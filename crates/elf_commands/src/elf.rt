@@ -414,6 +414,31 @@ pub mod replace_needed {
     }
 }
 
+/// `replace-library`: replaces needed libraries, all at once, with the versions that are needed of them (gABI, Dynamic Section,
+/// DT_NEEDED; GNU symbol versioning, `Elfxx_Verneed`, `vn_file`).
+pub mod replace_library {
+    use super::{ElfCommand, ElfCommandError, Files, edit_file};
+
+    /// The word that names the command.
+    pub const NAME: &str = "replace-library";
+
+    /// The values of the command.
+    #[derive(Debug, Drop)]
+    pub struct Args {
+        /// Path to the file to change.
+        pub path_to_binary: String,
+        /// Pairs of an old and a new name; of a repeated old name the last pair counts.
+        pub libraries: Vec<(String, String)>,
+    }
+
+    /// Edits the file.
+    pub fn execute<R: Files + AllocGlobal>(rt: &R, args: Args) -> Result<(), ElfCommandError>
+        ensures { IfErr result (ElfMayFail (elf_command_model (ElfCommand.ReplaceLibrary args))) }
+    {
+        edit_file(rt, ElfCommand::ReplaceLibrary(args))
+    }
+}
+
 /// `rename-dynamic-symbols`: gives dynamic symbols other names, all at once (gABI, Symbol Table, st_name).
 pub mod rename_dynamic_symbols {
     use super::{ElfCommand, ElfCommandError, Files, edit_file};

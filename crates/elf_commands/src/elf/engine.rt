@@ -197,7 +197,7 @@ pub(crate) fn refusal(command: &ElfCommand, error: ElfBatchError) -> ElfCommandE
     ensures { result ≡ elf_refusal (elf_asked (elf_command_model command.now)) error }
 {
     match command {
-        ElfCommand::Apply(_) => ElfCommandError::from(error),
+        ElfCommand::Apply(_) | ElfCommand::ApplyMoving(_) => ElfCommandError::from(error),
         _ => ElfCommandError::from(error.fault),
     }
 }
