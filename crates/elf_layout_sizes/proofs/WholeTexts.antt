@@ -1,5 +1,5 @@
 -- No text of an image has a NUL.
-use Rattle.std.proofs.Common.{◌≡◌, ℕ, List, [], ◌∷◌, ◌++◌, Bool, true, false, Option, Some, None, suc, length, map, refl, sym, subst}
+use Rattle.std.proofs.Common.{◌≡◌, ℕ, List, [], ◌∷◌, ◌++◌, Bool, true, false, Option, Some, None, suc, length, map, inl, inr, refl, sym, ap, subst}
 use Rattle.std.specs.Prelude.{filter, not, IsTrue, ◌==◌, if◌then◌else◌}
 use Rattle.std.specs.List.{AllByRecursion, slice_get}
 use Rattle.std.specs.Option.{option_map}
@@ -17,7 +17,7 @@ use Rattle.elf_format.specs.Options.{each, is_one_of, is_some_and, list_at}
 use Rattle.elf_format.specs.Rules.{definition_steps, file_of, linked_texts, need_steps}
 use Rattle.elf_format.specs.Versions.{DefinitionNumbers, NeedNumbers, VersionDefinition, VersionName, VersionNeeds, shown_definition, shown_need, shown_need_name, values_of}
 use Rattle.elf_image.specs.DynamicList.{IsListed}
-use Rattle.elf_image.specs.Edited.{AreEntriesOf, IsEdited, IsEditOf, IsName}
+use Rattle.elf_image.specs.Edited.{AreEntriesOf, AreSameNeeds, IsEdited, IsEditOf, IsName, IsSameNeed}
 use Rattle.elf_image.proofs.ForCallers.EditedLaws.{text_whole}
 use Rattle.elf_image.proofs.ForCallers.ReadImageLaws.{read_images_hold_parts}
 use Rattle.elf_tables.specs.Strings.{HoldNoNul, holds_nul}
@@ -106,6 +106,22 @@ whole_needs p None needs h = subst (λ (l : List VersionNeeds). AllByRecursion I
 whole_needs p (Some s) needs h =
     let room : ℕ = length (file_of p) in
     each_good (shown_need room (linked_texts p s)) IsWholeNeed (whole_need room (linked_texts p s)) (values_of (need_steps p s)) needs h
+
+-- ## Libraries that have other names
+
+renamed_need : (old n : VersionNeeds) → IsSameNeed old n → IsWholeNeed old → IsWholeNeed n
+unfolding IsWholeNeed
+renamed_need old n same whole = (
+  elim same.0 [ inl kept ↦ subst IsWhole (sym kept) whole.0 | inr named ↦ from_name n.file named ],
+  subst (λ (vs : List VersionName). AllByRecursion IsWholeName vs) (sym (ap (λ (x : VersionNeeds). x.versions) same.1)) whole.1,
+)
+
+renamed_needs : (read now : List VersionNeeds) → AreSameNeeds read now → AllByRecursion IsWholeNeed read → AllByRecursion IsWholeNeed now
+renamed_needs [] [] same whole = tt
+renamed_needs [] (n ∷ ns) same whole = absurd same
+renamed_needs (old ∷ olds) [] same whole = absurd same
+renamed_needs (old ∷ olds) (n ∷ ns) same whole =
+    (renamed_need old n same.0 whole.0, renamed_needs olds ns same.1 whole.1)
 
 -- ## The texts of each user
 
@@ -201,7 +217,7 @@ texts_whole read image number is =
     subst (λ (l : List VersionDefinition). AllByRecursion IsWholeDefinition l) (sym edit.definitions)
     (whole_definitions p (section_of_type SHT_GNU_VERDEF p.sections) is.read.definitions holds.definitions) in
     let needs : AllByRecursion IsWholeNeed image.needs =
-    subst (λ (l : List VersionNeeds). AllByRecursion IsWholeNeed l) (sym edit.needs)
+    renamed_needs is.read.needs image.needs edit.needs.same
     (whole_needs p (section_of_type SHT_GNU_VERNEED p.sections) is.read.needs holds.needs) in
     let of_list : AreWhole (list_at texts_of_entries (written_entries read image)) =
     of_entries (written_entries read image) (written_listed read image (are_listed is.read.entries image.entries edit.entries)) in

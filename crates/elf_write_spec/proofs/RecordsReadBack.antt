@@ -14,7 +14,9 @@ use Rattle.elf_format.specs.Rules.{definition_steps, linked_texts, need_steps, t
 use Rattle.elf_format.specs.Versions.{DefinitionNumbers, NeedNumbers, Step, VersionDefinition, VersionNeeds, definition_at, is_whole_walk, need_at, shown_definition, shown_need, values_of, walked}
 use Rattle.elf_format.specs.Views.{defined_versions, needed_versions, whole_chain}
 use Rattle.elf_format.proofs.ForCallers.Agreement.{each-agrees, shown_definition-keeps, shown_need-keeps}
+use Rattle.elf_image.specs.Edited.{AreSameNeeds}
 use Rattle.elf_image.specs.Kept.{image_at_read}
+use Rattle.elf_image.proofs.ForCallers.NeedsKept.{needs_of_none}
 use Rattle.elf_layout_plan.specs.Memory.{Resized}
 use Rattle.elf_layout_plan.specs.Plan.{resized}
 use Rattle.elf_write_spec.specs.ReadBack.{HasWrittenParts, written_parts}
@@ -180,7 +182,9 @@ module _ (w : Output) (is : IsPlannedOutput w) (has : HasWrittenParts w) (f : Re
   unfolding needs_read
   needs_nowhere was =
       let of_none : needs_read f.parts None ≡ Some (image_at_read w.image).needs = ap (needs_read f.parts) (sym was) ∙ f.holds.needs in
-      let empty : w.image.needs ≡ [] = f.edit.needs ∙ sym (same_Some [] (image_at_read w.image).needs of_none) in
+      let empty : w.image.needs ≡ [] =
+      needs_of_none w.image.needs (subst (λ (ns : List VersionNeeds). AreSameNeeds ns w.image.needs)
+      (sym (same_Some [] (image_at_read w.image).needs of_none)) f.edit.needs.same) in
       ap (λ (ns : List VersionNeeds). Some ns)
       (sym (needs_written (image_at_read w.image) w.image ∙ no_needs (image_at_read w.image) w.image empty))
 

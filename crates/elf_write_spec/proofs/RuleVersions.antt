@@ -21,8 +21,10 @@ use Rattle.elf_format.specs.Versions.{DefinitionNumbers, NeedNumbers, VersionDef
 use Rattle.elf_format.proofs.ForCallers.Placed.{IsIn-slice_get}
 use Rattle.elf_format.proofs.ForCallers.ViewsAgree.{length-bytes, test_at, there_and, version_symbols_right}
 use Rattle.elf_format.specs.Views.{NamedSymbol}
+use Rattle.elf_image.specs.Edited.{AreSameNeeds}
 use Rattle.elf_image.specs.Kept.{image_at_read}
 use Rattle.elf_image.specs.ReadImage.{AreDynamicSymbols}
+use Rattle.elf_image.proofs.ForCallers.NeedsKept.{versions_same}
 use Rattle.elf_image_symbol_edits.specs.EditedList.{as_global, global_version}
 use Rattle.elf_layout_plan.specs.Needs.{is_version_used, written_needs}
 use Rattle.elf_write_spec.specs.Final.{final}
@@ -126,6 +128,21 @@ module _ (p : Parts) where
       ∙ ap (λ (l : List ℕ). map (λ (x : VersionDefinition). x.index) ds ++ l)
       (all_need_indices (section_of_type SHT_GNU_VERNEED p.sections) ns n)
 
+-- which are those of each library, one after the other
+by_library : (ns : List VersionNeeds)
+    → flat_map (λ n. map (λ v. v.index) n.versions) ns ≡ flat_map (λ l. l) (map (λ n. map (λ v. v.index) n.versions) ns)
+by_library [] = refl
+by_library (n ∷ ns) = ap (λ (l : List ℕ). map (λ (v : VersionName). v.index) n.versions ++ l) (by_library ns)
+
+-- and stay where libraries have other names
+renamed_indices : (ds : List VersionDefinition) (read now : List VersionNeeds) → AreSameNeeds read now → shown_indices ds now ≡ shown_indices ds read
+unfolding shown_indices
+renamed_indices ds read now same =
+    ap (λ (l : List ℕ). map (λ (d : VersionDefinition). d.index) ds ++ l)
+    (by_library now
+    ∙ ap (λ (ls : List (List ℕ)). flat_map (λ l. l) ls) (versions_same (λ (vs : List VersionName). map (λ (v : VersionName). v.index) vs) read now same)
+    ∙ sym (by_library read))
+
 -- of which those of definitions stay, and so do those of needed versions that still are there
 indices_stay : (ds : List VersionDefinition) (ns now : List VersionNeeds) (n : ℕ)
     → (is_one_of (flat_map (λ x. map (λ v. v.index) x.versions) ns) n ≡ true
@@ -176,7 +193,7 @@ module _ (w : Output) (is : IsPlannedOutput w) (has : HasWrittenParts w) (f : Re
       let was : known_versions f.parts ≡ shown_indices w.image.definitions w.image.needs =
       known_are f.parts read.definitions read.needs f.holds.definitions f.holds.needs
       ∙ ap (λ (ds : List VersionDefinition). shown_indices ds read.needs) (sym f.edit.definitions)
-      ∙ ap (shown_indices w.image.definitions) (sym f.edit.needs) in
+      ∙ sym (renamed_indices w.image.definitions read.needs w.image.needs f.edit.needs.same) in
       let now : known_versions (written_parts w) ≡ shown_indices w.image.definitions (written_needs read w.image) =
       known_are (written_parts w) w.image.definitions (final read w.image).needs (definitions_read_back w is has) (needs_read_back w is has)
       ∙ ap (shown_indices w.image.definitions) (needs_written read w.image) in

@@ -11,8 +11,12 @@ pub use Rattle.elf_write_strings.proofs.ReadTables
 pub use Rattle.elf_write_strings.proofs.Results
 -- the string tables that sections name are there
 pub use Rattle.elf_write_strings.proofs.TablesThere
+-- where there is a dynamic list, all that is dynamic has its texts in the list's string table
+pub use Rattle.elf_write_strings.proofs.TextsShared
 -- which texts a string table tells
 pub use Rattle.elf_write_strings.proofs.TextsTold
+-- a string table in which no text moves: each of its users has the texts that it had at read
+pub use Rattle.elf_write_strings.proofs.UsersStay
 -- which table has a number, and its bytes
 pub use Rattle.elf_write_strings.proofs.VersionsShown
 -- texts that are read stand in their table

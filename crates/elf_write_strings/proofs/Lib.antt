@@ -1,3 +1,4 @@
+pub mod FilesLeft
 pub mod ForCallers
 pub mod LinksAt
 pub mod MadeShort
@@ -8,8 +9,10 @@ pub mod Results
 pub mod TablesThere
 pub mod TellsPlaced
 pub mod TextsPlaced
+pub mod TextsShared
 pub mod TextsTold
 pub mod ToldTable
+pub mod UsersStay
 pub mod VersionsCopied
 pub mod VersionsFew
 pub mod VersionsHave

@@ -1,6 +1,6 @@
 -- Where the texts of the dynamic list stand.
 use Rattle.std.proofs.Common.{◌≡◌, ℕ, zero, suc, ◌+◌, ◌≤◌, ◌<◌, Bool, true, false, cond, List, [], ◌∷◌, ◌++◌, length, map, drop, take, get_or, append_assoc, refl, sym, ap, ◌∙◌, subst, Option, Some, None, arith, length-append, inl, inr}
-use Rattle.std.specs.Prelude.{Contains, IfSome, IsSome, min, not, ◌&&◌, ◌||◌, ◌==◌, unwrap_or}
+use Rattle.std.specs.Prelude.{Contains, IfSome, IsSome, min, not, ◌==◌, unwrap_or}
 use Rattle.std.specs.List.{slice_get}
 use Rattle.std.specs.Borrow.{Bor}
 use Rattle.std.specs.Str.{bytes_eq}
@@ -28,13 +28,14 @@ use Rattle.elf_layout_plan.specs.Texts.{is_subsequence, texts_of_entries}
 use Rattle.elf_write_spec.specs.Headers.{Reads}
 use Rattle.elf_write_strings.specs.declared.made.Made.{Made}
 use Rattle.elf_write_strings.specs.PlacedTexts.{EntriesStand, IsContentOfUser, IsUnedited, TellsAll, TextsStand, content_at, has_text, link_at, numbers_in, places_among}
-use Rattle.elf_write_strings.specs.WrittenStrings.{AreStrings, IsTold, content_read, do_names_move, do_texts_move, has_texts_in, is_list_left, made_of, strings_at}
+use Rattle.elf_write_strings.specs.WrittenStrings.{AreStrings, IsTold, content_read, is_list_left, made_of, strings_at}
 use Rattle.elf_write_spec.specs.Ready.{IsEditedReady}
 use Rattle.elf_write_strings.proofs.LinksAt.{Link, NoLink}
 use Rattle.elf_write_strings.proofs.LinksAt as tables
 use Rattle.elf_write_strings.proofs.ReadTables.{ContentWas, content_was, entries_stand, facts, read_unedited, ready_edit, same_read}
 use Rattle.elf_write_strings.proofs.TablesThere.{content_same, dynamic_there}
 use Rattle.elf_write_strings.proofs.TextsTold.{told_list}
+use Rattle.elf_write_strings.proofs.UsersStay.{has_link, users_stay}
 use Rattle.elf_write_strings.proofs.VersionsShown.{number_found, strings_copied}
 use Rattle.elf_write_spec.proofs.ForCallers.WholeEdits.{read_facts}
 
@@ -217,13 +218,6 @@ module _ (strings : List ℕ) where
 
 -- ## Both kinds of tables
 
--- the list has its texts in a table of which none move
-stays : (a b c : Bool) → (a || (b && not c)) ≡ false → b ≡ true → c ≡ true
-stays true b c h _ = absurd (false≢true (sym h))
-stays false true true h _ = refl
-stays false true false h _ = absurd (false≢true (sym h))
-stays false false c h e = absurd (false≢true e)
-
 -- what is read of two parts of a list of entries is one
 texts_at : (o : Option (List Entry)) → list_at texts_of_entries o ≡ texts_of_entries (list_at (λ es. es) o)
 texts_at None = refl
@@ -282,13 +276,6 @@ module _ (read image : Image) (is : IsEditedReady read image) (list : ℕ) (at :
       (entries_stand read un (link_at image list) (content_at image list)
       (subst (λ (p : Parts). ContentWas p SHT_DYNAMIC (link_at image list) (content_at image list)) same was))
 
-  -- no text of the list moves in a table that stays as it was read
-  left_here : do_texts_move read image (link_at image list) ≡ false → is_list_left read image ≡ true
-  unfolding do_texts_move
-  left_here stay =
-      stays (do_names_move read image (link_at image list)) (has_texts_in image SHT_DYNAMIC (link_at image list)) (is_list_left read image) stay
-      (ap (is_some_and (λ n. n == link_at image list)) linked_now ∙ eq-eqb (link_at image list) (link_at image list) refl)
-
   -- the texts stand in a table that is copied with the places of its texts
   pub if_copied : (made : List Made) → made_of made (link_at image list) ≡ None → AreStrings read image made → (ts : List (List ℕ))
       → ts ≡ list_at texts_of_entries (written_entries read image)
@@ -296,7 +283,8 @@ module _ (read image : Image) (is : IsEditedReady read image) (list : ℕ) (at :
       (places_among ts (list_at (λ es. es) read.entries) (numbers_in read (content_at image list)))
   if_copied made none are ts own =
       let left : is_list_left read image ≡ true =
-      left_here (are.as_read (link_at image list) (inl strings_number) none).stay in
+      (users_stay read image (link_at image list) (are.as_read (link_at image list) (inl strings_number) none).stay).list
+      (has_link image SHT_DYNAMIC (link_at image list) linked_now) in
       subst (λ (strings : List ℕ). TextsStand strings ts (places_among ts (list_at (λ es. es) read.entries) (numbers_in read (content_at image list))))
       (strings_copied image made (link_at image list) none)
       (texts_stand (content_read image (link_at image list)) (list_at (λ es. es) read.entries) (numbers_in read (content_at image list)) read_stand ts

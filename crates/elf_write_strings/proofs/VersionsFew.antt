@@ -23,6 +23,7 @@ use Rattle.elf_format.specs.Versions.{DefinitionNumbers, NeedNumbers, Step, Vers
 use Rattle.elf_format.specs.declared.records.NeedNameNumbers.{NeedNameNumbers}
 use Rattle.elf_format.proofs.ForCallers.NumberSteps.{number_at-below}
 use Rattle.elf_image.specs.Edited.{IsEdited}
+use Rattle.elf_image.proofs.ForCallers.NeedsKept.{versions_same}
 use Rattle.elf_image.proofs.ForCallers.ReadImageLaws.{read_images_hold_parts}
 use Rattle.elf_tables.specs.VersionRecords.{are_names_too_many, are_versions_too_many}
 use Rattle.elf_tables.proofs.ForCallers.RecordLaws.{fixed_field-number}
@@ -237,10 +238,17 @@ module _ (p : Parts) (are : AreBytes (file_of p)) where
       (walk_all IsShortNeed (need_at p.opened.form (memory_of bytes))
       (need_short p.opened.form bytes (section_read_bytes (file_of p) s are)) s.sh_info 0)
 
+-- a test of one of them, by what it answers of each
+any_answer : {A : Type 0} (test : A → Bool) (xs : List A) → list_any test xs ≡ list_any (λ b. b) (map test xs)
+any_answer test [] = refl
+any_answer test (x ∷ xs) = ap (λ (b : Bool). test x || b) (any_answer test xs)
+
 pub few_versions : (image : Image) → IsEdited image → AreBytes image.source → list_any are_versions_too_many image.needs ≡ false
 few_versions image is are =
     let (p, accepted, parts, meets, holds) = read_images_hold_parts image.source is.read is.is_read in
-    ap (list_any are_versions_too_many) is.is_edit.needs
+    any_answer are_versions_too_many image.needs
+    ∙ ap (list_any (λ (b : Bool). b)) (versions_same (λ (vs : List VersionName). nat_le (2 ^ 16) (length vs)) is.read.needs image.needs is.is_edit.needs.same)
+    ∙ sym (any_answer are_versions_too_many is.read.needs)
     ∙ few_needs_read p (subst AreBytes (sym parts.same_file) are) (section_of_type SHT_GNU_VERNEED p.sections) is.read.needs holds.needs
 
 -- ## Those that stay

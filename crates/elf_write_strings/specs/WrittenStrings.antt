@@ -1,15 +1,16 @@
 -- Where texts stand in the string tables of a written file (gABI, String Table).
-use Rattle.std.specs.Prelude.{ℕ, ◌≡◌, ◌≤◌, ◌^◌, List, [], ◌∷◌, ◌++◌, length, Contains, Bool, true, false, ◌&&◌, ◌||◌, not, Option, Some, None, IsSome, find, nat_le, ◌==◌, ◌⊎◌, unwrap_or}
+use Rattle.std.specs.Prelude.{ℕ, ◌≡◌, ◌≤◌, ◌^◌, List, [], ◌∷◌, ◌++◌, length, map, Contains, Bool, true, false, ◌&&◌, ◌||◌, not, Option, Some, None, IsSome, find, nat_le, ◌==◌, ◌⊎◌, unwrap_or}
 use Rattle.std.specs.List.{list_all, slice_get}
 use Rattle.std.specs.Option.{option_to_list}
 use Rattle.std.specs.Str.{bytes_eq}
 use Rattle.patch_bytes.specs.Memory.{◌>>=◌}
-use Rattle.elf_format.specs.declared.constants.TheConstants.{SHT_DYNAMIC, SHT_DYNSYM, SHT_SYMTAB}
+use Rattle.elf_format.specs.declared.constants.TheConstants.{SHT_DYNAMIC, SHT_DYNSYM, SHT_GNU_VERNEED, SHT_SYMTAB}
 use Rattle.elf_format.specs.Image.{Image}
 use Rattle.elf_format.specs.Options.{is_some_and, list_at}
+use Rattle.elf_format.specs.Versions.{VersionNeeds}
 use Rattle.elf_tables.specs.Strings.{PlacesStand, place_of}
 use Rattle.elf_image.specs.Kept.{dynamic_strings_number, kept_at_number, link_of_type}
-use Rattle.elf_image.specs.Names.{are_names_changed, texts_of_symbols}
+use Rattle.elf_image.specs.Names.{are_names_changed, are_same_texts, texts_of_symbols}
 use Rattle.elf_layout_plan.specs.Needs.{written_entries}
 use Rattle.elf_layout_plan.specs.Texts.{is_subsequence, is_table_copied, texts_in_use, texts_of_entries}
 use Rattle.elf_layout_sizes.specs.MadeTables.{IsMade}
@@ -50,15 +51,25 @@ abbrev pub are_section_names_left : Image → Image → Bool
 are_section_names_left read image =
     are_texts_left (names_of_sections read.sections) image.section_numbers (names_of_sections image.sections)
 
--- Symbols or sections of which the names stand in the string table that had a number don't have those that they had at read.
+-- the libraries of which versions are needed, in their order
+abbrev pub files_of : List VersionNeeds → List (List ℕ)
+files_of needs = map (λ n. n.file) needs
+
+-- these have the names that they had at read
+abbrev pub are_files_left : Image → Image → Bool
+are_files_left read image = are_same_texts (files_of read.needs) (files_of image.needs)
+
+-- Symbols, libraries of needed versions or sections of which the names stand in the string table that had a number don't have
+-- those that they had at read.
 abbrev pub do_names_move : Image → Image → ℕ → Bool
 do_names_move read image number =
     (has_texts_in image SHT_DYNSYM number && are_names_changed read image)
     || (has_texts_in image SHT_SYMTAB number && not (are_static_names_left read image))
+    || (has_texts_in image SHT_GNU_VERNEED number && not (are_files_left read image))
     || (has_names_in image number && not (are_section_names_left read image))
 
 -- A user of the table doesn't have the texts that it had at read: so in a table that is copied they may stand where other users had
--- theirs. Versions have texts that they had.
+-- theirs. The names of versions are those that they had.
 unfoldable pub do_texts_move : Image → Image → ℕ → Bool
 do_texts_move read image number =
     do_names_move read image number || (has_texts_in image SHT_DYNAMIC number && not (is_list_left read image))

@@ -3,18 +3,19 @@ ghost use Rattle.std.specs.Prelude.{◌≡◌, ◌<◌, IfOk, length, map};
 ghost use Rattle.std.specs.List.{slice_get};
 ghost use Rattle.std.specs.Str.{bytes_eq};
 ghost use Rattle.elf_format.specs.Options.{is_some_and};
-ghost use Rattle.elf_image.specs.ImageModel.{section_model};
+ghost use Rattle.elf_image.specs.ImageModel.{needs_model, section_model};
+ghost use Rattle.elf_image.specs.Names.{are_same_texts};
 ghost use Rattle.elf_image_symbol_edits.specs.Loan.{numbers_now, symbols_now};
 ghost use Rattle.elf_layout_plan.specs.Texts.{texts_of_symbols};
 ghost use Rattle.elf_write_spec.specs.Ready.{IsEditedReady};
 ghost use Rattle.elf_write_strings.specs.LeftSteps.{is_text_left};
 ghost use Rattle.elf_write_strings.specs.PlacedTexts.{names_of_sections};
-ghost use Rattle.elf_write_strings.specs.WrittenStrings.{are_section_names_left as are_sections_left, are_static_names_left as are_statics_left, are_texts_left, do_names_move as do_any_names_move, do_texts_move as do_any_move, is_list_left};
+ghost use Rattle.elf_write_strings.specs.WrittenStrings.{are_files_left as are_libraries_left, are_section_names_left as are_sections_left, are_static_names_left as are_statics_left, are_texts_left, do_names_move as do_any_names_move, do_texts_move as do_any_move, files_of, is_list_left};
 
 use crate::texts::{are_left, list_texts};
 use crate::told::has_texts_in;
-use elf_image::constants::{SHT_DYNAMIC, SHT_DYNSYM, SHT_SYMTAB};
-use elf_image::{Builder, Section};
+use elf_image::constants::{SHT_DYNAMIC, SHT_DYNSYM, SHT_GNU_VERNEED, SHT_SYMTAB};
+use elf_image::{Builder, Section, VersionNeed};
 use elf_image_symbol_edits::SymbolsNow;
 use elf_layout_needs::StayingNeeds;
 use std::alloc::{AllocError, Global};
@@ -101,7 +102,37 @@ fn are_section_names_left(read: &Builder<'_>, image: &Builder<'_>) -> bool
     true
 }
 
-// Whether names of symbols or sections may stand elsewhere in the table with that number, where it is copied.
+// Whether the library has the name that it had at read.
+fn is_file_left(read: &VersionNeed<'_>, now: &VersionNeed<'_>) -> bool
+    ensures { result ≡ bytes_eq read.now.file.bytes now.now.file.bytes }
+{
+    read.file.as_slice() == now.file.as_slice()
+}
+
+// Whether libraries have the names that they had at read, one by one.
+fn are_same_files(read: &[VersionNeed<'_>], now: &[VersionNeed<'_>]) -> bool
+    ensures { result ≡ are_same_texts (files_of (map needs_model read.now))
+        (files_of (map needs_model now.now)) }
+{
+    if read.len() != now.len() {
+        return false;
+    }
+    for i in 0..now.len() {
+        if !is_file_left(&read[i], &now[i]) {
+            return false;
+        }
+    }
+    true
+}
+
+// The same of the libraries of which versions are needed.
+fn are_files_left(read: &Builder<'_>, image: &Builder<'_>) -> bool
+    ensures { result ≡ are_libraries_left read.now image.now }
+{
+    are_same_files(&read.versions().needs, &image.versions().needs)
+}
+
+// Whether names of symbols, libraries or sections may stand elsewhere in the table with that number, where it is copied.
 fn do_names_move(read: &Builder<'_>, image: &Builder<'_>, number: usize) -> bool
     requires { IsEditedReady read.now image.now }
     ensures { result ≡ do_any_names_move read.now image.now number }
@@ -110,6 +141,9 @@ fn do_names_move(read: &Builder<'_>, image: &Builder<'_>, number: usize) -> bool
         return true;
     }
     if has_texts_in(image, SHT_SYMTAB, number) && !are_static_names_left(read, image) {
+        return true;
+    }
+    if has_texts_in(image, SHT_GNU_VERNEED, number) && !are_files_left(read, image) {
         return true;
     }
     image.header().e_shstrndx as usize == number && !are_section_names_left(read, image)

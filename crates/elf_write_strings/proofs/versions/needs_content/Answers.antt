@@ -7,14 +7,14 @@ use Rattle.elf_format.specs.Versions.{VersionNeeds}
 use Rattle.elf_layout_plan.specs.Plan.{resized}
 use Rattle.elf_layout_plan.specs.Texts.{texts_of_needs}
 use Rattle.elf_write_strings.proofs.VersionsHave.{written_told}
-use Rattle.elf_write_spec.proofs.ForCallers.WholeEdits.{read_facts}
 use Rattle.elf_write_spec.specs.Contents.{AreNeedsIn}
 use Rattle.elf_write_strings.specs.WrittenStrings.{content_read, strings_at}
 use Rattle.elf_write_strings.specs.PlacedTexts.{TellsAll}
 use Rattle.elf_write_strings.specs.VersionPlaces.{content_in}
 use Rattle.elf_write_strings.proofs.TablesThere.{linked_content}
 use Rattle.elf_write_strings.proofs.VersionsShown.{number_found, strings_copied}
-use Rattle.elf_write_strings.proofs.ReadTables.{read_unedited, ready_edit}
+use Rattle.elf_write_strings.proofs.FilesLeft.{needs_left}
+use Rattle.elf_write_strings.proofs.ReadTables.{read_unedited}
 use Rattle.elf_write_strings.proofs.TextsTold.{told_needs}
 use Rattle.elf_write_strings.proofs.VersionsLinks.{links_read, links_there}
 use Rattle.elf_write_strings.proofs.versions.needs_content.Goals as goal
@@ -42,7 +42,10 @@ pub need_records-requires-2-clause-told : goal.need_records-requires-2-clause-to
 need_records-requires-2-clause-told c =
     written_told c.in_ok-table.table c.args.read.now c.args.image.now
     (subst (λ (ns : List VersionNeeds). TellsAll c.in_ok-table.table (texts_of_needs ns))
-    (sym (read_facts c.args.read.now c.args.image.now (ready_edit c.requires.ready)).edit.needs) c.in_ok-table.ensures.told)
+    (sym (needs_left c.args.read.now c.args.image.now c.requires.ready c.args.made.now c.requires.strings c.args.section.now.sh_link
+    (links_there c.args.read.now c.args.image.now c.requires.ready 7 SHT_GNU_VERNEED refl refl (section_model c.args.section.now) c.requires.at
+    c.args.section.now.sh_link refl) c.in_default.ensures.none))
+    c.in_ok-table.ensures.told)
 
 pub returns-clause-versions : goal.returns-clause-versions
 returns-clause-versions c =
