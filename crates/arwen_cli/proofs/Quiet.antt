@@ -1,6 +1,8 @@
 -- Where no word begins with a hyphen, none asks for quiet.
-use Rattle.std.proofs.Common.{◌≡◌, ◌∙◌, ◌∷◌, [], Bool, List, ap, false, if◌then◌else◌, refl, subst, true}
+use Rattle.std.specs.Prelude.{◌&&◌}
+use Rattle.std.proofs.Common.{◌≡◌, ◌∙◌, ◌∷◌, [], Bool, List, ap, false, if◌then◌else◌, refl, subst, sym, true, true≢false}
 use Rattle.arwen_cli.specs.Line.{has_option}
+use Rattle.arwen_cli.specs.Moving.{has_move_word, is_elf_line, is_move_word, is_moving_line}
 use Rattle.arwen_cli.specs.Quiet.{is_mark, is_quiet_word, without_quiet}
 use Rattle.arwen_cli.specs.Signing.{is_macho_line, is_sign_word, unsigned, without_sign}
 use Rattle.arwen_cli.proofs.Values.{first_value}
@@ -36,10 +38,38 @@ either_line : (words : List Text) (b : Bool) → without_sign words ≡ words �
 either_line words true same = same
 either_line words false same = refl
 
+-- none gives leave that the dynamic section moves
+not_move : (word : Text) → IsValue word → is_move_word word ≡ false
+not_move [] is = refl
+not_move (x ∷ xs) is = simp is
+
+none_move : (words : List Text) → has_option words ≡ false → has_move_word words ≡ false
+none_move [] none = refl
+none_move (word ∷ words) none =
+    let parts = first_value word words none in
+    rw (not_mark word parts.0, not_move word parts.0) (none_move words parts.1)
+
+either_part : (b c : Bool) → c ≡ false → (b && c) ≡ false
+either_part true c h = h
+either_part false c h = refl
+
+pub unmoved : (words : List Text) → has_option words ≡ false → is_moving_line words ≡ false
+unmoved words plain = either_part (is_elf_line words) (has_move_word words) (none_move words plain)
+
+-- the words that are heard are those of the line
+heard_is : (heard audible words : List Text) → heard ≡ unsigned audible → audible ≡ without_quiet words → has_option words ≡ false → heard ≡ words
+heard_is heard audible words is_unsigned is plain =
+    let first : audible ≡ words = is ∙ all_heard words plain in
+    is_unsigned ∙ ap unsigned first ∙ either_line words (is_macho_line words) (all_unsigned words plain)
+
 -- what holds of the words that are heard holds of those of the line
 pub heard_for_all : (P : List Text → Type 0) (heard audible words : List Text) → heard ≡ unsigned audible → audible ≡ without_quiet words → (has_option heard ≡ false → P heard) → has_option words ≡ false → P words
 heard_for_all P heard audible words is_unsigned is holds plain =
-    let first : audible ≡ words = is ∙ all_heard words plain in
-    let rest : unsigned audible ≡ words = ap unsigned first ∙ either_line words (is_macho_line words) (all_unsigned words plain) in
-    let same : heard ≡ words = is_unsigned ∙ rest in
+    let same : heard ≡ words = heard_is heard audible words is_unsigned is plain in
     subst P same (holds (ap has_option same ∙ plain))
+
+-- a line in which no word begins with a hyphen has no leave
+pub never_moving : (heard audible words : List Text) → heard ≡ unsigned audible → audible ≡ without_quiet words → is_moving_line heard ≡ true → has_option words ≡ false → ⊥
+never_moving heard audible words is_unsigned is moves plain =
+    let same : heard ≡ words = heard_is heard audible words is_unsigned is plain in
+    true≢false (sym moves ∙ ap is_moving_line same ∙ unmoved words plain)

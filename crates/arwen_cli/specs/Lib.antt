@@ -4,4 +4,5 @@ pub mod Meaning
 pub mod Parser
 pub mod Quiet
 pub mod Signing
+pub mod Moving
 pub mod Telling

@@ -11,6 +11,7 @@ mod command;
 mod error;
 mod file;
 mod line;
+mod moving;
 mod parser;
 mod quiet;
 mod signing;
@@ -44,7 +45,8 @@ pub use telling::fault_line;
 
 /// Does what the words behind the program's name ask. A line that asks for help, and one that is
 /// wrong, is answered by `ArwenError::Line`. Notes go to the standard error once an edit is made, unless a word `-q` or
-/// `--quiet` leaves them out. A word `--sign` on a line of a Mach-O file makes the code signatures of what is edited fit.
+/// `--quiet` leaves them out. A word `--sign` on a line of a Mach-O file makes the code signatures of what is edited fit; a
+/// word `--move-dynamic` on a line of an ELF file gives leave that its dynamic section moves, where it has no room.
 pub fn execute<R: Files + Print + Eprint + AllocGlobal>(
     rt: &R,
     words: &[&str],

@@ -6,7 +6,7 @@ use Rattle.std.specs.declared.vec.Vec.{Vec}
 use Rattle.elf_edits.specs.Edit.{Answer, ShrinkRunPath}
 use Rattle.elf_commands.specs.ElfAsked.{ElfAsked, elf_asked, one}
 use Rattle.elf_commands.specs.ElfEngine.{LeavesElf, TellsEdit}
-use Rattle.elf_commands.specs.Meaning.{apply_elf}
+use Rattle.elf_commands.specs.Meaning.{apply_moving_elf}
 use Rattle.elf_commands.specs.ShrinkRuns.{AreFoundIn, TellsShrunk}
 use Rattle.elf_commands.specs.declared.error.ElfCommandError.{ElfCommandError}
 use Rattle.elf_commands.specs.declared.error.ElfCommandError.TheVariants.{Io, Memory}
@@ -18,9 +18,9 @@ use Rattle.arwen_cli_patchelf_lines.specs.Plans.{PlanMeant}
 abbrev pub prefixes_meant : Option (Vec (String Global) Global) → Option (List Text)
 prefixes_meant shrinks = option_map (λ prefixes. map string_bytes prefixes.items) shrinks
 
--- what the command `apply` asks for by these words, of whichever file
+-- what the command `apply` asks for by these words, of whichever file, with leave that the dynamic section moves
 abbrev pub words_ask : List Text → ElfAsked
-words_ask words = elf_asked (apply_elf [] words)
+words_ask words = elf_asked (apply_moving_elf [] words)
 
 -- ## The two steps
 

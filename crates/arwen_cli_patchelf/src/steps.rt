@@ -3,7 +3,7 @@ ghost use Rattle.std.specs.Prelude.{◌≡◌, [], Some, IfErr, IfOk, OnOk, map,
 ghost use Rattle.byte_store.specs.Fault.{IsOkAndSame};
 ghost use Rattle.elf_commands.specs.ElfStores.{FailsElf, IsElfPatched};
 ghost use Rattle.elf_commands.specs.Failures.{HasCause};
-ghost use Rattle.elf_commands.specs.Meaning.{apply_elf, elf_command_model};
+ghost use Rattle.elf_commands.specs.Meaning.{apply_moving_elf, elf_command_model};
 ghost use Rattle.elf_commands.specs.ShrinkRuns.{FailsShrink};
 ghost use Rattle.arwen_cli_patchelf.specs.Made.{prefixes_meant, words_ask};
 ghost use Rattle.arwen_cli_patchelf.specs.Steps.{FailsApplied, FailsShrunk, IsAppliedStore, IsShrunkStore};
@@ -107,12 +107,12 @@ fn apply_words<S: Store>(
     }
 }
 
-/// The command `apply` with these words, without a path.
+/// The command `apply` with these words, with leave that the dynamic section moves, and without a path.
 fn apply_command(alloc: Global, words: &[String]) -> Result<ElfCommand, AllocError>
     ensures { IfOk result (λ command.
-        elf_command_model command ≡ apply_elf [] (map string_bytes words.now)) }
+        elf_command_model command ≡ apply_moving_elf [] (map string_bytes words.now)) }
 {
-    Ok(ElfCommand::Apply(apply::Args {
+    Ok(ElfCommand::ApplyMoving(apply::Args {
         path_to_binary: String::new(alloc),
         edits: texts_copied(alloc, words)?,
     }))

@@ -108,7 +108,7 @@ run_path_groups asked =
 abbrev pub needed_groups : List Asked → List Group
 needed_groups asked =
     all_group (codes "remove-needed") (values_of (codes "--remove-needed") asked)
-    ++ all_group (codes "replace-needed") (pair_words (codes "--replace-needed") asked)
+    ++ all_group (codes "replace-library") (pair_words (codes "--replace-needed") asked)
     ++ all_group (codes "add-needed") (values_of (codes "--add-needed") asked)
 
 -- symbols: versions that are cleared, and pairs of names

@@ -133,7 +133,7 @@ fn put_needed(
         ≡ joined (map string_bytes words.old.items) (needed_groups (map asked_model asked.now))) }
 {
     put_all(alloc, words, asked, "--remove-needed", "remove-needed")?;
-    put_pairs(alloc, words, asked, "--replace-needed", "replace-needed")?;
+    put_pairs(alloc, words, asked, "--replace-needed", "replace-library")?;
     put_all(alloc, words, asked, "--add-needed", "add-needed")
 }
 

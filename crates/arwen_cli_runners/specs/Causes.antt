@@ -1,7 +1,7 @@
 -- Why files aren't edited, in words.
 use Rattle.std.specs.Prelude.{ℕ, ◌≡◌, ◌++◌, List, [], Option, Some, None, codes, ⊤}
 use Rattle.byte_store.specs.Known.{IsAll}
-use Rattle.elf_commands.specs.Meaning.{apply_elf, elf_command_model}
+use Rattle.elf_commands.specs.Meaning.{apply_moving_elf, elf_command_model}
 use Rattle.elf_commands.specs.declared.command.ElfCommand.{ElfCommand}
 use Rattle.elf_commands.specs.declared.error.ElfCommandError.{ElfCommandError}
 use Rattle.elf_commands.specs.declared.error.ElfCommandError.TheVariants as elf
@@ -59,9 +59,9 @@ abbrev pub TellsMachoKnown : NamesError → Option (List ℕ) → Option Told �
 TellsMachoKnown e known None = ⊤
 TellsMachoKnown e known (Some told) = (file : List ℕ) × IsAll known file × TellsMachoFile e file (Some told)
 
--- the command that makes the words of a plan
+-- the command that makes the words of a plan, with leave that the dynamic section moves
 abbrev pub IsApplyCommand : PlanMeant → ElfCommand → Type 0
-IsApplyCommand plan command = elf_command_model command ≡ apply_elf [] plan.words
+IsApplyCommand plan command = elf_command_model command ≡ apply_moving_elf [] plan.words
 
 -- ## Lines
 

@@ -104,7 +104,7 @@ fn overlap_at<'p, O: Opens<'p>>(
     text
 }
 
-/// The command `apply` with the words of a plan.
+/// The command `apply` with the words of a plan, and with leave that the dynamic section moves.
 fn apply_command(alloc: Global, plan: &Plan) -> Result<ElfCommand, AllocError>
     ensures { IfOk result (IsApplyCommand (plan_model plan.now)) }
 {
@@ -112,7 +112,7 @@ fn apply_command(alloc: Global, plan: &Plan) -> Result<ElfCommand, AllocError>
     for word in plan.words.as_slice() {
         edits.push(String::from_str(alloc, word.as_str())?)?;
     }
-    Ok(ElfCommand::Apply(apply::Args {
+    Ok(ElfCommand::ApplyMoving(apply::Args {
         path_to_binary: String::new(alloc),
         edits,
     }))

@@ -8,7 +8,8 @@ use crate::elf::{
     delete_sections, delete_symbols, force_rpath, no_default_lib, path_alone, print_execstack,
     print_interpreter, print_needed, print_os_abi, print_rpath, print_soname, remove_needed,
     remove_rpath, rename_dynamic_symbols, rename_sections, rename_symbols, replace_library,
-    replace_needed, set_execstack, set_interpreter, set_os_abi, set_page_size, set_rpath, set_soname, shrink_rpath,
+    replace_needed, set_execstack, set_interpreter, set_os_abi, set_page_size, set_rpath,
+    set_soname, shrink_rpath,
 };
 use command_words::{
     Row, Value, ValueError, ValueForm, ValueOption, Values, copied, number_of, pairs_of,

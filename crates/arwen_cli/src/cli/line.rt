@@ -8,9 +8,11 @@ ghost use Rattle.macho_commands.specs.Meaning.{macho_lines};
 ghost use Rattle.macho_commands.specs.Meaning.{macho_command_model};
 ghost use Rattle.arwen_cli.specs.Meaning.{shown};
 ghost use Rattle.arwen_cli.specs.Line.{has_option, meaning_of};
+ghost use Rattle.arwen_cli.specs.Moving.{MeansMoving};
 ghost use Rattle.arwen_cli_show.specs.Args.{ShowMeaning, args_meant, args_model};
 ghost use Rattle.arwen_cli.specs.Parser.{MayRefuse, MayRefuseReading, MayRefuseTaken, MeansBy, MeansTaken};
 
+use crate::cli::moving::{is_moved_by, without_move};
 use crate::cli::parser::{First, parse_values};
 use crate::cli::quiet::without_quiet;
 use crate::cli::signing::without_sign;
@@ -57,7 +59,8 @@ const ELF: First = First {
 
 /// The command that a line's words mean, those behind the program's name. A line that asks for help,
 /// and one that is wrong, is answered by `ArwenError::Line` with the text to print. Words `-q` and `--quiet` are passed
-/// over, and `--sign` where the first word is `macho`.
+/// over, and `--sign` where the first word is `macho`. A word `--move-dynamic` where the first word is `elf` gives the edit
+/// leave that the dynamic section moves: it is made as `apply` makes it.
 pub fn parse_line(alloc: Global, words: &[&str]) -> Result<Command, ArwenError>
     ensures means { IfOk result (λ command. has_option (map (λ w. w.now) words.now) ≡ false
         → meaning_of (map (λ w. w.now) words.now) ≡ Some (shown command)) }
@@ -68,7 +71,22 @@ pub fn parse_line(alloc: Global, words: &[&str]) -> Result<Command, ArwenError>
 {
     let audible = without_quiet(alloc, words)?;
     let heard = without_sign(alloc, audible.as_slice())?;
+    if is_moved_by(heard.as_slice()) {
+        return Ok(Command::Elf(parse_moving(alloc, heard.as_slice())?));
+    }
     parse_heard(alloc, heard.as_slice())
+}
+
+/// The command of a line of an ELF file with `--move-dynamic`.
+fn parse_moving(alloc: Global, words: &[&str]) -> Result<ElfCommand, ArwenError>
+    ensures means { IfOk result (λ command.
+        MeansMoving (map (λ w. w.now) words.now) (elf_command_model command)) }
+    ensures err { IfErr result (λ error. IsOfLine error) }
+{
+    let words = without_move(alloc, words)?;
+    let (name, values) = parse_values(alloc, ELF, elf_table(), words.as_slice())?;
+    let command = ElfCommand::with_leave(alloc, name, values)?;
+    or_usage(alloc, command)
 }
 
 /// The same of words without `-q` and `--sign`.

@@ -1,0 +1,7 @@
+use Rattle.std.proofs.Common.{◌≡◌, drop, map}
+use Rattle.arwen_cli.specs.Moving.{has_move_word}
+use Rattle.arwen_cli.proofs.cli.moving.has_word.Given as goal
+
+-- no word so far tells
+abbrev pub invariant-loop-word : goal.invariant-loop-word
+invariant-loop-word l = has_move_word (map (λ w. w.now) (drop l.word-index l.words)) ≡ has_move_word (map (λ w. w.now) l.words)

@@ -1,0 +1,10 @@
+use Rattle.std.proofs.Common.{◌≡◌, ◌++◌, drop, if◌then◌else◌, map}
+use Rattle.arwen_cli.specs.Moving.{without_move}
+use Rattle.arwen_cli.proofs.cli.moving.without_move.Given as goal
+
+-- the words so far, with what stays of those that are left
+abbrev pub invariant-loop-word : goal.invariant-loop-word
+invariant-loop-word l =
+    map (λ w. w.now) l.heard.items
+    ++ (if l.is_open then without_move (map (λ w. w.now) (drop l.word-index l.words)) else map (λ w. w.now) (drop l.word-index l.words))
+    ≡ without_move (map (λ w. w.now) l.words)
