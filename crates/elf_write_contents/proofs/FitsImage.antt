@@ -32,9 +32,9 @@ use Rattle.elf_write_spec.specs.Ready.{IsEditedReady}
 use Rattle.elf_write_contents.specs.Inner.{AreHeaders, AreRaw, IsPlanned}
 use Rattle.elf_write_contents.specs.Numbers.{do_header_numbers_fit, do_sections_fit, does_entry_fit, entry_with}
 use Rattle.elf_write_contents.proofs.FitsStrings.{strings_short, words_end}
-use Rattle.elf_write_contents.proofs.OthersCopied.{no_entries_read, none_edited}
 use Rattle.elf_write_spec.proofs.ForCallers.WholeEdits.{entries_written, read_facts}
 use Rattle.elf_write_strings.proofs.ForCallers.ReadTables.{ready_edit}
+use Rattle.elf_write_strings.proofs.ForCallers.TextsShared.{no_entries_read, none_edited}
 
 -- ## Section headers
 
@@ -98,7 +98,7 @@ no_entries : (read image : Image) → IsEditedReady read image → kept_of_type 
 no_entries read image is none =
     let f = read_facts read image (ready_edit is) in
     let none_read : read.entries ≡ None =
-    no_entries_read is (ap (λ (o : Option KeptSection). o >>= λ s. Some s.section.sh_link) none) in
+    no_entries_read read image f (ap (λ (o : Option KeptSection). o >>= λ s. Some s.section.sh_link) none) in
     ap (λ (r : Image). list_at (λ es. es) (final r image).entries) (sym is.at_read)
     ∙ ap (list_at (λ es. es)) (entries_written read image)
     ∙ ap (list_at (λ es. es)) (written_none read image (none_edited read.entries image.entries f.edit.entries none_read))

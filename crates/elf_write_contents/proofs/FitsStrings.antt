@@ -25,7 +25,7 @@ use Rattle.elf_write_spec.specs.Ready.{IsEditedReady}
 use Rattle.elf_write_strings.proofs.ForCallers.MadeShort.{all_at}
 use Rattle.elf_write_strings.proofs.ForCallers.ReadTables.{ready_edit}
 use Rattle.elf_write_strings.proofs.ForCallers.TablesThere.{content_at, dynamic_there}
-use Rattle.elf_write_contents.proofs.OthersCopied.{list_linked}
+use Rattle.elf_write_strings.proofs.ForCallers.TextsShared.{list_linked}
 use Rattle.elf_write_spec.proofs.ForCallers.NumberedSections.{kept_as}
 use Rattle.elf_write_spec.proofs.ForCallers.WholeEdits.{ReadFacts, SectionRead, not_interpreter, read_facts}
 
@@ -111,7 +111,7 @@ strings_short read image made is strings number linked = by_made (made_of made n
   where
     by_made : (o : Option Made) → made_of made number ≡ o → length (strings_at image made number) ≤ words_end image.form.wide
     by_made None none =
-        let here = list_linked is number linked in
+        let here = list_linked image number linked in
         subst (λ (l : List ℕ). length l ≤ words_end image.form.wide) (strings_copied image made number none)
         (copied_short read image is number here (strings.as_read number (inl here) none).copied)
     by_made (Some m) found =

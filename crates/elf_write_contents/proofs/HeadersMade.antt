@@ -1,9 +1,9 @@
 -- What is known of each section header that is written.
-use Rattle.std.proofs.Common.{◌≡◌, ℕ, zero, suc, ◌<◌, ◌≤◌, ◌^◌, Bool, true, false, List, [], ◌∷◌, length, map, get_or, refl, sym, ap, ◌∙◌, subst, inr, Option, Some, None, arith}
-use Rattle.std.specs.Prelude.{Contains, IsSome, ◌&&◌, ◌||◌, not, if◌then◌else◌, ◌==◌, slice_index}
+use Rattle.std.proofs.Common.{◌≡◌, ℕ, zero, suc, ◌<◌, ◌≤◌, ◌^◌, true, false, List, [], ◌∷◌, length, map, get_or, refl, sym, ap, ◌∙◌, subst, inr, Option, Some, None, arith}
+use Rattle.std.specs.Prelude.{Contains, IsSome, if◌then◌else◌, ◌==◌, slice_index}
 use Rattle.std.specs.List.{slice_get}
 use Rattle.std.specs.Str.{bytes_eq}
-use Rattle.std.proofs.lemmas.Bool.{and_parts, eq-eqb, false≢true}
+use Rattle.std.proofs.lemmas.Bool.{and_parts, eq-eqb}
 use Rattle.std.proofs.lemmas.List.{length-map}
 use Rattle.std.proofs.lemmas.Option.{get_or_from_slice_get, none-some, same_Some, slice_get_read, slice_get_within}
 use Rattle.std.proofs.lemmas.Slice.Eq.{bytes_eq-Decides}
@@ -40,10 +40,11 @@ use Rattle.elf_write_spec.proofs.ForCallers.WholeLists.{there_at}
 use Rattle.elf_write_strings.specs.declared.made.Made.{Made}
 use Rattle.elf_write_strings.specs.PlacedTexts.{IsUnedited, names_of_sections}
 use Rattle.elf_write_strings.specs.VersionPlaces.{content_in}
-use Rattle.elf_write_strings.specs.WrittenStrings.{AreStrings, are_section_names_left, are_texts_left, content_read, do_texts_move, has_names_in, made_of}
+use Rattle.elf_write_strings.specs.WrittenStrings.{AreStrings, are_section_names_left, are_texts_left, content_read, made_of}
 use Rattle.elf_write_strings.proofs.ForCallers.ReadTables.{facts, read_unedited, ready_edit, same_read, sections_stand}
 use Rattle.elf_write_strings.proofs.ForCallers.TablesThere.{edited_content}
 use Rattle.elf_write_strings.proofs.ForCallers.TextsTold.{told_names}
+use Rattle.elf_write_strings.proofs.ForCallers.UsersStay.{users_stay}
 use Rattle.elf_write_strings.proofs.ForCallers.VersionsShown.{number_found}
 use Rattle.elf_write_contents.specs.declared.headers.Known.{Known}
 use Rattle.elf_write_contents.specs.HeaderSteps.{IsHeaderAt, IsKnown, header_by, headers_read, info_by}
@@ -189,16 +190,6 @@ info_told p old s type flags =
 
 -- ## Names that are left
 
--- neither of two
-not_either : (a b : Bool) → (a || b) ≡ false → (a ≡ false) × (b ≡ false)
-not_either true b h = absurd (false≢true (sym h))
-not_either false b h = (refl, h)
-
-both_false : (a b : Bool) → a ≡ true → (a && not b) ≡ false → b ≡ true
-both_false true true e h = refl
-both_false true false e h = absurd (false≢true (sym h))
-both_false false b e h = absurd (false≢true e)
-
 -- each text that is left is the one that was read at its number
 left_at : (was : List (List ℕ)) (ns : List ℕ) (now : List (List ℕ)) → are_texts_left was ns now ≡ true → (i n : ℕ) (t old : List ℕ)
     → slice_get ns i ≡ Some n → slice_get now i ≡ Some t → slice_get was n ≡ Some old → t ≡ old
@@ -274,12 +265,11 @@ module _ (image : Image) (plan : Layout) (made : List Made) (known : Known)
       → slice_get known.headers.items (slice_index image.section_numbers i) ≡ Some old
       → made_of made image.header.e_shstrndx ≡ None
       → Reads (content_read image image.header.e_shstrndx) old.sh_name s.name
-  unfolding do_texts_move known_facts
+  unfolding known_facts
   name_copied s old s_at old_at none =
       let n : ℕ = image.header.e_shstrndx in
-      let moved = not_either _ _ (strings.as_read n (inr (inr refl)) none).stay in
       let left : are_section_names_left (image_at_read image) image ≡ true =
-      both_false (has_names_in image n) (are_section_names_left (image_at_read image) image) (eq-eqb n n refl) (not_either _ _ moved.0).1 in
+      (users_stay (image_at_read image) image n (strings.as_read n (inr (inr refl)) none).stay).sections (eq-eqb n n refl) in
       let named : slice_get (names_of_sections (image_at_read image).sections) here.number ≡ Some here.was.name =
       at-map (λ (x : ImageSection). x.name) (image_at_read image).sections here.number here.was here.is_was in
       let now : slice_get (names_of_sections image.sections) i ≡ Some here.section.name =

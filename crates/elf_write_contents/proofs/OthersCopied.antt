@@ -2,30 +2,25 @@
 use Rattle.std.proofs.Common.{◌≡◌, ℕ, Bool, true, false, List, [], ◌∷◌, ◌++◌, refl, sym, ap, ◌∙◌, inl, inr, Option, Some, None}
 use Rattle.std.specs.Prelude.{◌==◌, if◌then◌else◌, map}
 use Rattle.std.specs.Str.{bytes_eq}
-use Rattle.std.proofs.lemmas.Bool.{and_parts, eqb-true, false≢true}
+use Rattle.std.proofs.lemmas.Bool.{eqb-true, false≢true}
 use Rattle.std.proofs.lemmas.List.{append-nil}
-use Rattle.std.proofs.lemmas.Option.{none-some, same_Some}
-use Rattle.patch_bytes.specs.Memory.{◌>>=◌}
-use Rattle.patch_bytes.proofs.MemoryLaws.{bind_some}
 use Rattle.elf_format.specs.declared.constants.TheConstants.{SHT_DYNAMIC, SHT_DYNSYM, SHT_GNU_VERDEF, SHT_GNU_VERNEED, SHT_SYMTAB}
 use Rattle.elf_format.specs.declared.records.SectionHeader.{SectionHeader}
 use Rattle.elf_format.specs.Dynamic.{Entry}
-use Rattle.elf_format.specs.File.{section_of_type}
-use Rattle.elf_format.specs.Image.{Image, ImageSection, entries_read}
+use Rattle.elf_format.specs.Image.{Image, ImageSection}
 use Rattle.elf_format.specs.Options.{first_there, is_one_of, is_some_and, list_at}
-use Rattle.elf_format.specs.Rules.{dynamic_tables_agree, shares_texts, texts_are_shared}
+use Rattle.elf_format.specs.Rules.{shares_texts, texts_are_shared}
 use Rattle.elf_format.specs.Versions.{VersionDefinition, VersionNeeds}
-use Rattle.elf_format.proofs.ForCallers.ViewsAgree.{test_at}
-use Rattle.elf_image.specs.Edited.{AreEntriesOf}
 use Rattle.elf_image.specs.Kept.{dynamic_strings_number, link_of_type}
 use Rattle.elf_image.specs.Needed.{lasting_types}
 use Rattle.elf_layout_plan.specs.Needs.{lists_needs, staying_needs, written_entries, written_needs}
 use Rattle.elf_layout_plan.specs.Texts.{if_linked, if_names, is_subsequence, is_table_copied, texts_in_use, texts_of_definitions, texts_of_entries, texts_of_needs, texts_of_symbols}
 use Rattle.elf_layout_plan.proofs.ForCallers.SameTexts.{subsequence_of_itself}
 use Rattle.elf_write_spec.specs.Ready.{IsEditedReady}
-use Rattle.elf_write_spec.proofs.ForCallers.WholeEdits.{ReadFacts, read_facts, type_at}
+use Rattle.elf_write_spec.proofs.ForCallers.WholeEdits.{ReadFacts, read_facts}
 use Rattle.elf_write_strings.specs.WrittenStrings.{IsEditedTable, has_names_in, has_texts_in}
-use Rattle.elf_write_strings.proofs.ForCallers.ReadTables.{link_by, linked_to, ready_edit, same_link}
+use Rattle.elf_write_strings.proofs.ForCallers.ReadTables.{linked_to, ready_edit, same_link}
+use Rattle.elf_write_strings.proofs.ForCallers.TextsShared.{list_linked, needs_share, no_entries_read, none_edited, shared_link, symbols_share}
 
 -- ## Lists of texts
 
@@ -77,71 +72,15 @@ not_linked : (linked : Option ℕ) (number : ℕ) (texts : List (List ℕ)) → 
     → texts_by linked number texts ≡ []
 not_linked linked number texts h = ap (λ b. if b then texts else []) h
 
--- no list where none was read
-pub none_edited : (was now : Option (List Entry)) → AreEntriesOf was now → was ≡ None → now ≡ None
-none_edited None None are none = refl
-none_edited None (Some now) are none = absurd are
-none_edited (Some read) now are none = absurd (none-some read (sym none))
-
-no_section : (o : Option SectionHeader) → (o >>= λ h. Some h.sh_link) ≡ None → o ≡ None
-no_section None h = refl
-no_section (Some s) h = absurd (none-some s.sh_link (sym h))
-
 module _ {read image : Image} (is : IsEditedReady read image) where
   facts : ReadFacts read image
   facts = read_facts read image (ready_edit is)
-
-  -- where a section of a type that lasts links is what its header says that was read
-  link_was : (type : ℕ) → is_one_of lasting_types type ≡ true
-      → link_of_type type image ≡ (section_of_type type facts.parts.sections >>= λ h. Some h.sh_link)
-  link_was type lasting = link_by read image facts type (type_at read image facts type lasting)
-
-  -- ## Where the dynamic list has its texts, all that is dynamic has its own
-
-  shared_at : (list : SectionHeader) → section_of_type SHT_DYNAMIC facts.parts.sections ≡ Some list → texts_are_shared facts.parts list ≡ true
-  shared_at list is_list =
-      (and_parts _ (texts_are_shared facts.parts list)
-      (test_at (λ (t : SectionHeader). dynamic_tables_agree facts.parts t) (section_of_type SHT_DYNAMIC facts.parts.sections) list
-      facts.rules.tables is_list)).1
-
-  shared_link : (l : ℕ) → link_of_type SHT_DYNAMIC image ≡ Some l → (type : ℕ) → is_one_of lasting_types type ≡ true
-      → ((list : SectionHeader) → texts_are_shared facts.parts list ≡ true → shares_texts facts.parts list type ≡ true)
-      → (m : ℕ) → link_of_type type image ≡ Some m → m ≡ l
-  shared_link l list_link type lasting shares m link =
-      let (list, list_is, list_own) = bind_some (section_of_type SHT_DYNAMIC facts.parts.sections) (λ h. Some h.sh_link) l
-      (sym (link_was SHT_DYNAMIC refl) ∙ list_link) in
-      let (user, user_is, user_own) = bind_some (section_of_type type facts.parts.sections) (λ h. Some h.sh_link) m
-      (sym (link_was type lasting) ∙ link) in
-      let both : user.sh_link ≡ list.sh_link =
-      eqb-true user.sh_link list.sh_link
-      (test_at (λ (s : SectionHeader). s.sh_link == list.sh_link) (section_of_type type facts.parts.sections) user
-      (shares list (shared_at list list_is)) user_is) in
-      sym (same_Some user.sh_link m user_own) ∙ both ∙ same_Some list.sh_link l list_own
-
-  symbols_share : (list : SectionHeader) → texts_are_shared facts.parts list ≡ true → shares_texts facts.parts list SHT_DYNSYM ≡ true
-  symbols_share list h = (and_parts _ _ (and_parts _ (shares_texts facts.parts list SHT_GNU_VERNEED) h).0).0
-
-  needs_share : (list : SectionHeader) → texts_are_shared facts.parts list ≡ true → shares_texts facts.parts list SHT_GNU_VERNEED ≡ true
-  needs_share list h = (and_parts _ (shares_texts facts.parts list SHT_GNU_VERNEED) h).1
-
-  -- the dynamic list has its texts among the dynamic strings
-  pub list_linked : (l : ℕ) → link_of_type SHT_DYNAMIC image ≡ Some l → dynamic_strings_number image ≡ Some l
-  list_linked l link = ap (λ (o : Option ℕ). first_there o (link_of_type SHT_DYNSYM image)) link
-
-  -- ## Without a list
-
-  pub no_entries_read : link_of_type SHT_DYNAMIC image ≡ None → read.entries ≡ None
-  unfolding entries_read
-  no_entries_read none =
-      let was : section_of_type SHT_DYNAMIC facts.parts.sections ≡ None =
-      no_section (section_of_type SHT_DYNAMIC facts.parts.sections) (sym (link_was SHT_DYNAMIC refl) ∙ none) in
-      sym (same_Some None read.entries (ap (entries_read facts.parts) (sym was) ∙ facts.holds.entries))
 
   needs_stay : read.entries ≡ None → image.entries ≡ None → written_needs read image ≡ written_needs read read
   unfolding written_needs
   needs_stay none_read none =
       ap (λ (o : Option (List Entry)). if is_some_and lists_needs o then staying_needs read image else image.needs) none
-      ∙ facts.edit.needs
+      ∙ facts.edit.needs.unlisted none_read
       ∙ sym (ap (λ (o : Option (List Entry)). if is_some_and lists_needs o then staying_needs read read else read.needs) none_read)
 
   -- ## A table
@@ -152,7 +91,7 @@ module _ {read image : Image} (is : IsEditedReady read image) where
       where
         by_list : (o : Option ℕ) → link_of_type SHT_DYNAMIC image ≡ o → is_some_and (λ link. link == number) o ≡ false
         by_list None o_is = refl
-        by_list (Some l) o_is = ap (is_some_and (λ link. link == number)) (sym (list_linked l o_is)) ∙ apart
+        by_list (Some l) o_is = ap (is_some_and (λ link. link == number)) (sym (list_linked image l o_is)) ∙ apart
 
     -- a user that shares the texts of the list links elsewhere, too
     user_apart : (l : ℕ) → link_of_type SHT_DYNAMIC image ≡ Some l → (type : ℕ) → is_one_of lasting_types type ≡ true
@@ -163,8 +102,8 @@ module _ {read image : Image} (is : IsEditedReady read image) where
         by_link : (o : Option ℕ) → link_of_type type image ≡ o → is_some_and (λ link. link == number) o ≡ false
         by_link None o_is = refl
         by_link (Some m) o_is =
-            ap (λ (n : ℕ). n == number) (shared_link l list_link type lasting shares m o_is)
-            ∙ ap (is_some_and (λ link. link == number)) (sym (list_linked l list_link)) ∙ apart
+            ap (λ (n : ℕ). n == number) (shared_link read image facts l list_link type lasting shares m o_is)
+            ∙ ap (is_some_and (λ link. link == number)) (sym (list_linked image l list_link)) ∙ apart
 
     symbols_apart : is_some_and (λ link. link == number) (link_of_type SHT_DYNSYM image) ≡ false
     symbols_apart = by_list (link_of_type SHT_DYNAMIC image) refl
@@ -172,7 +111,7 @@ module _ {read image : Image} (is : IsEditedReady read image) where
         by_list : (o : Option ℕ) → link_of_type SHT_DYNAMIC image ≡ o → is_some_and (λ link. link == number) (link_of_type SHT_DYNSYM image) ≡ false
         by_list None o_is =
             ap (λ (o : Option ℕ). is_some_and (λ link. link == number) (first_there o (link_of_type SHT_DYNSYM image))) (sym o_is) ∙ apart
-        by_list (Some l) o_is = user_apart l o_is SHT_DYNSYM refl symbols_share
+        by_list (Some l) o_is = user_apart l o_is SHT_DYNSYM refl (symbols_share read image facts)
 
     needs_same : if_linked image SHT_GNU_VERNEED number (texts_of_needs (written_needs read image))
         ≡ if_linked read SHT_GNU_VERNEED number (texts_of_needs (written_needs read read))
@@ -182,12 +121,12 @@ module _ {read image : Image} (is : IsEditedReady read image) where
             → if_linked image SHT_GNU_VERNEED number (texts_of_needs (written_needs read image))
             ≡ if_linked read SHT_GNU_VERNEED number (texts_of_needs (written_needs read read))
         by_list None o_is =
-            let none_read : read.entries ≡ None = no_entries_read o_is in
+            let none_read : read.entries ≡ None = no_entries_read read image facts o_is in
             ap (λ (o : Option ℕ). texts_by o number (texts_of_needs (written_needs read image))) (same_link is SHT_GNU_VERNEED refl)
             ∙ ap (λ (ns : List VersionNeeds). if_linked read SHT_GNU_VERNEED number (texts_of_needs ns))
             (needs_stay none_read (none_edited read.entries image.entries facts.edit.entries none_read))
         by_list (Some l) o_is =
-            let other = user_apart l o_is SHT_GNU_VERNEED refl needs_share in
+            let other = user_apart l o_is SHT_GNU_VERNEED refl (needs_share read image facts) in
             not_linked (link_of_type SHT_GNU_VERNEED image) number (texts_of_needs (written_needs read image)) other
             ∙ sym (not_linked (link_of_type SHT_GNU_VERNEED read) number (texts_of_needs (written_needs read read))
             (ap (is_some_and (λ link. link == number)) (sym (same_link is SHT_GNU_VERNEED refl)) ∙ other))

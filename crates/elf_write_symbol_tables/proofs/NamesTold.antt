@@ -2,21 +2,15 @@
 use Rattle.std.proofs.Common.{◌≡◌, ◌<◌, ℕ, ◌+◌, Bool, true, false, List, [], ◌∷◌, ◌++◌, append_assoc, get_or, length, map, refl, sym, ap, ◌∙◌, subst, Option, Some, None, arith}
 use Rattle.std.specs.Prelude.{◌&&◌, ◌==◌, IsSome, if◌then◌else◌, option_map, slice_index, unwrap_or}
 use Rattle.std.specs.List.{Contains, slice_get}
-use Rattle.std.proofs.lemmas.Bool.{and_parts, eqb-true, false≢true, ne_eqb}
+use Rattle.std.proofs.lemmas.Bool.{eqb-true, false≢true, ne_eqb}
 use Rattle.std.proofs.lemmas.List.{get_or-append-add, get_or-map, get_or_append_left, length-append, length-map}
-use Rattle.std.proofs.lemmas.Option.{get_or_from_slice_get, none-some, same_Some, slice_get-get_or, slice_get-map, slice_get_within}
-use Rattle.patch_bytes.specs.Memory.{◌>>=◌}
+use Rattle.std.proofs.lemmas.Option.{get_or_from_slice_get, same_Some, slice_get-get_or, slice_get-map, slice_get_within}
 use Rattle.elf_format.specs.declared.constants.TheConstants.{SHT_DYNAMIC, SHT_DYNSYM, SHT_GNU_VERDEF, SHT_GNU_VERNEED, SHT_SYMTAB}
-use Rattle.elf_format.specs.declared.records.SectionHeader.{SectionHeader}
-use Rattle.elf_format.specs.Dynamic.{Entry}
-use Rattle.elf_format.specs.File.{section_of_type}
-use Rattle.elf_format.specs.Image.{Image, ImageSection, entries_read}
-use Rattle.elf_format.specs.Options.{first_there, is_some_and, list_at}
-use Rattle.elf_format.specs.Rules.{dynamic_tables_agree, shares_texts, texts_are_shared}
+use Rattle.elf_format.specs.Image.{Image}
+use Rattle.elf_format.specs.Options.{is_some_and, list_at}
 use Rattle.elf_format.specs.Views.{NamedSymbol}
-use Rattle.elf_format.proofs.ForCallers.ViewsAgree.{test_at, there_if}
-use Rattle.elf_image.specs.Edited.{AreEntriesOf}
-use Rattle.elf_image.specs.Kept.{KeptSection, dynamic_strings_number, link_of_type}
+use Rattle.elf_format.proofs.ForCallers.ViewsAgree.{there_if}
+use Rattle.elf_image.specs.Kept.{link_of_type}
 use Rattle.elf_layout_plan.specs.Needs.{written_entries, written_needs}
 use Rattle.elf_layout_plan.specs.Texts.{if_linked, if_names, texts_in_use, texts_of_definitions, texts_of_entries, texts_of_needs, texts_of_symbols}
 use Rattle.elf_layout_sizes.specs.MadeTables.{IsMade}
@@ -24,9 +18,10 @@ use Rattle.elf_tables.specs.Strings.{StandsAt, Strings, place_of}
 use Rattle.elf_tables.specs.StringSteps.{StandsWith}
 use Rattle.elf_tables.proofs.ForCallers.StandingTexts.{stands-from}
 use Rattle.elf_write_spec.proofs.ForCallers.FinalEntries.{written_none}
-use Rattle.elf_write_spec.proofs.ForCallers.WholeEdits.{Nowhere, ReadFacts, There, TypeAt, type_at}
+use Rattle.elf_write_spec.proofs.ForCallers.WholeEdits.{ReadFacts}
 use Rattle.elf_write_strings.specs.declared.made.Made.{Made}
 use Rattle.elf_write_strings.specs.WrittenStrings.{IsTold}
+use Rattle.elf_write_strings.proofs.ForCallers.TextsShared.{no_entries_read, none_edited, shared_link, symbols_share}
 use Rattle.elf_write_strings.proofs.ForCallers.TextsTold.{linked_if, told_statics, told_symbols}
 use Rattle.elf_write_symbol_tables.specs.NamePlaces.{HasNames, TellsNames, begins_empty, place_in, place_of_name, place_of_named}
 
@@ -122,63 +117,8 @@ names_behind table texts front rest ys told is =
           ap (place_of table) (sym here) ∙ told_at table texts (length front + i) told (omega (arith, low, long));
     }
 
--- no list where none was read
-none_edited : (was now : Option (List Entry)) → AreEntriesOf was now → was ≡ None → now ≡ None
-none_edited None None are none = refl
-none_edited None (Some now) are none = absurd are
-none_edited (Some read) now are none = absurd (none-some read (sym none))
-
 in_two : (a b c d e f : List (List ℕ)) → a ++ b ++ c ++ d ++ e ++ f ≡ a ++ (b ++ (c ++ d ++ e ++ f))
 in_two a b c d e f = simp append_assoc
-
-module _ (read image : Image) (f : ReadFacts read image) where
-  shared_at : (list : SectionHeader) → section_of_type SHT_DYNAMIC f.parts.sections ≡ Some list → texts_are_shared f.parts list ≡ true
-  shared_at list is_list =
-      (and_parts _ (texts_are_shared f.parts list)
-      (test_at (λ (t : SectionHeader). dynamic_tables_agree f.parts t) (section_of_type SHT_DYNAMIC f.parts.sections) list f.rules.tables is_list)).1
-
-  symbols_share : (list : SectionHeader) → texts_are_shared f.parts list ≡ true → shares_texts f.parts list SHT_DYNSYM ≡ true
-  symbols_share list h = (and_parts _ _ (and_parts _ (shares_texts f.parts list SHT_GNU_VERNEED) h).0).0
-
-  -- the dynamic symbols have their names where the dynamic list has its texts
-  shared_link : (l m : ℕ) → link_of_type SHT_DYNAMIC image ≡ Some l → link_of_type SHT_DYNSYM image ≡ Some m → m ≡ l
-  shared_link l m list_link link = by_types (type_at read image f SHT_DYNAMIC refl) (type_at read image f SHT_DYNSYM refl)
-    where
-      link_of : Option KeptSection → Option ℕ
-      link_of o = o >>= λ s. Some s.section.sh_link
-
-      by_types : TypeAt read image f.parts SHT_DYNAMIC → TypeAt read image f.parts SHT_DYNSYM → m ≡ l
-      by_types (Nowhere _ now) of_symbols = absurd (none-some l (sym (ap link_of now) ∙ list_link))
-      by_types (There i list _ _ was now) (Nowhere _ none) = absurd (none-some m (sym (ap link_of none) ∙ link))
-      by_types (There i list _ _ was now) (There j user _ _ user_was user_now) =
-          let list_own : list.section.sh_link ≡ l = same_Some list.section.sh_link l (sym (ap link_of now) ∙ list_link) in
-          let own : user.section.sh_link ≡ m = same_Some user.section.sh_link m (sym (ap link_of user_now) ∙ link) in
-          let both : user.old.sh_link ≡ list.old.sh_link =
-          eqb-true user.old.sh_link list.old.sh_link
-          (test_at (λ (s : SectionHeader). s.sh_link == list.old.sh_link) (section_of_type SHT_DYNSYM f.parts.sections) user.old
-          (symbols_share list.old (shared_at list.old was)) user_was) in
-          sym own ∙ ap (λ (x : ImageSection). x.sh_link) user.of_old.fields ∙ both
-          ∙ sym (ap (λ (x : ImageSection). x.sh_link) list.of_old.fields) ∙ list_own
-
-  -- so these are the dynamic strings
-  pub symbols_linked : (m : ℕ) → link_of_type SHT_DYNSYM image ≡ Some m → dynamic_strings_number image ≡ Some m
-  symbols_linked m link = by_list (link_of_type SHT_DYNAMIC image) refl
-    where
-      by_list : (o : Option ℕ) → link_of_type SHT_DYNAMIC image ≡ o → first_there o (link_of_type SHT_DYNSYM image) ≡ Some m
-      by_list None o_is = link
-      by_list (Some l) o_is = ap (λ (n : ℕ). Some n) (sym (shared_link l m o_is link))
-
-  nothing_read : section_of_type SHT_DYNAMIC f.parts.sections ≡ None → read.entries ≡ None
-  unfolding entries_read
-  nothing_read was = sym (same_Some None read.entries (ap (entries_read f.parts) (sym was) ∙ f.holds.entries))
-
-  no_entries_read : link_of_type SHT_DYNAMIC image ≡ None → read.entries ≡ None
-  no_entries_read none = by_type (type_at read image f SHT_DYNAMIC refl)
-    where
-      by_type : TypeAt read image f.parts SHT_DYNAMIC → read.entries ≡ None
-      by_type (Nowhere was now) = nothing_read was
-      by_type (There i at _ _ _ now) =
-          absurd (none-some at.section.sh_link (sym none ∙ ap (λ (o : Option KeptSection). o >>= λ s. Some s.section.sh_link) now))
 
 module _ (read image : Image) (f : ReadFacts read image) (m : Made) (told : IsTold read image m)
     (link : link_of_type SHT_DYNSYM image ≡ Some m.number) where
@@ -191,7 +131,7 @@ module _ (read image : Image) (f : ReadFacts read image) (m : Made) (told : IsTo
     where
       by_link : (o : Option ℕ) → link_of_type SHT_DYNAMIC image ≡ o → if_linked image SHT_DYNAMIC m.number front ≡ front
       by_link (Some n) o_is =
-          let same : m.number ≡ n = shared_link read image f n m.number o_is link in
+          let same : m.number ≡ n = shared_link read image f n o_is SHT_DYNSYM refl (symbols_share read image f) m.number link in
           linked_if image SHT_DYNAMIC m.number front (o_is ∙ ap (λ (k : ℕ). Some k) (sym same))
       by_link None o_is =
           let none_read : read.entries ≡ None = no_entries_read read image f o_is in

@@ -1,13 +1,13 @@
 -- Symbols that have the names that they had at read, and sections of symbols whose bytes are those that were read.
 use Rattle.std.proofs.Common.{◌≡◌, ◌<◌, ℕ, zero, suc, Bool, true, false, List, [], ◌∷◌, length, map, refl, sym, ap, ◌∙◌, subst, Option, Some, None, arith, inl, inr}
-use Rattle.std.specs.Prelude.{◌&&◌, ◌||◌, ◌*◌, ◌↔◌, ◌==◌, not, IsTrue, option_map}
+use Rattle.std.specs.Prelude.{◌&&◌, ◌*◌, ◌↔◌, ◌==◌, IsTrue, option_map}
 use Rattle.std.specs.List.{list_all, slice_get}
 use Rattle.std.specs.Str.{bytes_eq}
 use Rattle.std.specs.Cmp.Lexicographic.{bytes_decides}
 use Rattle.std.proofs.lemmas.Bool.{and_from, and_parts, both_ways, eq-eqb, eqb-true, false_from_ne_true, false≢true}
 use Rattle.std.proofs.lemmas.List.{length-map}
 use Rattle.std.proofs.lemmas.Option.{get_or_from_slice_get, none-some, same_Some, slice_get-map, slice_get_within}
-use Rattle.elf_format.specs.declared.constants.TheConstants.{SHT_DYNAMIC, SHT_DYNSYM, SHT_SYMTAB}
+use Rattle.elf_format.specs.declared.constants.TheConstants.{SHT_DYNSYM, SHT_SYMTAB}
 use Rattle.elf_format.specs.declared.records.SymbolNumbers.{SymbolNumbers}
 use Rattle.elf_format.specs.Image.{Image, ImageSection, image_of}
 use Rattle.elf_format.specs.Options.{is_some_and}
@@ -32,65 +32,36 @@ use Rattle.elf_write_spec.proofs.ForCallers.OrderFacts.{all_there, names_count, 
 use Rattle.elf_write_spec.proofs.ForCallers.WholeEdits.{ReadFacts, symbols_written}
 use Rattle.elf_write_spec.proofs.ForCallers.WholeLists.{all-each, same_items, there_at}
 use Rattle.elf_write_strings.specs.declared.made.Made.{Made}
-use Rattle.elf_write_strings.specs.WrittenStrings.{AreStrings, IsEditedTable, IsTold, are_section_names_left, are_static_names_left, are_texts_left, content_read, do_texts_move, has_names_in, has_texts_in, is_list_left, made_of, strings_at}
+use Rattle.elf_write_strings.specs.WrittenStrings.{AreStrings, IsEditedTable, IsTold, are_static_names_left, are_texts_left, content_read, made_of, strings_at}
+use Rattle.elf_write_strings.proofs.ForCallers.TextsShared.{symbols_linked}
+use Rattle.elf_write_strings.proofs.ForCallers.UsersStay.{has_link, users_stay}
 use Rattle.elf_write_strings.proofs.ForCallers.VersionsShown.{number_found, strings_copied, strings_made}
 use Rattle.elf_write_symbols.proofs.ForCallers.ReadyFacts.{facts}
 use Rattle.elf_write_symbol_tables.specs.SymbolSteps.{ShowsSymbols, is_section_kept, record_with}
-use Rattle.elf_write_symbol_tables.proofs.NamesTold.{symbols_linked}
 use Rattle.elf_write_symbol_tables.proofs.Spelled.{each_symbol}
 use Rattle.elf_write_symbol_tables.proofs.SymbolsShown.{IsPicked, dynamic_final, dynamic_long, dynamic_picked, section_stays, shown_with, static_final}
 use Rattle.elf_write_symbol_tables.proofs.TablesRead.{IsOfRecord, IsTable, dynamic_link, dynamic_table, static_link, static_table}
 
 -- ## Names of a string table that is as it was read
 
-neither : (a b c d e : Bool) → ((((a && b) || c) || d) || e) ≡ false → a ≡ true → b ≡ false
-neither true false c d e h _ = refl
-neither true true c d e h _ = absurd (false≢true (sym h))
-neither false b c d e h other = absurd (false≢true other)
-
--- the second of them
-nor : (a b c d e : Bool) → (((a || (b && c)) || d) || e) ≡ false → b ≡ true → c ≡ false
-nor false true false d e h _ = refl
-nor false true true d e h _ = absurd (false≢true (sym h))
-nor true b c d e h _ = absurd (false≢true (sym h))
-nor false false c d e h other = absurd (false≢true other)
-
-not-false : (b : Bool) → not b ≡ false → b ≡ true
-not-false true h = refl
-not-false false h = absurd (false≢true (sym h))
-
--- a section of a type links to a table
-has_link : (image : Image) (type number : ℕ) → link_of_type type image ≡ Some number → has_texts_in image type number ≡ true
-has_link image type number link = ap (is_some_and (λ n. n == number)) link ∙ eq-eqb number number refl
-
 module _ (read image : Image) (is : IsEditedReady read image) (made : List Made) (are : AreStrings read image made) (s : ImageSection) where
   -- dynamic symbols whose strings aren't told anew have the names that were read
   pub dynamic_same : IsSectionOfType SHT_DYNSYM image s → made_of made s.sh_link ≡ None → are_names_changed read image ≡ false
-  unfolding do_texts_move
   dynamic_same at none =
       let number : ℕ = s.sh_link in
       let user : link_of_type SHT_DYNSYM image ≡ Some number = dynamic_link read image is s at in
       let edited : IsEditedTable image number = inl (symbols_linked read image (facts read image is) number user) in
-      neither (has_texts_in image SHT_DYNSYM number) (are_names_changed read image)
-      (has_texts_in image SHT_SYMTAB number && not (are_static_names_left read image))
-      (has_names_in image number && not (are_section_names_left read image))
-      (has_texts_in image SHT_DYNAMIC number && not (is_list_left read image)) (are.as_read number edited none).stay
-      (has_link image SHT_DYNSYM number user)
+      (users_stay read image number (are.as_read number edited none).stay).dynamic (has_link image SHT_DYNSYM number user)
 
   static_edited : IsSectionOfType SHT_SYMTAB image s → IsEditedTable image s.sh_link
   static_edited at = inr (inl (static_link read image is s at))
 
   -- so have static symbols, each by its number at read
   pub static_left : IsSectionOfType SHT_SYMTAB image s → made_of made s.sh_link ≡ None → are_static_names_left read image ≡ true
-  unfolding do_texts_move
   static_left at none =
       let number : ℕ = s.sh_link in
-      not-false (are_static_names_left read image)
-      (nor (has_texts_in image SHT_DYNSYM number && are_names_changed read image)
-      (has_texts_in image SHT_SYMTAB number) (not (are_static_names_left read image))
-      (has_names_in image number && not (are_section_names_left read image))
-      (has_texts_in image SHT_DYNAMIC number && not (is_list_left read image)) (are.as_read number (static_edited at) none).stay
-      (has_link image SHT_SYMTAB number (static_link read image is s at)))
+      (users_stay read image number (are.as_read number (static_edited at) none).stay).statics
+      (has_link image SHT_SYMTAB number (static_link read image is s at))
 
   -- the strings that a section of static symbols links to are copied where they are as they were read
   pub static_copied : IsSectionOfType SHT_SYMTAB image s → made_of made s.sh_link ≡ None → true ≡ is_table_copied read image s.sh_link
