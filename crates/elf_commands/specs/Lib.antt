@@ -5,6 +5,7 @@ pub mod ElfStores
 pub mod ElfWords
 pub mod Failures
 pub mod Meaning
+pub mod Moving
 pub mod Noting
 pub mod Prints
 pub mod ShrinkRuns
