@@ -1,7 +1,7 @@
 -- What a command asks for that names one edit.
 use Rattle.std.proofs.Common.{◌≡◌, ap, sym, Some}
 use Rattle.std.proofs.lemmas.Option.{none-some, same_Some}
-use Rattle.elf_commands_groups.specs.Groups.{GroupEdit, plain, symbols}
+use Rattle.elf_commands_steps.specs.Groups.{GroupEdit, plain, symbols}
 use Rattle.elf_commands.specs.ElfAsked.{asked_of_one, elf_asked}
 use Rattle.elf_commands.specs.ElfWords.{group_edit_asked}
 use Rattle.elf_commands.specs.Meaning.{ElfMeaning, edit_elf, symbols_elf}

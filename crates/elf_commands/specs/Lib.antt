@@ -1,3 +1,4 @@
+pub use Rattle.elf_commands_steps.specs.Shrinking
 pub mod ElfAsked
 pub mod ElfEngine
 pub mod ElfErrors

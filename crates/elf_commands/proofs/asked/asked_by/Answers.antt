@@ -1,7 +1,7 @@
 -- A command that names one edit asks for that.
 use Rattle.std.proofs.Common.{◌∙◌, ap, subst, sym}
 use Rattle.std.specs.Option.{option_map}
-use Rattle.elf_commands_groups.specs.Groups.{group_model}
+use Rattle.elf_commands_steps.specs.Groups.{group_model}
 use Rattle.elf_commands.specs.ElfAsked.{ElfAsked}
 use Rattle.elf_commands.specs.ElfEngine.{AreAsked}
 use Rattle.elf_commands.specs.Meaning.{elf_command_model}
