@@ -482,8 +482,15 @@ const ELF_EDITS: &str = "Edits:
   rename-sections [OLD=NEW]...
   delete-sections [NAME]...
 
+With --move-dynamic, the dynamic section moves where it has no room for a further entry.
+
 Example:
   arwen elf apply libgreet.so set-soname libgreet.so.1 + add-rpath /opt/lib
+";
+
+/// What help says of an edit that may need a further entry below its values.
+const MOVED: &str =
+    "With --move-dynamic, the dynamic section moves where it has no room for a further entry.
 ";
 
 /// The commands for ELF files.
@@ -493,7 +500,7 @@ pub static ELF_ROWS: [Row; 30] = [
         about: "Add an entry for a debugger",
         form: ValueForm::Path,
         is_edit: true,
-        more: "",
+        more: MOVED,
     },
     Row {
         name: clear_execstack::NAME,
@@ -514,7 +521,7 @@ pub static ELF_ROWS: [Row; 30] = [
         about: "Leave out the default directories",
         form: ValueForm::Path,
         is_edit: true,
-        more: "",
+        more: MOVED,
     },
     Row {
         name: remove_rpath::NAME,
@@ -538,7 +545,7 @@ pub static ELF_ROWS: [Row; 30] = [
             help: "Directory to add",
         }),
         is_edit: true,
-        more: "",
+        more: MOVED,
     },
     Row {
         name: set_rpath::NAME,
@@ -548,7 +555,7 @@ pub static ELF_ROWS: [Row; 30] = [
             help: "Directories, with a colon between two",
         }),
         is_edit: true,
-        more: "",
+        more: MOVED,
     },
     Row {
         name: set_interpreter::NAME,
@@ -578,7 +585,7 @@ pub static ELF_ROWS: [Row; 30] = [
             help: "New name",
         }),
         is_edit: true,
-        more: "",
+        more: MOVED,
     },
     Row {
         name: set_page_size::NAME,
@@ -608,7 +615,7 @@ pub static ELF_ROWS: [Row; 30] = [
             help: "Names of the libraries",
         }),
         is_edit: true,
-        more: "",
+        more: MOVED,
     },
     Row {
         name: remove_needed::NAME,
