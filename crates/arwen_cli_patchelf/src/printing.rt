@@ -8,9 +8,9 @@ ghost use Rattle.arwen_cli_patchelf.specs.Printing.{HasPrintCause, HasPrintCause
 
 use arwen_cli_peers::AskedOption;
 use arwen_cli_peers::asked::is_given;
-use arwen_elf::CountedWrite;
 use byte_store::{Opens, Store};
 use elf_commands::elf::{print_rpath, print_store};
+use elf_commands::files::CountedWrite;
 use elf_commands::{ElfCommand, ElfCommandError};
 use std::alloc::{AllocError, Global};
 

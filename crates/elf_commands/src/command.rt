@@ -14,7 +14,7 @@ use crate::elf::{
 use command_words::{
     Row, Value, ValueError, ValueForm, ValueOption, Values, copied, number_of, pairs_of,
 };
-use elf_commands_groups::{GroupEdit, SymbolTexts, bytes_of, pairs_copied, texts_of};
+use elf_commands_steps::{GroupEdit, SymbolTexts, bytes_of, pairs_copied, texts_of};
 use elf_edits::ElfEdit;
 use std::alloc::{AllocError, Global};
 use std::slice;
@@ -91,9 +91,10 @@ impl ElfCommand {
     ghost use Rattle.elf_edits.specs.EditModel.{edit_model};
     ghost use Rattle.elf_commands.specs.ElfAsked.{elf_asked, is_printing};
     ghost use Rattle.elf_commands.specs.ElfWords.{elf_edit_asked, group_edit_asked, symbols_asked};
-    ghost use Rattle.elf_commands.specs.Meaning.{elf_file_of, elf_lines, elf_command_model, meant_moving, reading_of};
-    ghost use Rattle.elf_commands_groups.specs.Groups.{group_model};
-    ghost use Rattle.elf_commands_groups.specs.SymbolTexts.{symbol_texts_model};
+    ghost use Rattle.elf_commands.specs.Meaning.{elf_file_of, elf_lines, elf_command_model, reading_of};
+    ghost use Rattle.elf_commands.specs.Moving.{meant_moving};
+    ghost use Rattle.elf_commands_steps.specs.Groups.{group_model};
+    ghost use Rattle.elf_commands_steps.specs.SymbolTexts.{symbol_texts_model};
     ghost use Rattle.command_words.specs.Rows.{given_model, meant_with, options, path, text, words as words_given};
     ghost use Rattle.command_words.specs.WordValues.{TellsNoValue};
 

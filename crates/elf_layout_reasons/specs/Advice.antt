@@ -53,7 +53,7 @@ part_words parts.SegmentEdge = codes "the edge of a loaded segment"
 part_words (parts.Section position) = codes "section " ++ decimal position
 
 abbrev pub advice_words : Advice → Words
-advice_words advice.SpareEntries = codes "no spare entry"
+advice_words advice.SpareEntries = codes "no spare entry (--move-dynamic lets it move)"
 advice_words advice.SpareHeaders = codes "no room for a further entry"
 
 -- a name, lossily, or other words where it is empty

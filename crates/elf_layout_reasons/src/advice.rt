@@ -51,7 +51,7 @@ impl Advice {
         ensures { result.now ≡ advice_words self }
     {
         match self {
-            Advice::SpareEntries => "no spare entry",
+            Advice::SpareEntries => "no spare entry (--move-dynamic lets it move)",
             Advice::SpareHeaders => "no room for a further entry",
         }
     }
