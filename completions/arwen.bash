@@ -13,7 +13,7 @@ _arwen() {
     if [ "$COMP_CWORD" -eq 2 ]; then
         case "${COMP_WORDS[1]}" in
         macho) words="delete-rpath change-rpath add-rpath change-install-name change-install-id apply sign verify help" ;;
-        elf) words="add-debug-tag clear-exec-stack force-rpath no-default-lib remove-rpath set-exec-stack add-rpath set-rpath set-interpreter set-os-abi set-soname set-page-size clear-symbol-version add-needed remove-needed replace-needed rename-dynamic-symbols apply shrink-rpath rename-symbols delete-symbols rename-sections delete-sections print-rpath print-needed print-soname print-interpreter print-os-abi print-exec-stack help" ;;
+        elf) words="add-debug-tag clear-exec-stack force-rpath no-default-lib remove-rpath set-exec-stack add-rpath set-rpath set-interpreter set-os-abi set-soname set-page-size clear-symbol-version add-needed remove-needed replace-needed replace-library rename-dynamic-symbols apply shrink-rpath rename-symbols delete-symbols rename-sections delete-sections print-rpath print-needed print-soname print-interpreter print-os-abi print-exec-stack help" ;;
         help) words="macho elf show" ;;
         esac
         COMPREPLY=($(compgen -W "$words" -- "$word"))
@@ -27,6 +27,13 @@ _arwen() {
         'macho change-install-name') words="--sign" ;;
         'macho change-install-id') words="--sign" ;;
         'macho apply') words="--sign" ;;
+        'elf add-debug-tag') words="--move-dynamic" ;;
+        'elf no-default-lib') words="--move-dynamic" ;;
+        'elf add-rpath') words="--move-dynamic" ;;
+        'elf set-rpath') words="--move-dynamic" ;;
+        'elf set-soname') words="--move-dynamic" ;;
+        'elf add-needed') words="--move-dynamic" ;;
+        'elf apply') words="--move-dynamic" ;;
         'elf shrink-rpath') words="--allowed-rpath-prefixes" ;;
         esac
         COMPREPLY=($(compgen -W "$words --quiet --help" -- "$word"))

@@ -22,6 +22,7 @@ import model  # noqa: E402
 
 PT_LOAD, PT_DYNAMIC, PT_INTERP, PT_GNU_STACK = 1, 2, 3, 0x6474E551
 DT_STRTAB, DT_STRSZ = 5, 10
+LEAVE = "--move-dynamic"
 # What only the layout knows, and what only a reader of a whole file does.
 OVERLAP = "Overlapping immovable sections"
 UNREAD = "A parse error occurred while reading the file"
@@ -206,11 +207,11 @@ def not_found(symbols):
     return None
 
 
-def left_needs(symbols, rows):
+def left_needs(needs, before, rows):
     """The needed versions that stay: those that a symbol has, and those that none had before; a library goes with its last."""
-    had, has = ({version[0] for _, version, _ in some if version} for some in (symbols.rows, rows))
+    had, has = ({version[0] for _, version, _ in some if version} for some in (before, rows))
     made = []
-    for library, names in symbols.needs:
+    for library, names in needs:
         stay = [name for name in names if name[0] in has or name[0] not in had]
         if stay or not names:
             made.append((library, stay))
@@ -227,9 +228,9 @@ def compare_symbols(old, new, image):
     """The dynamic list as it is written, and what is wrong with the symbols of new bytes, where those of an image are meant."""
     before, after = Symbols(model.File(old)), Symbols(model.File(new))
     meant = [(name, version, row[2]) for (name, version), row in zip(image.symbols, before.rows)]
-    entries, needs = image.entries, before.needs
+    entries, needs = image.entries, [(file, names) for file, (_, names) in zip(image.version_files, before.needs)]
     if is_droppable(before.file.entries):
-        needs = left_needs(before, meant)
+        needs = left_needs(needs, before.rows, meant)
         if before.needs and not needs:
             entries = [entry for entry in entries if entry[0] not in (DT_VERNEED, DT_VERNEEDNUM)]
     why = None
@@ -348,18 +349,62 @@ def compare_shrunk(data, words, printed, has_text):
     return new, None if seen == meant else "shown are %r, meant %r" % (seen, meant)
 
 
+def without_leave(words):
+    """The words of a command without those that give leave that the dynamic section moves, and whether there is one."""
+    end = words.index("--") if "--" in words else len(words)
+    left = [word for word in words[:end] if word != LEAVE] + words[end:]
+    return left, len(left) != len(words)
+
+
+def place_of(data):
+    """Address, offset and size of the dynamic section, as its program header has them, and the segments that are loaded."""
+    segments = Loaded(data).segments
+    place = next((row[2:5] for row in segments if row[0] == PT_DYNAMIC), None)
+    return place and (place[1], place[0], place[2]), [row for row in segments if row[0] == PT_LOAD]
+
+
+def written_anew(data):
+    """Where the program header table and the interpreter stand."""
+    file, loaded = model.File(data), Loaded(data)
+    start = file.number(file.word, 32 if file.big else 28)
+    yield from range(start, start + len(loaded.segments) * (56 if file.big else 32))
+    for kind, _, offset, _, size, _ in loaded.segments:
+        if kind == PT_INTERP:
+            yield from range(offset, offset + size)
+
+
+def why_misplaced(old, new, has_leave):
+    """What is wrong with the place of the dynamic section: with leave alone it moves, into an added segment that may be written, and
+    its old place keeps its bytes, but for those that the program header table or the interpreter has now."""
+    (before, segments), (after, loaded) = place_of(old), place_of(new)
+    if before is None or before[0] == after[0]:
+        return None
+    if not has_leave:
+        return "the dynamic section moved"
+    _, offset, size = before
+    written = set(written_anew(new))
+    if any(new[at] != old[at] and at not in written for at in range(offset, offset + size)):
+        return "the old place of the dynamic section has other bytes"
+    holder = next(row for row in loaded if row[3] <= after[0] and after[0] + after[2] <= row[3] + row[4])
+    if not holder[1] & 2 or any(holder[3] < row[3] + row[4] for row in segments):
+        return "the segment of the dynamic section may not be written, or isn't behind all others"
+    return None
+
+
 def compare(data, words, lines):
     """The new bytes of a file, and what is wrong with the answer to a command that edits it."""
+    words, has_leave = without_leave(words)
     edits, fault = edits_of(words)
     status = lines[0]
     if fault is not None:
-        return data, None if words[0] == "apply" and fault.strip() in status else "not told: " + fault
+        is_list = words[0] == "apply" or has_leave
+        return data, None if is_list and fault.strip() in status else "not told: " + fault
     image = model.Image(model.File(data))
     for index, edit in enumerate(edits):
         why = model.cause(edit, image.facts())
         if why is not None:
             told = model.refusal(why)
-            place = "edit %d: " % index if words[0] == "apply" else ""
+            place = "edit %d: " % index if words[0] == "apply" or has_leave else ""
             is_told = status.startswith("status 1: ") and place in status and status.endswith(told)
             return data, None if is_told else "not told: " + place + told
         image.edit(edit)
@@ -374,6 +419,9 @@ def compare(data, words, lines):
     seen, meant = shows(new), (entries, image.interpreter, image.stack, image.abi)
     if seen != meant:
         return new, "shown are %r, meant %r" % (seen, meant)
+    why = why_misplaced(data, new, has_leave)
+    if why is not None:
+        return new, why
     sizes = [edit[1][0] for edit in edits if edit[0] == "set-page-size"]
     if sizes and set(Loaded(new).aligned) != {sizes[-1]}:
         return new, "segments aligned to %r" % Loaded(new).aligned
@@ -409,9 +457,26 @@ def is_edit(line, printed):
     """Whether a line is an edit of the ELF file that lines work on, and it was read."""
     kind, *words = line.split(" ")
     names = model.ALONE + model.ONE + model.MANY + ["apply", "shrink-rpath"]
-    is_named = words[:1] == ["elf"] and len(words) > 2 and words[1] in names
+    is_named = words[:1] == ["elf"] and len(words) > 2 and words[1] in names and words[1:3] != ["shrink-rpath", LEAVE]
+    is_known = is_named and not any(word in model.OF_TABLES for word in words)
     is_of_file = "file" in words or "f" in words
-    return kind in (">", "m", "!", "p") and is_named and is_of_file and printed[:1] != [] and is_checked(printed[0])
+    return kind in (">", "m", "!", "p") and is_known and is_of_file and printed[:1] != [] and is_checked(printed[0])
+
+
+def is_shown(data):
+    """Whether the model reads a file."""
+    try:
+        shows(data)
+    except (ValueError, TypeError, IndexError, KeyError, model.struct.error):
+        return False
+    return True
+
+
+def after_line(data, printed):
+    """The bytes of a file after a line that is done to it."""
+    at = next((i for i, line in enumerate(printed) if line.startswith("status ")), len(printed))
+    rows = printed[at + 1 :]
+    return laid(data, rows) if rows and re.fullmatch("[0-9]+ bytes", rows[0]) else data
 
 
 def check_edit(data, line, printed):
@@ -430,19 +495,14 @@ def check_lines(text, folder):
         if kind == "=":
             path = os.path.join(folder, words[0])
             data = model.content(folder, words[0]) if os.path.isfile(path) else None
-        if not is_edit(line, printed):
-            continue
-        try:
-            shows(data)
-        except (ValueError, TypeError, IndexError, KeyError, model.struct.error):
-            continue
-        new, why = check_edit(data, line, printed)
-        count += 1
-        if why is not None:
-            wrong += 1
-            print("%s\n    %s" % (line, why))
-        if kind in (">", "m"):
-            data = new
+        after = after_line(data, printed) if kind in (">", "m") and data else data
+        if is_edit(line, printed) and is_shown(data):
+            new, why = check_edit(data, line, printed)
+            count += 1
+            if why is not None:
+                wrong += 1
+                print("%s\n    %s" % (line, why))
+        data = after
     return count, wrong
 
 

@@ -14,6 +14,10 @@ For each linker and machine there is
 - `program-LINKER-MACHINE`: a program with an interpreter, two needed libraries, a run path (DT_RPATH) and a stack that
   may be run.
 
+For some of them there is
+
+- `both-LINKER-MACHINE`: a shared library that needs two libraries, and a version of each.
+
 Besides there are, each by one linker, a program without a dynamic section and without an interpreter, and a library
 without a program header for the stack, and what objcopy keeps of a program for a debugger. No file is made by hand.
 """
@@ -26,6 +30,7 @@ import tempfile
 HELP = "int help(void) { return 2; }\n"
 GREET = "extern int help(void);\nint number = 1;\nint greet(void) { return help() + number; }\n"
 HELLO = "extern int greet(void);\nvoid _start(void) { greet(); for (;;); }\n"
+BOTH = "extern int greet(void), help(void);\nint both(void) { return greet() + help(); }\n"
 ALONE = "void _start(void) { for (;;); }\n"
 
 HELP_VERSIONS = "HELP_1 { global: help; local: *; };\n"
@@ -53,6 +58,8 @@ LINKERS = {
     "gnu": (["ld.bfd"], ["x86_64", "i386"]),
     "lld": (["ld.lld"], list(MACHINES)),
 }
+# Linkers and machines of libraries that need a version of each of two others.
+OF_BOTH = [("gnu", "x86_64"), ("gnu", "i386"), ("lld", "x86_64"), ("lld", "ppc")]
 
 
 class Workshop:
@@ -61,8 +68,8 @@ class Workshop:
     def __init__(self, folder):
         self.folder = folder
         for name, text in [
-            ("help.c", HELP), ("greet.c", GREET), ("hello.c", HELLO), ("alone.c", ALONE),
-            ("help.map", HELP_VERSIONS), ("greet.map", GREET_VERSIONS),
+            ("help.c", HELP), ("greet.c", GREET), ("hello.c", HELLO), ("both.c", BOTH),
+            ("alone.c", ALONE), ("help.map", HELP_VERSIONS), ("greet.map", GREET_VERSIONS),
         ]:
             with open(os.path.join(folder, name), "w") as file:
                 file.write(text)
@@ -109,6 +116,14 @@ def pair(shop, linker, machine):
     return shop.content("libgreet.so"), shop.content("hello")
 
 
+def both(shop, linker, machine):
+    """A library that needs the two others, which were just made."""
+    shop.compile(machine, "both")
+    shop.link(linker, machine, "libboth.so", "-shared", "--hash-style=" + MACHINES[machine][3], "-soname", "libboth.so.1",
+              "both.o", "libgreet.so", "libhelp.so")
+    return shop.content("libboth.so")
+
+
 def files(shop):
     """The files by their names."""
     made = {}
@@ -117,6 +132,8 @@ def files(shop):
             library, program = pair(shop, linker, machine)
             made["library-%s-%s" % (linker, machine)] = library
             made["program-%s-%s" % (linker, machine)] = program
+            if (linker, machine) in OF_BOTH:
+                made["both-%s-%s" % (linker, machine)] = both(shop, linker, machine)
     shop.compile("x86_64", "alone")
     shop.link("gnu", "x86_64", "alone", "alone.o")
     made["static-gnu-x86_64"] = shop.content("alone")

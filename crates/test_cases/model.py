@@ -26,15 +26,19 @@ ABIS = {
 TASKS = {
     "add-debug-tag": "add debug entry", "remove-rpath": "delete runpath", "set-rpath": "set runpath",
     "add-rpath": "add runpath", "force-rpath": "change rpath", "remove-needed": "delete needed library",
-    "replace-needed": "replace needed library", "add-needed": "add needed library", "set-soname": "set soname",
-    "no-default-lib": "set soname",
+    "replace-needed": "replace needed library", "replace-library": "replace needed library",
+    "add-needed": "add needed library", "set-soname": "set soname", "no-default-lib": "set soname",
 }
 PAGES = {0x9026: 65536, 50: 65536, 8: 65536, 20: 65536, 21: 65536, 183: 65536, 191: 65536, 258: 65536, 2: 8192, 43: 8192}
 ALONE = ["add-debug-tag", "clear-exec-stack", "force-rpath", "no-default-lib", "remove-rpath", "set-exec-stack"]
 ONE = ["add-rpath", "set-rpath", "set-interpreter", "set-os-abi", "set-soname", "set-page-size", "clear-symbol-version"]
-MANY = ["add-needed", "remove-needed", "replace-needed", "rename-dynamic-symbols"]
-PAIRS = ["replace-needed", "rename-dynamic-symbols"]
+MANY = ["add-needed", "remove-needed", "replace-needed", "replace-library", "rename-dynamic-symbols"]
+# Edits that no batch takes: of symbols for link editors, and of sections. Only their words are read here.
+OF_TABLES = ["rename-symbols", "delete-symbols", "rename-sections", "delete-sections"]
+PAIRS = ["replace-needed", "replace-library", "rename-dynamic-symbols", "rename-symbols", "rename-sections"]
 OF_SYMBOLS = ["rename-dynamic-symbols", "clear-symbol-version"]
+# Files of lines about edits of which this model says nothing.
+UNKNOWN = ["edits/symbols-by-calls"]
 
 
 def lowered(text):
@@ -54,7 +58,7 @@ def split(line):
 
 
 def read_edits(line):
-    """The edits of words, each with its values, or the fault in its words."""
+    """The edits of words that a batch takes, each with its values, or the fault in the words."""
     groups = [[]]
     for word in split(line):
         if word == "+":
@@ -71,7 +75,8 @@ def read_edits(line):
             values = [int(values[0])]
         elif name in PAIRS:
             values = [tuple(word.split("=", 1)) for word in values]
-        edits.append((name, values))
+        if name not in OF_TABLES:
+            edits.append((name, values))
     return edits, None
 
 
@@ -79,10 +84,10 @@ def fault_of(group):
     if not group:
         return "Empty: no edit stands there"
     name, values = group[0], group[1:]
-    if name not in ALONE + ONE + MANY:
+    if name not in ALONE + ONE + MANY + OF_TABLES:
         return "UnknownEdit: its first word names no edit"
     takes = 1 if name in ONE else 0
-    if name not in MANY and len(values) != takes:
+    if name in ALONE + ONE and len(values) != takes:
         word = min(len(values), takes) + 1
         what = "too many" if word > takes else "missing"
         return "WrongWords: word %d is %s, the edit takes %d" % (word, what, takes)
@@ -195,7 +200,7 @@ def edited(edit, entries):
         gone = set(values)
         made = [e for e in entries if not (e[0] == 1 and e[1] in gone)]
         return made, len(made) != len(entries)
-    if name == "replace-needed":
+    if name in ("replace-needed", "replace-library"):
         names = dict(values)
         made = [(t, names.get(v, v)) if t == 1 else (t, v) for t, v in entries]
         return made, any(t == 1 and v in names for t, v in entries)
@@ -302,7 +307,8 @@ def with_symbols(symbols):
 
 # ---- files
 
-SHT_STRTAB, SHT_HASH, SHT_DYNSYM, SHT_GNU_HASH, SHT_GNU_VERSYM = 3, 5, 11, 0x6FFFFFF6, 0x6FFFFFFF
+SHT_STRTAB, SHT_HASH, SHT_DYNSYM, SHT_GNU_HASH = 3, 5, 11, 0x6FFFFFF6
+SHT_GNU_VERNEED, SHT_GNU_VERSYM = 0x6FFFFFFE, 0x6FFFFFFF
 # Types of sections that are read; others are kept as they are, as are relocations without a symbol table.
 READ_TYPES = {0, 2, 3, 4, 5, 6, 7, 8, 9, 11, 0x6FFFFFF6, 0x6FFFFFFD, 0x6FFFFFFE, 0x6FFFFFFF}
 
@@ -363,6 +369,19 @@ class File:
             mark = None if marks is None else self.number("H", self.sections[marks][1] + 2 * number)
             made.append((name, None if mark is None else (mark & 0x7FFF, mark >= 0x8000)))
         return made
+
+    def version_files(self):
+        """The libraries of which versions are needed, record by record."""
+        table, made = self.find(SHT_GNU_VERNEED), []
+        if table is None or self.sections[table][2] == 0:
+            return made
+        _, at, _, strings = self.sections[table]
+        while True:
+            made.append(self.text(strings, self.number("I", at + 4)))
+            step = self.number("I", at + 12)
+            if step == 0:
+                return made
+            at += step
 
     def has_fixed_symbols(self):
         """Whether the dynamic symbols can't get other names, since a hash table can't be made anew, or a section that is kept as it
@@ -449,6 +468,7 @@ class Image:
         self.abi = file.data[7]
         self.stack = file.stack
         self.symbols = file.symbols()
+        self.version_files = file.version_files()
         self.has_fixed_symbols = file.has_fixed_symbols()
         self.pages = PAGES.get(file.machine, 4096)
         self.changed = False
@@ -478,8 +498,15 @@ class Image:
         else:
             self.entries, wrote = edited(edit, self.entries)
             self.changed = self.changed or wrote
+            if name == "replace-library":
+                self.replace_files(dict(values))
             return
         self.changed = True
+
+    def replace_files(self, names):
+        """Gives the libraries of which versions are needed other names."""
+        self.changed = self.changed or any(library in names for library in self.version_files)
+        self.version_files = [names.get(library, library) for library in self.version_files]
 
     def shown(self):
         entries = self.entries or []
@@ -634,8 +661,9 @@ def content(folder, name):
 
 
 def names_of(folder):
-    """The files of lines about edits, in their order."""
-    return [name for name in content(folder, "cases").decode().splitlines() if name.startswith("edits/")]
+    """The files of lines about edits of which this model tells, in their order."""
+    names = content(folder, "cases").decode().splitlines()
+    return [name for name in names if name.startswith("edits/") and name not in UNKNOWN]
 
 
 def printed(folder, name):

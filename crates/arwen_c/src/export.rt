@@ -3,9 +3,9 @@ ghost use Rattle.std.specs.Prelude.{◌≡◌, ◌==◌, ◌<◌, ◌≤◌, ◌
 ghost use Rattle.arwen_c.specs.Export.{Gives, Wants};
 
 use crate::editing::{EditError, edited};
-use arwen_elf::elf::ElfError;
 use arwen_macho::macho::MachoError;
 use elf_commands::ElfCommandError;
+use elf_commands::files::ElfError;
 use macho_commands::MachoCommandError;
 use std::alloc::{AllocError, Global};
 

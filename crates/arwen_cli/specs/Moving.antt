@@ -2,7 +2,8 @@
 use Rattle.std.specs.Prelude.{◌≡◌, ◌&&◌, Bool, true, false, List, [], ◌∷◌, Some, codes, if◌then◌else◌, map}
 use Rattle.std.specs.Str.{bytes_eq}
 use Rattle.command_words.specs.Rows.{Given, Text, named_of}
-use Rattle.elf_commands.specs.Meaning.{ElfMeaning, elf_lines, meant_moving}
+use Rattle.elf_commands.specs.Meaning.{ElfMeaning, elf_lines}
+use Rattle.elf_commands.specs.Moving.{meant_moving}
 use Rattle.arwen_cli.specs.Parser.{IsTaken}
 use Rattle.arwen_cli.specs.Quiet.{is_mark}
 

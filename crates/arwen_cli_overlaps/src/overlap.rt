@@ -6,9 +6,9 @@ ghost use Rattle.elf_commands.specs.ElfWords.{edits_model};
 ghost use Rattle.elf_commands.specs.Meaning.{elf_command_model};
 ghost use Rattle.arwen_cli_overlaps.specs.Overlaps.{TellsOverlap, TellsPair};
 
-use arwen_elf::elf::ElfContainer;
 use elf_commands::ElfCommand;
 use elf_commands::elf::edits_asked;
+use elf_commands::files::ElfContainer;
 use elf_edits::ElfEdit;
 use elf_image::Builder;
 use elf_layout_reasons::{pair_text, stuck_pair};

@@ -8,7 +8,7 @@ use Rattle.elf_commands.specs.ElfStores.{IsElfTorn}
 use Rattle.elf_commands.specs.ShrinkRuns.{FailsShrink, IsShrinkTorn, ShrinksStore}
 use Rattle.elf_commands.specs.declared.error.ElfCommandError.{ElfCommandError}
 use Rattle.elf_commands.specs.declared.error.ElfCommandError.TheVariants.{Edits, Elf, ElfBatch, Io, Memory}
-use Rattle.elf_commands_probe.specs.Shrinking.{Finding}
+use Rattle.elf_commands.specs.Shrinking.{Finding}
 use Rattle.arwen_cli_peers.specs.Options.{Text}
 use Rattle.arwen_cli_patchelf_lines.specs.Plans.{PlanMeant}
 use Rattle.arwen_cli_patchelf.specs.Made.{IsMadeOf, words_ask}

@@ -10,7 +10,7 @@ use Rattle.elf_commands.specs.Meaning.{apply_moving_elf}
 use Rattle.elf_commands.specs.ShrinkRuns.{AreFoundIn, TellsShrunk}
 use Rattle.elf_commands.specs.declared.error.ElfCommandError.{ElfCommandError}
 use Rattle.elf_commands.specs.declared.error.ElfCommandError.TheVariants.{Io, Memory}
-use Rattle.elf_commands_probe.specs.Shrinking.{Finding}
+use Rattle.elf_commands.specs.Shrinking.{Finding}
 use Rattle.arwen_cli_peers.specs.Options.{Text}
 use Rattle.arwen_cli_patchelf_lines.specs.Plans.{PlanMeant}
 

@@ -8,7 +8,7 @@ use crate::steps::{apply_if, shrink_if};
 use arwen_cli_patchelf_lines::Plan;
 use byte_store::{MemoryStore, Store};
 use elf_commands::ElfCommandError;
-use elf_commands_probe::Probe;
+use elf_commands::elf::Probe;
 use std::alloc::Global;
 
 /// The bytes that a plan makes of those of a file: those that `apply` makes of those with shrunk run paths.

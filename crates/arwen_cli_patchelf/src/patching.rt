@@ -12,7 +12,7 @@ use crate::steps::{apply_if, shrink_paths};
 use arwen_cli_patchelf_lines::{Plan, load};
 use byte_store::{Opens, Store, replace};
 use elf_commands::ElfCommandError;
-use elf_commands_probe::Probe;
+use elf_commands::elf::Probe;
 use std::alloc::Global;
 
 /// Makes a plan of the bytes of the store at a path, all or nothing, and hands the store back. A plan that asks for nothing opens

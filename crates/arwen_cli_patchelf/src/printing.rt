@@ -11,10 +11,9 @@ use crate::print_texts::print_text;
 use arwen_cli_patchelf_lines::load;
 use arwen_cli_peers::AskedOption;
 use arwen_cli_peers::asked::is_given;
-use arwen_elf::elf::{ElfContainer, ElfError};
-use arwen_elf::{CountedWrite, write_all_counted};
 use byte_store::{Opens, Store};
 use elf_commands::ElfCommandError;
+use elf_commands::files::{CountedWrite, ElfContainer, ElfError, write_all_counted};
 use std::alloc::{AllocError, Global};
 
 /// What is printed of a file.

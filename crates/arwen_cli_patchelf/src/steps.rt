@@ -11,9 +11,8 @@ ghost use Rattle.arwen_cli_patchelf.specs.Steps.{FailsApplied, FailsShrunk, IsAp
 use crate::unheard::Unheard;
 use byte_store::Store;
 use command_words::Notes;
-use elf_commands::elf::{apply, edit_store, shrink_rpath, shrink_store};
+use elf_commands::elf::{Probe, apply, edit_store, shrink_rpath, shrink_store};
 use elf_commands::{ElfCommand, ElfCommandError};
-use elf_commands_probe::Probe;
 use std::alloc::{AllocError, Global};
 
 /// Shrinks the run paths in a store, where they are to shrink. What goes is not told.

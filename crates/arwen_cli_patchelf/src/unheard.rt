@@ -1,7 +1,7 @@
 //! A writer of what nobody hears.
 ghost use Rattle.std.specs.Prelude.{ℕ};
 
-use arwen_elf::CountedWrite;
+use elf_commands::files::CountedWrite;
 use std::io;
 use std::io::Write;
 

@@ -6,10 +6,10 @@ ghost use Rattle.arwen_cli_patchelf.specs.Patched.{HoldsBytes, HoldsKnown, IsMad
 
 use crate::making::made_bytes;
 use arwen_cli_patchelf_lines::{Plan, load};
-use arwen_elf::{Sink, write_all_counted};
 use byte_store::{Creates, Opens};
 use elf_commands::ElfCommandError;
-use elf_commands_probe::Probe;
+use elf_commands::elf::Probe;
+use elf_commands::files::{Sink, write_all_counted};
 use std::alloc::Global;
 use std::io;
 use std::io::Write;

@@ -4,7 +4,7 @@ use Rattle.std.specs.Prelude.{IfOk, String, string_bytes}
 use Rattle.std.specs.declared.alloc.Global.{Global}
 use Rattle.std.proofs.lemmas.List.{drop_all, drop_more}
 use Rattle.elf_commands.specs.declared.error.ElfCommandError.{ElfCommandError}
-use Rattle.elf_commands_probe.specs.Shrinking.{Finding}
+use Rattle.elf_commands.specs.Shrinking.{Finding}
 use Rattle.arwen_cli_peers.specs.Options.{Text}
 use Rattle.arwen_cli_patchelf.specs.Made.{AsksNothing, IsAppliedTo, IsShrunkTo}
 use Rattle.arwen_cli_patchelf.specs.Patched.{HoldsKnown, IsPatchedAt}

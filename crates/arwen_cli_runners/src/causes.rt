@@ -12,11 +12,11 @@ use arwen_cli_facts::{
 use arwen_cli_install_names::NamesError;
 use arwen_cli_overlaps::overlap_text;
 use arwen_cli_patchelf_lines::Plan;
-use arwen_elf::elf::{ElfError, ModifyCause};
 use arwen_macho::macho::MachoError;
 use byte_store::{Opens, load_whole};
 use command_words::MOST_BYTES;
 use elf_commands::elf::apply;
+use elf_commands::files::{ElfError, ModifyCause};
 use elf_commands::{ElfCommand, ElfCommandError};
 use macho_commands::MachoCommandError;
 use std::alloc::{AllocError, Global};

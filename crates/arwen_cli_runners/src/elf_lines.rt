@@ -8,10 +8,10 @@ use crate::causes::elf_fault_line;
 use crate::ending::Ending;
 use arwen_cli_patchelf::{Print, patch_path, print_path, write_path};
 use arwen_cli_patchelf_lines::Plan;
-use arwen_elf::CountedWrite;
 use byte_store::{Creates, Opens};
 use elf_commands::ElfCommandError;
-use elf_commands_probe::Probe;
+use elf_commands::elf::Probe;
+use elf_commands::files::CountedWrite;
 use std::alloc::{AllocError, Global};
 
 /// Does what a line asks of the files at these paths, in order, and answers how it ends. Of each it prints first what is

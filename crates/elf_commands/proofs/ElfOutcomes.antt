@@ -13,8 +13,8 @@ use Rattle.elf_edits.specs.Edited.{step}
 use Rattle.elf_edits.specs.Laws.{BatchesAreTheirEdits, EditsShow, viewed}
 use Rattle.elf_apply.specs.Causes.{FailsPrint}
 use Rattle.elf_apply.specs.Told.{RefusesAt, RefusesBatch}
-use Rattle.arwen_elf.specs.WriterModel.{ShowsBothViews}
-use Rattle.arwen_elf.specs.Written.{IsImageWritten, IsNoImage}
+use Rattle.elf_commands_steps.specs.WriterModel.{ShowsBothViews}
+use Rattle.elf_commands_steps.specs.Written.{IsImageWritten, IsNoImage}
 use Rattle.elf_write_spec.specs.WrittenFile.{IsWrittenOf}
 use Rattle.elf_apply.specs.declared.batch.ElfBatchError.{ElfBatchError}
 use Rattle.elf_apply.specs.declared.error.ElfError.{ElfError}

@@ -13,7 +13,7 @@ use Rattle.elf_commands.specs.ElfEngine.{TellsEdit}
 use Rattle.elf_commands.specs.ElfErrors.{answer_to_read, answer_to_replaced}
 use Rattle.elf_commands.specs.Failures.{HasCause, HasCauseAt, HasShrinkCause, HasShrinkCauseAt, HasTellCause, HasWriteCause, IsNotLoaded, IsOfStore}
 use Rattle.elf_commands.specs.ShrinkRuns.{TellsShrunk}
-use Rattle.elf_commands_probe.specs.Shrinking.{Finding}
+use Rattle.elf_commands_steps.specs.Shrinking.{Finding}
 use Rattle.elf_commands.specs.declared.error.ElfCommandError.{ElfCommandError}
 use Rattle.elf_commands.specs.declared.error.ElfCommandError.TheVariants.{Edits, Elf, ElfBatch, Io, Memory}
 

@@ -3,7 +3,7 @@ use Rattle.std.proofs.Common.{ℕ, Bool, List, Option, Result, Ok, Err, true, fa
 use Rattle.std.specs.declared.alloc.Global.{Global}
 use Rattle.std.specs.declared.vec.Vec.{Vec}
 use Rattle.command_words.specs.declared.edits.EditFault.{EditFault}
-use Rattle.elf_commands_groups.specs.Groups.{GroupEdit, has_symbols}
+use Rattle.elf_commands_steps.specs.Groups.{GroupEdit, has_symbols}
 use Rattle.elf_commands.specs.ElfAsked.{asked_of_edits, asked_of_words}
 use Rattle.elf_commands.specs.ElfEngine.{IsElfEdited, RunsElf, TellsEdit, TellsRun}
 use Rattle.elf_commands.specs.Meaning.{ElfMeaning}

@@ -12,10 +12,10 @@ use Rattle.elf_image.specs.ReadImage.{ReadImagesHoldParts}
 use Rattle.elf_apply.specs.declared.batch.ElfBatchError.{ElfBatchError}
 use Rattle.elf_apply.specs.declared.error.ElfError.{ElfError}
 use Rattle.elf_apply.specs.declared.error.ElfError.TheVariants as elf
-use Rattle.arwen_elf.specs.Written.{IsImageWritten, IsNoImage}
+use Rattle.elf_commands_steps.specs.Written.{IsImageWritten, IsNoImage}
 use Rattle.elf_symbol_edits.specs.Laws.{SymbolEditsKeep}
 use Rattle.elf_symbol_edits.specs.SymbolEdit.{SymbolEdit}
-use Rattle.elf_commands_groups.specs.Groups.{GroupEdit, MakeInTurn, MakesNext, RefuseInTurn, TellsInTurn, has_symbols, plain, symbols}
+use Rattle.elf_commands_steps.specs.Groups.{GroupEdit, MakeInTurn, MakesNext, RefuseInTurn, TellsInTurn, has_symbols, plain, symbols}
 use Rattle.elf_commands.specs.ElfAsked.{ElfAsked, asked_of_edits, asked_of_words, asks_edits, asks_in_turn, in_turn, of_symbols, one, printing, several, shrinking}
 use Rattle.elf_commands.specs.ElfEngine.{AreAskedInTurn, AreChanged, AreEditedInTurn, IsElfEdited, LeaveInTurn, LeavesElf, MakesInTurn, TellsEdit, TellsNoImage, elf_refusal}
 use Rattle.elf_commands.specs.ElfErrors.{answer_to_elf, answer_to_elf_batch, answer_to_elf_fault}

@@ -1,3 +1,4 @@
+pub mod AskedLaws
 pub mod ForCallers
 pub mod ElfOutcomes
 pub mod ElfStoreLaws

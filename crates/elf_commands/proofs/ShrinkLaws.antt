@@ -19,8 +19,8 @@ use Rattle.elf_image.specs.Image.{Image, image_of, shown}
 use Rattle.elf_image.specs.ReadImage.{ReadImagesHoldParts}
 use Rattle.elf_apply.specs.Causes.{RefusesRead}
 use Rattle.elf_apply.specs.Told.{IsRefusedAt, IsRefusedFor, Refuses, RefusesAt, cause_told}
-use Rattle.arwen_elf.specs.WriterModel.{ShowsBothViews}
-use Rattle.arwen_elf.specs.Written.{IsImageWritten, IsNoImage}
+use Rattle.elf_commands_steps.specs.WriterModel.{ShowsBothViews}
+use Rattle.elf_commands_steps.specs.Written.{IsImageWritten, IsNoImage}
 use Rattle.elf_apply.specs.declared.error.ElfError.{ElfError}
 use Rattle.elf_apply.specs.declared.error.ElfError.TheVariants as elf
 use Rattle.elf_commands.specs.ElfAsked.{one, shrinking}
@@ -28,7 +28,7 @@ use Rattle.elf_commands.specs.ElfEngine.{AreChanged, IsElfEdited, LeavesElf, May
 use Rattle.elf_commands.specs.ElfErrors.{answer_to_elf, answer_to_replaced}
 use Rattle.command_words.specs.Rows.{Text}
 use Rattle.elf_commands.specs.ShrinkRuns.{AreFoundIn, FailsShrink, IsQuiet, IsRemovalTold, IsShrunkBy, IsShrunkImage, RunsShrink, ShrinksStore, Steps, TellsShrink, TellsShrunk, TellsShrunkPath, TellsUnshrunk, TellsUntold}
-use Rattle.elf_commands_probe.specs.Shrinking.{AreFound, Finding, removal_lines}
+use Rattle.elf_commands_steps.specs.Shrinking.{AreFound, Finding, removal_lines}
 use Rattle.elf_commands.specs.declared.error.ElfCommandError.{ElfCommandError}
 use Rattle.elf_commands.specs.declared.error.ElfCommandError.TheVariants.{Edits, Elf, ElfBatch, Io, Memory}
 use Rattle.elf_commands.proofs.ElfOutcomes.{edited_answer, leaves_pieces, made_of_edits, one_refused, source_is, tells_no_image}

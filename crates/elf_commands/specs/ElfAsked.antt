@@ -2,7 +2,7 @@
 use Rattle.std.specs.Prelude.{Bool, true, false, List, [], ◌∷◌, ◌++◌, Result, Ok, Err}
 use Rattle.elf_edits.specs.Edit.{AllowDynamicMove, Answer, Edit, ShrinkRunPath}
 use Rattle.elf_symbol_edits.specs.SymbolEdit.{SymbolEdit}
-use Rattle.elf_commands_groups.specs.Groups.{GroupEdit, has_symbols, plain, plain_of, symbols}
+use Rattle.elf_commands_steps.specs.Groups.{GroupEdit, has_symbols, plain, plain_of, symbols}
 use Rattle.elf_commands.specs.ElfWords.{elf_edits_of}
 use Rattle.command_words.specs.Rows.{Text}
 use Rattle.elf_commands.specs.Meaning.{ElfMeaning, apply_elf, apply_moving_elf, edit_elf, shrink_elf, symbols_elf}

@@ -3,7 +3,7 @@ use Rattle.std.specs.Prelude.{ℕ, ◌≡◌, ◌⊎◌, List, [], ◌∷◌, Op
 use Rattle.std.specs.declared.alloc.Global.{Global}
 use Rattle.std.specs.declared.vec.Vec.{Vec}
 use Rattle.elf_apply.specs.Told.{RefusesAt}
-use Rattle.arwen_elf.specs.Written.{IsImageWritten, IsNoImage}
+use Rattle.elf_commands_steps.specs.Written.{IsImageWritten, IsNoImage}
 use Rattle.elf_apply.specs.declared.batch.ElfBatchError.{ElfBatchError}
 use Rattle.elf_apply.specs.declared.error.ElfError.{ElfError}
 use Rattle.elf_apply.specs.declared.error.ElfError.TheVariants as elf
@@ -16,7 +16,7 @@ use Rattle.elf_image.specs.Views.{View, dynamic_symbol_count, loader_view, secti
 use Rattle.elf_image.specs.Kept.{image_at_read}
 use Rattle.elf_write_spec.specs.Final.{final_view}
 use Rattle.elf_write_spec.specs.WrittenFile.{IsWrittenOf}
-use Rattle.elf_commands_groups.specs.Groups.{GroupEdit, MakeInTurn, RefuseInTurn, group_model, symbols}
+use Rattle.elf_commands_steps.specs.Groups.{GroupEdit, MakeInTurn, RefuseInTurn, group_model, symbols}
 use Rattle.elf_commands.specs.ElfAsked.{ElfAsked, answered, asks_edits, asks_in_turn, elf_asked, in_turn, of_symbols, one, printing, several, shrinking}
 use Rattle.elf_commands.specs.ElfWords.{edits_model}
 use Rattle.elf_commands.specs.declared.asked.AskedEdits.{AskedEdits}

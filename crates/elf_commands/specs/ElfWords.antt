@@ -7,7 +7,7 @@ use Rattle.elf_symbol_edits.specs.SymbolEdit.{SymbolEdit}
 use Rattle.command_words.specs.Groups.{Wrong, edits_by, group_edit, no_edit}
 use Rattle.command_words.specs.Rows.{Text}
 use Rattle.command_words.specs.declared.edits.EditFault.{EditFault}
-use Rattle.elf_commands_groups.specs.Groups.{GroupEdit, plain, symbols}
+use Rattle.elf_commands_steps.specs.Groups.{GroupEdit, plain, symbols}
 use Rattle.elf_commands.specs.Meaning.{ElfMeaning, Reading, edit_elf, elf_lines, symbols_elf}
 
 -- the edit that a batch takes, and the one of symbols or sections, that a command asks for

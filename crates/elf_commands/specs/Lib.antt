@@ -1,3 +1,4 @@
+pub use Rattle.elf_commands_steps.specs.Shrinking
 pub mod ElfAsked
 pub mod ElfEngine
 pub mod ElfErrors
@@ -5,6 +6,7 @@ pub mod ElfStores
 pub mod ElfWords
 pub mod Failures
 pub mod Meaning
+pub mod Moving
 pub mod Noting
 pub mod Prints
 pub mod ShrinkRuns

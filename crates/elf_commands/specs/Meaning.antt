@@ -7,10 +7,7 @@ use Rattle.elf_edits.specs.Edit.{SetInterpreter, SetOsAbi, SetPageSize, SetRunPa
 use Rattle.elf_symbol_edits.specs.SymbolEdit.{DeleteAllSymbols, DeleteSections, RenameAllSymbols, RenameSections, SymbolEdit}
 use Rattle.command_words.specs.Groups.{Wrong}
 use Rattle.command_words.specs.KeyValue.{decimal_number}
-use Rattle.command_words.specs.Rows.{Asks, Given, Line, Text, by_options, by_path, by_text, by_words, options, path, text, texts, words}
-use Rattle.std.specs.Prelude.{if◌then◌else◌}
-use Rattle.std.specs.Str.{bytes_eq}
-use Rattle.std.specs.Option.{option_map}
+use Rattle.command_words.specs.Rows.{Asks, Line, Text, by_options, by_path, by_text, by_words}
 use Rattle.command_words.specs.WordValues.{no_number, text_pair_model, pairs_from}
 use Rattle.elf_commands.specs.declared.command.ElfCommand.{ElfCommand}
 use Rattle.elf_commands.specs.declared.command.ElfCommand.TheVariants as elf
@@ -116,25 +113,6 @@ elf_lines = edit_line (codes "add-debug-tag") (by_none AddDebugEntry)
     ∷ print_line (codes "print-os-abi") print_os_abi
     ∷ print_line (codes "print-exec-stack") print_exec_stack
     ∷ []
-
--- ---- with leave that the dynamic section moves
-
--- the file of an edit, and the words of that edit in `apply`
-abbrev pub group_of : Text → Given → Option (Text × List Text)
-group_of name (path file) = Some (file, name ∷ [])
-group_of name (text value file) = Some (file, name ∷ value ∷ [])
-group_of name (texts first second file) = None
-group_of name (words file list) = Some (file, name ∷ list)
-group_of name (options file list) = None
-
--- the file and the words of `apply` itself
-abbrev pub groups_of : Text → Given → Option (Text × List Text)
-groups_of name (words file list) = if bytes_eq name (codes "apply") then Some (file, list) else group_of name (words file list)
-groups_of name given = group_of name given
-
--- what a command asks for with its values and the leave: what `apply` does with it; none of one that `apply` has no words for
-abbrev pub meant_moving : Text → Given → Option ElfMeaning
-meant_moving name given = option_map (λ asked. apply_moving_elf asked.0 asked.1) (groups_of name given)
 
 -- ---- what a value of the program stands for
 

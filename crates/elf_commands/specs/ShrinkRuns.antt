@@ -18,13 +18,13 @@ use Rattle.elf_apply.specs.declared.error.ElfError.{ElfError}
 use Rattle.elf_edits_shrink.specs.declared.removal.Removed.{Removed}
 use Rattle.elf_format.specs.declared.fault.ElfFault.{ElfFault}
 use Rattle.elf_image.specs.Image.{Image, image_of, shown}
-use Rattle.arwen_elf.specs.Written.{IsImageWritten, IsNoImage}
+use Rattle.elf_commands_steps.specs.Written.{IsImageWritten, IsNoImage}
 use Rattle.elf_commands.specs.ElfAsked.{elf_asked, one}
 use Rattle.elf_commands.specs.ElfEngine.{AreChanged, IsElfEdited, LeavesElf, RunsElf, TellsEdit, TellsNoImage, TellsRun}
 use Rattle.elf_commands.specs.ElfErrors.{answer_to_elf}
 use Rattle.elf_commands.specs.Meaning.{ElfMeaning, shrink_elf}
 use Rattle.command_words.specs.Rows.{Text}
-use Rattle.elf_commands_probe.specs.Shrinking.{AreFound, Finding, removal_lines}
+use Rattle.elf_commands_steps.specs.Shrinking.{AreFound, Finding, removal_lines}
 use Rattle.elf_commands.specs.declared.error.ElfCommandError.{ElfCommandError}
 use Rattle.elf_commands.specs.declared.error.ElfCommandError.TheVariants.{Io, Memory}
 

@@ -1,6 +1,6 @@
 //! The edits that a command asks for.
 ghost use Rattle.std.specs.Prelude.{◌≡◌, ◌∷◌, [], Ok, IfErr, IfOk, map, string_bytes};
-ghost use Rattle.elf_commands_groups.specs.Groups.{group_model};
+ghost use Rattle.elf_commands_steps.specs.Groups.{group_model};
 ghost use Rattle.elf_commands.specs.ElfAsked.{asked_of_one, asked_of_words, elf_asked, with_leave};
 ghost use Rattle.elf_commands.specs.ElfEngine.{AreAsked, AreAskedIf, TellsEachFile};
 ghost use Rattle.elf_commands.specs.ElfWords.{elf_edits_of};
@@ -10,7 +10,7 @@ use crate::command::ElfCommand;
 use crate::elf_words::parse_elf_edits;
 use crate::error::ElfCommandError;
 use command_words::words_of;
-use elf_commands_groups::{GroupEdit, has_symbols, plain_edits};
+use elf_commands_steps::{GroupEdit, has_symbols, plain_edits};
 use elf_edits::ElfEdit;
 use std::alloc::{AllocError, Global};
 

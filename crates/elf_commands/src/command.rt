@@ -14,7 +14,7 @@ use crate::elf::{
 use command_words::{
     Row, Value, ValueError, ValueForm, ValueOption, Values, copied, number_of, pairs_of,
 };
-use elf_commands_groups::{GroupEdit, SymbolTexts, bytes_of, pairs_copied, texts_of};
+use elf_commands_steps::{GroupEdit, SymbolTexts, bytes_of, pairs_copied, texts_of};
 use elf_edits::ElfEdit;
 use std::alloc::{AllocError, Global};
 use std::slice;
@@ -91,9 +91,10 @@ impl ElfCommand {
     ghost use Rattle.elf_edits.specs.EditModel.{edit_model};
     ghost use Rattle.elf_commands.specs.ElfAsked.{elf_asked, is_printing};
     ghost use Rattle.elf_commands.specs.ElfWords.{elf_edit_asked, group_edit_asked, symbols_asked};
-    ghost use Rattle.elf_commands.specs.Meaning.{elf_file_of, elf_lines, elf_command_model, meant_moving, reading_of};
-    ghost use Rattle.elf_commands_groups.specs.Groups.{group_model};
-    ghost use Rattle.elf_commands_groups.specs.SymbolTexts.{symbol_texts_model};
+    ghost use Rattle.elf_commands.specs.Meaning.{elf_file_of, elf_lines, elf_command_model, reading_of};
+    ghost use Rattle.elf_commands.specs.Moving.{meant_moving};
+    ghost use Rattle.elf_commands_steps.specs.Groups.{group_model};
+    ghost use Rattle.elf_commands_steps.specs.SymbolTexts.{symbol_texts_model};
     ghost use Rattle.command_words.specs.Rows.{given_model, meant_with, options, path, text, words as words_given};
     ghost use Rattle.command_words.specs.WordValues.{TellsNoValue};
 
@@ -481,8 +482,15 @@ const ELF_EDITS: &str = "Edits:
   rename-sections [OLD=NEW]...
   delete-sections [NAME]...
 
+With --move-dynamic, the dynamic section moves where it has no room for a further entry.
+
 Example:
   arwen elf apply libgreet.so set-soname libgreet.so.1 + add-rpath /opt/lib
+";
+
+/// What help says of an edit that may need a further entry below its values.
+const MOVED: &str =
+    "With --move-dynamic, the dynamic section moves where it has no room for a further entry.
 ";
 
 /// The commands for ELF files.
@@ -492,7 +500,7 @@ pub static ELF_ROWS: [Row; 30] = [
         about: "Add an entry for a debugger",
         form: ValueForm::Path,
         is_edit: true,
-        more: "",
+        more: MOVED,
     },
     Row {
         name: clear_execstack::NAME,
@@ -513,7 +521,7 @@ pub static ELF_ROWS: [Row; 30] = [
         about: "Leave out the default directories",
         form: ValueForm::Path,
         is_edit: true,
-        more: "",
+        more: MOVED,
     },
     Row {
         name: remove_rpath::NAME,
@@ -537,7 +545,7 @@ pub static ELF_ROWS: [Row; 30] = [
             help: "Directory to add",
         }),
         is_edit: true,
-        more: "",
+        more: MOVED,
     },
     Row {
         name: set_rpath::NAME,
@@ -547,7 +555,7 @@ pub static ELF_ROWS: [Row; 30] = [
             help: "Directories, with a colon between two",
         }),
         is_edit: true,
-        more: "",
+        more: MOVED,
     },
     Row {
         name: set_interpreter::NAME,
@@ -577,7 +585,7 @@ pub static ELF_ROWS: [Row; 30] = [
             help: "New name",
         }),
         is_edit: true,
-        more: "",
+        more: MOVED,
     },
     Row {
         name: set_page_size::NAME,
@@ -607,7 +615,7 @@ pub static ELF_ROWS: [Row; 30] = [
             help: "Names of the libraries",
         }),
         is_edit: true,
-        more: "",
+        more: MOVED,
     },
     Row {
         name: remove_needed::NAME,

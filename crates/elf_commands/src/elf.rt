@@ -18,7 +18,7 @@ use crate::error::ElfCommandError;
 use command_words::Notes;
 pub use editing::{edit_path, edit_store};
 use editing::{edit_file, edit_telling};
-pub use elf_commands_probe::{FileProbe, Probe};
+pub use elf_commands_steps::{FileProbe, Probe};
 pub use engine::run_elf;
 use printing::print_file;
 pub use printing::{print_path, print_store};

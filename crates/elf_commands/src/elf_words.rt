@@ -1,6 +1,6 @@
 //! The words of several edits of an ELF file on one line.
 ghost use Rattle.std.specs.Prelude.{◌≡◌, Ok, IfErr, IfOk, map, option_and_then, option_map};
-ghost use Rattle.elf_commands_groups.specs.Groups.{group_model};
+ghost use Rattle.elf_commands_steps.specs.Groups.{group_model};
 ghost use Rattle.elf_commands.specs.ElfWords.{edit_asked, elf_edits_of, elf_group_edit};
 ghost use Rattle.elf_commands.specs.Meaning.{elf_command_model, elf_lines, reading_of};
 ghost use Rattle.command_words.specs.Groups.{TellsFault, TellsWrong};
@@ -12,7 +12,7 @@ use command_words::{
     EditKind, EditsError, Row, Values, edit_row, no_edit, no_values, other_words,
     values_without_path,
 };
-use elf_commands_groups::GroupEdit;
+use elf_commands_steps::GroupEdit;
 use std::alloc::Global;
 
 /// Reads edits of an ELF file from words that are cut into groups at each `+`. A group is a command's name and its

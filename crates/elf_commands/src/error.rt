@@ -3,9 +3,9 @@ ghost use Rattle.std.specs.Prelude.{◌≡◌};
 ghost use Rattle.elf_commands.specs.ElfErrors.{answer_to_elf, answer_to_elf_batch, answer_to_read, answer_to_replaced, answer_to_words};
 ghost use Rattle.elf_commands.specs.declared.error.ElfCommandError.TheVariants.{Io, Memory};
 
-use arwen_elf::elf::{ElfBatchError, ElfError};
 use byte_store::{ReadError, ReplaceError};
 use command_words::{EditFault, EditsError};
+use elf_commands_steps::files::{ElfBatchError, ElfError};
 use std::alloc::{AllocError, AllocFailed};
 use std::io;
 use thiserror::Error;

@@ -13,6 +13,10 @@ pub(crate) fn call(
         ElfEdit::AddDebugTag => file.add_debug_tag(alloc),
         ElfEdit::AddNeeded(names) => file.add_needed(alloc, names.as_slice()),
         ElfEdit::AddRpath(texts) => add_runpaths(alloc, file, texts.as_slice()),
+        ElfEdit::AllowDynamicMove => {
+            file.allow_dynamic_move();
+            Ok(())
+        }
         ElfEdit::ClearExecStack => file.clear_exec_stack(alloc),
         ElfEdit::ClearSymbolVersion(name) => file.clear_version_symbol(alloc, name.as_slice()),
         ElfEdit::ForceRpath => file.force_rpath(),
@@ -20,6 +24,7 @@ pub(crate) fn call(
         ElfEdit::RemoveNeeded(names) => file.remove_needed(alloc, names.as_slice()),
         ElfEdit::RemoveRpath => file.remove_runpath(),
         ElfEdit::RenameDynamicSymbols(pairs) => rename_symbols(alloc, file, pairs.as_slice()),
+        ElfEdit::ReplaceLibrary(pairs) => replace_library(alloc, file, pairs.as_slice()),
         ElfEdit::ReplaceNeeded(pairs) => replace_needed(alloc, file, pairs.as_slice()),
         ElfEdit::SetExecStack => file.set_exec_stack(alloc),
         ElfEdit::SetInterpreter(text) => file.set_interpreter(alloc, text.as_slice()),
@@ -50,6 +55,16 @@ fn replace_needed(
 ) -> Result<(), ElfError> {
     let names = map_of(alloc, pairs)?;
     file.replace_needed(alloc, &names)
+}
+
+/// Replaces libraries with the versions that are needed of them, by pairs of an old and a new name.
+fn replace_library(
+    alloc: Global,
+    file: &mut ElfContainer<'_>,
+    pairs: &[(Vec<u8>, Vec<u8>)],
+) -> Result<(), ElfError> {
+    let names = map_of(alloc, pairs)?;
+    file.replace_library(alloc, &names)
 }
 
 /// Renames dynamic symbols by pairs of an old and a new name.

@@ -2,6 +2,7 @@
 //! that they name. And the lines of layouts: plans, and layouts beside a slow and plain way.
 #![tactic(auto)]
 
+pub mod elf;
 mod files;
 pub mod layouts;
 pub mod plans;
@@ -9,7 +10,6 @@ mod refused;
 mod running;
 pub mod words;
 
-pub use arwen_elf::elf;
 pub use files::{read_file, text_of};
 pub use refused::{put_no_edits, put_refused};
 pub use running::{Cases, run_cases};

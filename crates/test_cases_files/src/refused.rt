@@ -1,6 +1,6 @@
 //! What is put down where words or edits are refused.
-use arwen_elf::elf::{ElfError, ModifyCause};
 use command_words::EditsError;
+use elf_commands::files::{ElfError, ModifyCause};
 use std::alloc::AllocError;
 
 /// Puts down why words are no edits.

@@ -1,7 +1,7 @@
 //! The words of a line. Blanks stand between words, and `''` is the empty word. In words that are read by their marks `~`
 //! stands for a NUL and `^` for a blank.
-use arwen_elf::elf::ElfEdit;
 use command_words::EditsError;
+use elf_commands::files::ElfEdit;
 use elf_commands::{parse_elf_edits, plain_edits};
 use std::alloc::{AllocError, Global};
 

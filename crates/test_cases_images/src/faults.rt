@@ -1,12 +1,11 @@
 //! Why files are refused.
 
 use crate::images::read;
-use arwen_elf::elf::{ElfError, Writer};
-use arwen_elf::machine_of;
 use elf_image::ElfFault;
 use std::alloc::Global;
 use std::io;
 use test_cases_written::edits::parse;
+use test_cases_written::elf::{ElfError, Writer, machine_of};
 
 /// The fault of a file as the image, the writer and the container tell it; `None` where the file is read.
 type Faults = [Option<ElfFault>; 3];

@@ -1,10 +1,10 @@
 //! The calls on the program header for the stack.
 
-use arwen_elf::elf::{BuilderExt, ElfError};
 use elf_image::Builder;
 use std::alloc::{AllocError, Global};
 use std::io;
 use test_cases_written::edits::tell;
+use test_cases_written::elf::{BuilderExt, ElfError};
 use test_cases_written::words::{first, number};
 
 /// Prints what comes of a call whose lent flags are set, and the image.

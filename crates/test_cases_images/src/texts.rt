@@ -1,10 +1,10 @@
 //! The texts of errors.
 
-use arwen_elf::elf::{ElfError, ModifyCause, ProbeAnswer, Task};
 use elf_image::ElfFault;
 use patch_bytes::ByteString;
 use std::alloc::{AllocError, AllocFailed};
 use std::{fmt, io};
+use test_cases_written::elf::{ElfError, ModifyCause, ProbeAnswer, Task};
 use test_elf_plain::ViewFault;
 
 /// Prints the texts of all errors.

@@ -15,6 +15,7 @@
 
 mod batches;
 pub mod edits;
+pub mod elf;
 pub mod files;
 mod paths;
 mod planned;

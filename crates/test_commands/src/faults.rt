@@ -1,5 +1,5 @@
 use arwen_cli::cli::{ArwenError, EditKind, EditsError};
-use arwen_elf::elf::{ElfError, ModifyCause};
+use arwen_cli::elf::{ElfError, ModifyCause};
 use arwen_macho::commands::{CommandBuilderError, NulInside};
 use arwen_macho::macho::{MachoBatchError, MachoError};
 use elf_image::ElfFault;

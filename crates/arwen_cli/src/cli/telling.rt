@@ -12,11 +12,11 @@ use crate::cli::error::{ArwenError, InnerCause};
 use crate::cli::line::parse_line;
 use arwen_cli_overlaps::overlap_text;
 use arwen_cli_show::{Told, bracket_of, elf_words, file_line, macho_words, rule_of};
-use arwen_elf::elf::{ElfError, ModifyCause};
 use arwen_macho::macho::MachoError;
 use byte_store::{Opens, load_whole};
 use command_words::{MOST_BYTES, RegularFiles};
 use elf_commands::ElfCommand;
+use elf_commands::files::{ElfError, ModifyCause};
 use std::alloc::{AllocError, Global};
 use std::rt::Files;
 

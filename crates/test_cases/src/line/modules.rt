@@ -44,6 +44,7 @@ fn execute_words(rt: &HostRuntime, command: ElfCommand) -> Result<(), ElfCommand
         ElfCommand::AddNeeded(args) => elf::add_needed::execute(rt, args),
         ElfCommand::RemoveNeeded(args) => elf::remove_needed::execute(rt, args),
         ElfCommand::ReplaceNeeded(args) => elf::replace_needed::execute(rt, args),
+        ElfCommand::ReplaceLibrary(args) => elf::replace_library::execute(rt, args),
         ElfCommand::RenameDynamicSymbols(args) => { elf::rename_dynamic_symbols::execute(rt, args) }
         ElfCommand::Apply(args) => elf::apply::execute(rt, args),
         ElfCommand::ShrinkRpath(args) => elf::shrink_rpath::execute(rt, args),

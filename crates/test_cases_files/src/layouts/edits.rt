@@ -1,6 +1,6 @@
 //! Edits of a file by words.
 use crate::layouts::compared::compare_image;
-use arwen_elf::elf::{ElfError, Writer};
+use elf_commands::files::{ElfError, Writer};
 use std::alloc::{AllocError, Global};
 
 /// Edits a file by words, and lays it out both ways.

@@ -3,7 +3,7 @@ use crate::plans::lines::put_plan;
 use crate::plans::steps::{put_fault, put_steps};
 use crate::refused::{put_no_edits, put_refused};
 use crate::words::edits_of;
-use arwen_elf::elf::{ElfEdit, ElfError, Writer};
+use elf_commands::files::{ElfEdit, ElfError, Writer};
 use elf_image::Builder;
 use elf_layout::lay_out;
 use std::alloc::{AllocError, Global};

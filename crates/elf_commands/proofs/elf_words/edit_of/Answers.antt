@@ -1,7 +1,7 @@
 -- A command that asks for no edit names none.
 use Rattle.std.proofs.Common.{sym, ap, ◌∙◌}
 use Rattle.std.specs.Prelude.{option_map}
-use Rattle.elf_commands_groups.specs.Groups.{group_model}
+use Rattle.elf_commands_steps.specs.Groups.{group_model}
 use Rattle.elf_commands.specs.ElfWords.{one_edit}
 use Rattle.command_words.specs.Groups.{no_edit}
 use Rattle.command_words.proofs.ForCallers.{fault_told}

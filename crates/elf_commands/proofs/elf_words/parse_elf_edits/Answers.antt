@@ -4,8 +4,8 @@ use Rattle.std.proofs.lemmas.List.{length_push}
 use Rattle.std.proofs.lemmas.Result.{err_from_is_err_and}
 use Rattle.std.proofs.lemmas.Iterator.Consumers.{YieldsList-end, YieldsList-turn}
 use Rattle.std.proofs.lemmas.Iterator.Splits.{YieldsList-from_slice_split}
-use Rattle.elf_commands_groups.specs.Groups.{group_model}
-use Rattle.elf_commands_groups.specs.declared.groups.GroupEdit.{GroupEdit}
+use Rattle.elf_commands_steps.specs.Groups.{group_model}
+use Rattle.elf_commands_steps.specs.declared.groups.GroupEdit.{GroupEdit}
 use Rattle.elf_commands.specs.ElfWords.{elf_group_edit}
 use Rattle.command_words.specs.Groups.{TellsWrong}
 use Rattle.command_words.proofs.ForCallers.{IsReadTo, all_read, fault_read, groups_of, is_plus_word, none_read, one_read, pushed, texts}

@@ -1,6 +1,6 @@
 use Rattle.std.proofs.Common.{◌≡◌, length, map}
 use Rattle.command_words.proofs.ForCallers.{IsReadTo}
-use Rattle.elf_commands_groups.specs.Groups.{group_model}
+use Rattle.elf_commands_steps.specs.Groups.{group_model}
 use Rattle.elf_commands.specs.ElfWords.{elf_group_edit}
 use Rattle.elf_commands.proofs.elf_words.parse_elf_edits.Given as goal
 

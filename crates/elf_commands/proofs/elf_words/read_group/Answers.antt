@@ -6,7 +6,7 @@ use Rattle.command_words.specs.Groups.{TellsWrong, Wrong, other_words}
 use Rattle.command_words.specs.Rows.{row_model}
 use Rattle.command_words.proofs.ForCallers.{by_row, fault_told, no_row, texts}
 use Rattle.command_words.proofs.ForCallers.{told_by_values}
-use Rattle.elf_commands_groups.specs.Groups.{GroupEdit, group_model}
+use Rattle.elf_commands_steps.specs.Groups.{GroupEdit, group_model}
 use Rattle.elf_commands.specs.ElfWords.{elf_edit}
 use Rattle.elf_commands.specs.Meaning.{elf_lines, reading_of}
 use Rattle.elf_commands.proofs.elf_words.read_group.Goals as goal

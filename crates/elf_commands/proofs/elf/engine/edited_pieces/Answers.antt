@@ -1,7 +1,7 @@
 use Rattle.std.proofs.Common.{List, string_bytes, subst, sym}
 use Rattle.std.proofs.lemmas.Result.{IfErr-weaker, IfOk-weaker}
 use Rattle.elf_edits.specs.Edit.{Edit}
-use Rattle.arwen_elf.specs.Written.{IsNoDifference}
+use Rattle.elf_commands_steps.specs.Written.{IsNoDifference}
 use Rattle.byte_store.specs.Composed.{IsDifference}
 use Rattle.command_words.specs.Rows.{Text}
 use Rattle.elf_commands.specs.ElfAsked.{ElfAsked, elf_asked}

@@ -1,6 +1,6 @@
 use Rattle.std.proofs.Common.{map}
 use Rattle.std.proofs.lemmas.Result.{err_from_is_err_and}
-use Rattle.elf_commands_groups.specs.Groups.{group_model}
+use Rattle.elf_commands_steps.specs.Groups.{group_model}
 use Rattle.elf_commands.specs.ElfAsked.{elf_asked}
 use Rattle.elf_commands.specs.Meaning.{elf_command_model}
 use Rattle.elf_commands.proofs.ElfOutcomes.{may_fail}

@@ -1,7 +1,7 @@
 use Rattle.std.proofs.Common.{List, map, subst}
 use Rattle.std.proofs.lemmas.Result.{IfErr-weaker, IfOk-weaker}
 use Rattle.byte_store.specs.Composed.{IsDifference}
-use Rattle.elf_commands_groups.specs.Groups.{GroupEdit, group_model}
+use Rattle.elf_commands_steps.specs.Groups.{GroupEdit, group_model}
 use Rattle.elf_commands.specs.ElfAsked.{ElfAsked, elf_asked}
 use Rattle.elf_commands.specs.Meaning.{elf_command_model}
 use Rattle.elf_commands.proofs.GroupRunLaws.{makes_in_turn, pieces_left, source_in_turn, tells_turn_refused, tells_turn_unwritten}

@@ -1,0 +1,9 @@
+pub use Rattle.arwen_elf.specs.Prints
+pub use Rattle.arwen_elf.specs.Contained
+pub use Rattle.arwen_elf.specs.Counted
+pub use Rattle.arwen_elf.specs.Reads
+pub use Rattle.arwen_elf.specs.WriterModel
+pub use Rattle.arwen_elf.specs.Written
+pub mod Groups
+pub mod Shrinking
+pub mod SymbolTexts

@@ -1,0 +1,102 @@
+//! Edits that groups of words name, of either kind.
+ghost use Rattle.std.specs.Prelude.{◌≡◌, ◌++◌, ◌∷◌, [], IfErr, IfOk, OnOk, map};
+ghost use Rattle.elf_apply.specs.Taken.{edits_model};
+ghost use Rattle.elf_edits.specs.EditModel.{edit_model};
+ghost use Rattle.elf_commands_steps.specs.Groups.{MakeInTurn, MakesNext, RefusesNext, TellsInTurn, group_model, has_symbols as are_some_symbols, plain_of};
+ghost use Rattle.elf_commands_steps.specs.Groups.GroupEdit.{plain};
+
+use crate::symbol_texts::SymbolTexts;
+use arwen_elf::elf::{ElfBatchError, ElfContainer, ElfError};
+use elf_edits::ElfEdit;
+use std::alloc::{AllocError, Global};
+use std::slice;
+
+/// An edit that a group of words names.
+#[derive(Drop)]
+pub enum GroupEdit {
+    /// One that a batch takes.
+    Plain(ElfEdit),
+    /// One of symbols or sections.
+    Symbols(SymbolTexts),
+}
+
+/// Whether one of some edits is of symbols or sections, which no batch takes.
+pub fn has_symbols(edits: &[GroupEdit]) -> bool
+    ensures { result ≡ are_some_symbols (map group_model edits.now) }
+{
+    for edit in edits {
+        if let GroupEdit::Symbols(_) = edit {
+            return true;
+        }
+    }
+    false
+}
+
+/// The edits of some that a batch takes, in order. Error: `AllocError`.
+pub fn plain_edits(alloc: Global, edits: Vec<GroupEdit>) -> Result<Vec<ElfEdit>, AllocError>
+    ensures { IfOk result (λ plain. edits_model plain.items
+        ≡ plain_of (map group_model edits.items)) }
+{
+    let mut plain = Vec::with_capacity(alloc, edits.len())?;
+    for edit in edits {
+        push_plain(&mut plain, edit)?;
+    }
+    Ok(plain)
+}
+
+/// Puts an edit behind others, where a batch takes it.
+fn push_plain(plain: &mut Vec<ElfEdit>, edit: GroupEdit) -> Result<(), AllocError>
+    ensures { OnOk result (edits_model plain.new.items
+        ≡ edits_model plain.old.items ++ plain_of (group_model edit ∷ [])) }
+{
+    if let GroupEdit::Plain(edit) = edit {
+        plain.push(edit)?;
+    }
+    Ok(())
+}
+
+/// Makes edits in an image, one after the other, each upon what the one before it left.
+///
+/// # Errors
+///
+/// The first edit that is refused, by its number, counted from 0, and why; or `Memory`. The image is then what the edits
+/// before it left.
+pub fn apply_in_turn(
+    alloc: Global,
+    elf: &mut ElfContainer<'_>,
+    edits: &[GroupEdit],
+) -> Result<(), ElfBatchError>
+    ensures made { OnOk result
+        (MakeInTurn (map group_model edits.now) elf.old.inner elf.new.inner) }
+    ensures told { IfErr result (TellsInTurn (map group_model edits.now) elf.old.inner) }
+{
+    for index in 0..edits.len() {
+        if let Err(fault) = apply_next(alloc, elf, &edits[index]) {
+            return Err(ElfBatchError { index, fault });
+        }
+    }
+    Ok(())
+}
+
+/// Makes one edit in an image.
+fn apply_next(alloc: Global, elf: &mut ElfContainer<'_>, edit: &GroupEdit) -> Result<(), ElfError>
+    ensures made { OnOk result (MakesNext (group_model edit.now) elf.old.inner elf.new.inner) }
+    ensures told { IfErr result (RefusesNext (group_model edit.now) elf.old.inner) }
+{
+    match edit {
+        GroupEdit::Plain(edit) => apply_plain(alloc, elf, edit),
+        GroupEdit::Symbols(texts) => elf.edit_symbols(alloc, texts.edit()),
+    }
+}
+
+/// Makes one edit that a batch takes in an image.
+fn apply_plain(alloc: Global, elf: &mut ElfContainer<'_>, edit: &ElfEdit) -> Result<(), ElfError>
+    ensures made { OnOk result
+        (MakesNext (plain (edit_model edit.now)) elf.old.inner elf.new.inner) }
+    ensures told { IfErr result (RefusesNext (plain (edit_model edit.now)) elf.old.inner) }
+{
+    match elf.apply(alloc, slice::from_ref(edit)) {
+        Ok(()) => Ok(()),
+        Err(error) => Err(error.fault),
+    }
+}

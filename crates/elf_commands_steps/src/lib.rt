@@ -1,0 +1,15 @@
+//! What commands need of ELF files: edits that commands and groups of words ask for, of either kind, with their texts: those that
+//! a batch takes, and those of symbols or sections, made one after the other; and what `shrink-rpath` looks for in the directories
+//! of a run path, with the lines that tell which of them went.
+#![tactic(auto)]
+
+pub mod files;
+pub mod groups;
+mod probing;
+pub mod symbol_texts;
+pub mod texts;
+
+pub use crate::groups::{GroupEdit, apply_in_turn, has_symbols, plain_edits};
+pub use crate::probing::{FileProbe, Probe, answers_of, removal_text};
+pub use crate::symbol_texts::SymbolTexts;
+pub use crate::texts::{bytes_of, pairs_copied, texts_of};
