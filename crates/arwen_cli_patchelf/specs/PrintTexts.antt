@@ -1,7 +1,8 @@
 -- What patchelf prints of what a file shows.
 use Rattle.std.specs.Prelude.{ℕ, ◌/◌, ◌%◌, ◌==◌, ◌++◌, true, [], ◌∷◌, Option, Some, None, bit_and, codes, if◌then◌else◌}
 use Rattle.std.specs.Fmt.{digit_glyph}
-use Rattle.arwen_elf.specs.Prints.{printed_interpreter, printed_needed, printed_runpath, printed_soname}
+use Rattle.elf_commands.specs.Meaning.{print_interpreter, print_needed, print_rpath, print_soname}
+use Rattle.elf_commands.specs.Prints.{printed}
 use Rattle.elf_image.specs.Views.{View}
 use Rattle.arwen_cli_peers.specs.Options.{Text}
 use Rattle.arwen_cli_patchelf.specs.declared.printing.Print.{Print}
@@ -54,9 +55,9 @@ stack_line flags = codes "execstack: " ++ (stack_mark flags ++ 10 ∷ [])
 
 -- what is printed of what a file shows: each text of it lossily, with a line feed, and nothing where there is none
 abbrev pub print_text : Print → View → Text
-print_text Interpreter view = printed_interpreter view
+print_text Interpreter view = printed (print_interpreter []) view
 print_text OsAbi view = abi_line view.os_abi
-print_text Soname view = printed_soname view
-print_text RunPath view = printed_runpath view
+print_text Soname view = printed (print_soname []) view
+print_text RunPath view = printed (print_rpath []) view
 print_text ExecStack view = stack_line view.stack_flags
-print_text Needed view = printed_needed view
+print_text Needed view = printed (print_needed []) view

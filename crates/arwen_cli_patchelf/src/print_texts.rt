@@ -6,7 +6,7 @@ ghost use Rattle.elf_image.specs.Image.{shown};
 ghost use Rattle.arwen_cli_patchelf.specs.PrintTexts.{abi_line as abi_told, abi_name as abi_named, later_abi_name as later_abi_named, print_text as text_told, stack_line as stack_told};
 
 use crate::printing::Print;
-use arwen_elf::elf::{ElfContainer, ElfError};
+use elf_commands::files::{ElfContainer, ElfError};
 use elf_image::constants::PF_X;
 use std::alloc::{AllocError, Global};
 use std::io::Write;
