@@ -53,7 +53,8 @@ stack_line flags = codes "execstack: " ++ (stack_mark flags ++ 10 ∷ [])
 
 -- ## All
 
--- what is printed of what a file shows: each text of it lossily, with a line feed, and nothing where there is none
+-- what is printed of what a file shows: a line for its ABI and one for its stack; of the others what the commands for ELF files
+-- print, whatever the path of their file
 abbrev pub print_text : Print → View → Text
 print_text Interpreter view = printed (print_interpreter []) view
 print_text OsAbi view = abi_line view.os_abi
