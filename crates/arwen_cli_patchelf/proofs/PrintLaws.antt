@@ -3,9 +3,8 @@ use Rattle.std.proofs.Common.{◌≡◌, [], ◌∷◌, ◌==◌, false, ℕ, Li
 use Rattle.std.specs.declared.io.Error.{Error}
 use Rattle.elf_commands.specs.declared.error.ElfCommandError.{ElfCommandError}
 use Rattle.elf_commands.specs.declared.error.ElfCommandError.TheVariants.{Io}
-use Rattle.arwen_cli_peers.specs.Options.{Text}
 use Rattle.arwen_cli_patchelf.specs.declared.printing.Print.{Print}
-use Rattle.arwen_cli_patchelf.specs.Printing.{HasPrintCause, HasPrintCauseAt, TellsPrints, meant_all}
+use Rattle.arwen_cli_patchelf.specs.Printing.{HasPrintCause, HasPrintCauseAt, TellsPrints}
 
 -- the store at a path
 pub print_cause_at : (opens reads : Error → Type 0) (known old : Option (List ℕ)) (e : ElfCommandError) → old ≡ known → HasPrintCause reads old e → HasPrintCauseAt opens reads known e
@@ -14,7 +13,7 @@ print_cause_at opens reads known old (Io e) same why =
 print_cause_at opens reads known old e same why = tt
 
 -- an opening that failed
-pub unopened : {W : Type 0} (contents : W → Option (List ℕ)) (failed : W → ℕ) (path : Text) (prints : List Print) (known : Option (List ℕ)) (w : W) (e : Error) → false ≡ (length prints == 0)
-    → TellsPrints contents failed (meant_all path prints) known w w (Io e)
-unopened contents failed path [] known w e some = absurd (cc)
-unopened contents failed path (print ∷ rest) known w e some = inl refl
+pub unopened : {W : Type 0} (contents : W → Option (List ℕ)) (failed : W → ℕ) (prints : List Print) (known : Option (List ℕ)) (w : W) (e : Error) → false ≡ (length prints == 0)
+    → TellsPrints contents failed prints known w w (Io e)
+unopened contents failed [] known w e some = absurd (cc)
+unopened contents failed (print ∷ rest) known w e some = inl refl

@@ -1,14 +1,19 @@
 -- What lines of patchelf print of a file, and in which order.
-use Rattle.std.specs.Prelude.{ℕ, ◌≡◌, ◌⊎◌, List, [], ◌∷◌, map, Option, codes, if◌then◌else◌, ⊤}
+use Rattle.std.specs.Prelude.{ℕ, ◌≡◌, ◌⊎◌, List, [], ◌∷◌, Option, Some, Result, Ok, Err, codes, if◌then◌else◌, ⊤}
+use Rattle.std.specs.Io.KnownBytes.{Appends}
 use Rattle.std.specs.declared.io.Error.{Error}
 use Rattle.byte_store.specs.declared.reading.ReadError.TheVariants as read
+use Rattle.elf_apply.specs.declared.error.ElfError.{ElfError}
+use Rattle.elf_apply.specs.declared.error.ElfError.TheVariants as elf
+use Rattle.elf_image.specs.Image.{Image, image_of, shown}
+use Rattle.elf_format.specs.declared.fault.ElfFault.{ElfFault}
 use Rattle.elf_commands.specs.Failures.{IsNotLoaded}
-use Rattle.elf_commands.specs.Meaning.{ElfMeaning, print_exec_stack, print_interpreter, print_needed, print_os_abi, print_rpath, print_soname}
-use Rattle.elf_commands.specs.Prints.{PrintsStored, TellsStored}
+use Rattle.elf_commands.specs.Prints.{StopsWriting}
 use Rattle.elf_commands.specs.declared.error.ElfCommandError.{ElfCommandError}
-use Rattle.elf_commands.specs.declared.error.ElfCommandError.TheVariants.{Io}
+use Rattle.elf_commands.specs.declared.error.ElfCommandError.TheVariants.{Elf, Io, Memory}
 use Rattle.arwen_cli_peers.specs.EditWords.{is_given}
 use Rattle.arwen_cli_peers.specs.Options.{Asked, Text}
+use Rattle.arwen_cli_patchelf.specs.PrintTexts.{print_text}
 use Rattle.arwen_cli_patchelf.specs.declared.printing.Print.{Print}
 use Rattle.arwen_cli_patchelf.specs.declared.printing.Print.TheVariants.{ExecStack, Interpreter, Needed, OsAbi, RunPath, Soname}
 
@@ -22,18 +27,6 @@ option_for Soname = codes "--print-soname"
 option_for RunPath = codes "--print-rpath"
 option_for ExecStack = codes "--print-execstack"
 option_for Needed = codes "--print-needed"
-
--- what is asked of the file at a path
-abbrev pub print_meant : Text → Print → ElfMeaning
-print_meant path Interpreter = print_interpreter path
-print_meant path OsAbi = print_os_abi path
-print_meant path Soname = print_soname path
-print_meant path RunPath = print_rpath path
-print_meant path ExecStack = print_exec_stack path
-print_meant path Needed = print_needed path
-
-abbrev pub meant_all : Text → List Print → List ElfMeaning
-meant_all path prints = map (print_meant path) prints
 
 -- all that may be printed, in patchelf's order
 abbrev pub all_prints : List Print
@@ -51,17 +44,47 @@ prints_asked asked = prints_among asked all_prints
 
 -- ## What comes of it
 
+-- the file is accepted, and what is printed of it is added to what was written before
+abbrev pub IsPrintedOf : Print → Result Image ElfFault → Option (List ℕ) → Option (List ℕ) → Type 0
+IsPrintedOf print read old new =
+    (image : Image) × (read ≡ Ok image) × Appends old new (print_text print (shown image))
+
+-- of known bytes
+abbrev pub IsPrinted : Print → Option (List ℕ) → Option (List ℕ) → Option (List ℕ) → Type 0
+IsPrinted print known old new = (file : List ℕ) → known ≡ Some file → IsPrintedOf print (image_of file) old new
+
+-- why it is not printed: the first rule that the file breaks, and the writer is as it was; or the writer failed, and got the
+-- first bytes of what is printed
+abbrev pub TellsUnprinted : {W : Type 0} → (W → Option (List ℕ)) → (W → ℕ) → Print → Result Image ElfFault → W → W → ElfError → Type 0
+TellsUnprinted contents failed print read old new (elf.Parse fault) = (read ≡ Err fault) × (new ≡ old)
+TellsUnprinted contents failed print read old new (elf.Io e) =
+    (image : Image) × (read ≡ Ok image) × StopsWriting contents failed (print_text print (shown image)) old new (elf.Io e)
+TellsUnprinted contents failed print read old new _ = ⊥
+
+-- what an error of printing tells of a file's bytes, and where these are known
+abbrev pub TellsPrintOf : {W : Type 0} → (W → Option (List ℕ)) → (W → ℕ) → Print → Result Image ElfFault → W → W → ElfCommandError → Type 0
+TellsPrintOf contents failed print read old new Memory = new ≡ old
+TellsPrintOf contents failed print read old new (Elf e) = TellsUnprinted contents failed print read old new e
+TellsPrintOf contents failed print read old new _ = ⊥
+
+abbrev pub TellsPrint : {W : Type 0} → (W → Option (List ℕ)) → (W → ℕ) → Print → Option (List ℕ) → W → W → ElfCommandError → Type 0
+TellsPrint contents failed print known old new Memory = new ≡ old
+TellsPrint contents failed print known old new (Io e) = new ≡ old
+TellsPrint contents failed print known old new (Elf e) =
+    (file : List ℕ) → known ≡ Some file → TellsUnprinted contents failed print (image_of file) old new e
+TellsPrint contents failed print known old new _ = ⊥
+
 -- each of these is printed of known bytes, one behind the other, and nothing else
-abbrev pub PrintsAll : List ElfMeaning → Option (List ℕ) → Option (List ℕ) → Option (List ℕ) → Type 0
+abbrev pub PrintsAll : List Print → Option (List ℕ) → Option (List ℕ) → Option (List ℕ) → Type 0
 PrintsAll [] known old new = new ≡ old
 PrintsAll (print ∷ rest) known old new =
-    (mid : Option (List ℕ)) × PrintsStored print known old mid × PrintsAll rest known mid new
+    (mid : Option (List ℕ)) × IsPrinted print known old mid × PrintsAll rest known mid new
 
 -- an error of printing these: of one of them, once those before it were printed
-abbrev pub TellsPrints : {W : Type 0} → (W → Option (List ℕ)) → (W → ℕ) → List ElfMeaning → Option (List ℕ) → W → W → ElfCommandError → Type 0
+abbrev pub TellsPrints : {W : Type 0} → (W → Option (List ℕ)) → (W → ℕ) → List Print → Option (List ℕ) → W → W → ElfCommandError → Type 0
 TellsPrints contents failed [] known old new e = ⊥
-TellsPrints {W} contents failed (print ∷ rest) known old new e = TellsStored contents failed print known old new e
-    ⊎ ((mid : W) × PrintsStored print known (contents old) (contents mid) × TellsPrints contents failed rest known mid new e)
+TellsPrints {W} contents failed (print ∷ rest) known old new e = TellsPrint contents failed print known old new e
+    ⊎ ((mid : W) × IsPrinted print known (contents old) (contents mid) × TellsPrints contents failed rest known mid new e)
 
 -- an error of reading is one of a store of these bytes, since some count of its failures
 abbrev pub HasPrintCause : (Error → Type 0) → Option (List ℕ) → ElfCommandError → Type 0

@@ -3,6 +3,7 @@
 
 mod making;
 mod patching;
+mod print_texts;
 mod printing;
 mod steps;
 mod unheard;

@@ -1,17 +1,19 @@
 //! Prints of files, as lines ask for them.
 ghost use Rattle.std.specs.Prelude.{◌≡◌, IfErr, IfOk, OnOk, map};
+ghost use Rattle.std.specs.Io.KnownBytes.{Appends};
 ghost use Rattle.byte_store.specs.Known.{Stays};
-ghost use Rattle.elf_commands.specs.Meaning.{elf_command_model};
-ghost use Rattle.elf_commands.specs.Prints.{PrintMayFail, PrintsStored, TellsStored};
+ghost use Rattle.elf_image.specs.Image.{image_of};
+ghost use Rattle.elf_commands.specs.Prints.{PrintMayFail, StopsWriting};
 ghost use Rattle.arwen_cli_peers.specs.EditWords.{asked_model};
-ghost use Rattle.arwen_cli_patchelf.specs.Printing.{HasPrintCause, HasPrintCauseAt, PrintsAll, TellsPrints, meant_all, option_for, print_meant, prints_among, prints_asked as prints_meant};
+ghost use Rattle.arwen_cli_patchelf.specs.Printing.{HasPrintCause, HasPrintCauseAt, IsPrinted, IsPrintedOf, PrintsAll, TellsPrint, TellsPrintOf, TellsPrints, option_for, prints_among, prints_asked as prints_meant};
 
+use crate::print_texts::print_text;
+use arwen_cli_patchelf_lines::load;
 use arwen_cli_peers::AskedOption;
 use arwen_cli_peers::asked::is_given;
 use byte_store::{Opens, Store};
-use elf_commands::elf::{print_rpath, print_store};
-use elf_commands::files::CountedWrite;
-use elf_commands::{ElfCommand, ElfCommandError};
+use elf_commands::ElfCommandError;
+use elf_commands::files::{CountedWrite, ElfContainer, ElfError, write_all_counted};
 use std::alloc::{AllocError, Global};
 
 /// What is printed of a file.
@@ -77,11 +79,13 @@ fn option_of(print: Print) -> &'static str
     }
 }
 
-/// Prints this of the file at a path, in order. Where it is nothing, nothing is opened.
+/// Prints this of the file at a path, in order, as patchelf prints it. Where it is nothing, nothing is opened.
 ///
 /// # Errors
 ///
-/// Those of `print_path` of `elf_commands`, of the first print that fails; those before it are printed.
+/// Those of the first print that fails; those before it are printed. `Io` where the opening or a read of the file failed; `Elf`
+/// where the file is none that is read, or, with `ElfError::Io`, where the writer failed, which it counted, and got the first
+/// bytes of the print.
 pub fn print_path<'p, O: Opens<'p>, W: CountedWrite>(
     alloc: Global,
     files: &O,
@@ -89,10 +93,10 @@ pub fn print_path<'p, O: Opens<'p>, W: CountedWrite>(
     prints: &[Print],
     out: &mut W,
 ) -> Result<(), ElfCommandError>
-    ensures printed { OnOk result (PrintsAll (meant_all path.now prints.now)
+    ensures printed { OnOk result (PrintsAll prints.now
         (O.contents files.now path.now) (W.contents out.old) (W.contents out.new)) }
     ensures err { IfErr result PrintMayFail }
-    ensures tells { IfErr result (TellsPrints W.contents W.failed (meant_all path.now prints.now)
+    ensures tells { IfErr result (TellsPrints W.contents W.failed prints.now
         (O.contents files.now path.now) out.old out.new) }
     ensures cause { IfErr result (HasPrintCauseAt (O.may_fail files.now path.now)
         O.Opened.may_fail_read (O.contents files.now path.now)) }
@@ -101,66 +105,75 @@ pub fn print_path<'p, O: Opens<'p>, W: CountedWrite>(
         return Ok(());
     }
     let mut store = files.open(path)?;
-    print_each(alloc, &mut store, path, prints, out)
+    print_each(alloc, &mut store, prints, out)
 }
 
 /// Prints this of the bytes of a store, in order.
 fn print_each<S: Store, W: CountedWrite>(
     alloc: Global,
     store: &mut S,
-    path: &str,
     prints: &[Print],
     out: &mut W,
 ) -> Result<(), ElfCommandError>
-    ensures printed { OnOk result (PrintsAll (meant_all path.now prints.now)
+    ensures printed { OnOk result (PrintsAll prints.now
         (S.contents store.old) (W.contents out.old) (W.contents out.new)) }
     ensures err { IfErr result PrintMayFail }
-    ensures tells { IfErr result (TellsPrints W.contents W.failed (meant_all path.now prints.now)
+    ensures tells { IfErr result (TellsPrints W.contents W.failed prints.now
         (S.contents store.old) out.old out.new) }
     ensures cause { IfErr result (HasPrintCause S.may_fail_read (S.contents store.old)) }
 {
     let Some((first, rest)) = prints.split_first() else {
         return Ok(());
     };
-    print_one(alloc, store, path, *first, out)?;
-    print_each(alloc, store, path, rest, out)
+    print_one(alloc, store, *first, out)?;
+    print_each(alloc, store, rest, out)
 }
 
-/// Prints this of the bytes of a store.
+/// Prints this of the bytes of a store, which are read whole.
 fn print_one<S: Store, W: CountedWrite>(
     alloc: Global,
     store: &mut S,
-    path: &str,
     print: Print,
     out: &mut W,
 ) -> Result<(), ElfCommandError>
-    ensures printed { OnOk result (PrintsStored (print_meant path.now print)
+    ensures printed { OnOk result (IsPrinted print
         (S.contents store.old) (W.contents out.old) (W.contents out.new)) }
     ensures err { IfErr result PrintMayFail }
-    ensures tells { IfErr result (TellsStored W.contents W.failed (print_meant path.now print)
+    ensures tells { IfErr result (TellsPrint W.contents W.failed print
         (S.contents store.old) out.old out.new) }
     ensures kept { Stays (S.contents store.old) (S.contents store.new) }
     ensures cause { IfErr result (HasPrintCause S.may_fail_read (S.contents store.old)) }
 {
-    let command = print_command(alloc, path, print)?;
-    let answer = print_store(alloc, store, &command, out);
-    drop(command);
-    answer
+    let bytes = load(alloc, store)?;
+    print_loaded(alloc, bytes.as_slice(), print, out)
 }
 
-/// The command that prints this of the file at a path.
-fn print_command(alloc: Global, path: &str, print: Print) -> Result<ElfCommand, AllocError>
-    ensures { IfOk result (λ command.
-        elf_command_model command ≡ print_meant path.now print) }
+/// Prints this of a file's bytes.
+fn print_loaded<W: CountedWrite>(
+    alloc: Global,
+    bytes: &[u8],
+    print: Print,
+    out: &mut W,
+) -> Result<(), ElfCommandError>
+    ensures printed { OnOk result (IsPrintedOf print (image_of bytes.now)
+        (W.contents out.old) (W.contents out.new)) }
+    ensures err { IfErr result (TellsPrintOf W.contents W.failed print (image_of bytes.now)
+        out.old out.new) }
 {
-    let path_to_binary = String::from_str(alloc, path)?;
-    let args = print_rpath::Args { path_to_binary };
-    Ok(match print {
-        Print::Interpreter => ElfCommand::PrintInterpreter(args),
-        Print::OsAbi => ElfCommand::PrintOsAbi(args),
-        Print::Soname => ElfCommand::PrintSoname(args),
-        Print::RunPath => ElfCommand::PrintRpath(args),
-        Print::ExecStack => ElfCommand::PrintExecStack(args),
-        Print::Needed => ElfCommand::PrintNeeded(args),
-    })
+    let elf = ElfContainer::parse(alloc, bytes)?;
+    let text = print_text(alloc, &elf, print);
+    drop(elf);
+    let text = text?;
+    Ok(write_text(text.as_slice(), out)?)
+}
+
+/// Writes a text whole.
+fn write_text<W: CountedWrite>(text: &[u8], out: &mut W) -> Result<(), ElfError>
+    ensures ok { OnOk result (Appends (W.contents out.old) (W.contents out.new) text.now) }
+    ensures err { IfErr result (StopsWriting W.contents W.failed text.now out.old out.new) }
+{
+    match write_all_counted(text, out) {
+        Ok(()) => Ok(()),
+        Err(error) => Err(ElfError::Io(error)),
+    }
 }

@@ -5,7 +5,7 @@ use Rattle.elf_commands.specs.Shrinking.{Finding}
 use Rattle.arwen_cli_peers.specs.Options.{Text}
 use Rattle.arwen_cli_patchelf.specs.Made.{IsMadeOf}
 use Rattle.arwen_cli_patchelf.specs.Patched.{TellsPlanPath}
-use Rattle.arwen_cli_patchelf.specs.Printing.{PrintsAll, TellsPrints, meant_all}
+use Rattle.arwen_cli_patchelf.specs.Printing.{PrintsAll, TellsPrints}
 use Rattle.arwen_cli_patchelf.specs.declared.printing.Print.{Print}
 use Rattle.arwen_cli_patchelf_lines.specs.Plans.{PlanMeant}
 use Rattle.arwen_cli_runners.specs.Causes.{IsElfFaultLine}
@@ -18,7 +18,7 @@ CanBeMade finds plan known = (file : List ℕ) → known ≡ Some file → (made
 
 -- All is done that a line asks of the file at a path: its prints are written, and nothing else, and its plan is made.
 pub record IsDone (finds : Finding) (prints : List Print) (plan : PlanMeant) (contents : Text → Option (List ℕ)) (path : Text) (old new : Option (List ℕ)) : Type 0 where
-  pub printed : PrintsAll (meant_all path prints) (contents path) old new
+  pub printed : PrintsAll prints (contents path) old new
   pub made : CanBeMade finds plan (contents path)
 
 -- of each of these files, one behind the other
@@ -30,8 +30,8 @@ AreDone finds prints plan contents (path ∷ rest) old new =
 -- not all is done: a print fails, or, once all is printed, the plan is refused or not written
 abbrev pub Stops : {W : Type 0} → (W → Option (List ℕ)) → (W → ℕ) → Finding → List Print → PlanMeant → (Text → Option (List ℕ)) → Text → W → W → ElfCommandError → Type 0
 Stops written failed finds prints plan contents path old new e =
-    TellsPrints written failed (meant_all path prints) (contents path) old new e
-    ⊎ (PrintsAll (meant_all path prints) (contents path) (written old) (written new) × TellsPlanPath finds plan (contents path) e)
+    TellsPrints written failed prints (contents path) old new e
+    ⊎ (PrintsAll prints (contents path) (written old) (written new) × TellsPlanPath finds plan (contents path) e)
 
 -- of one of these files, which is at this path, once all is done of those before it
 abbrev pub StopsAt : {W : Type 0} → (W → Option (List ℕ)) → (W → ℕ) → Finding → List Print → PlanMeant → (Text → Option (List ℕ)) → List Text → W → W → Text → ElfCommandError → Type 0

@@ -6,7 +6,7 @@ use Rattle.arwen_cli_patchelf.proofs.printing.print_path.Goals as goal
 pub returns-in_err-store-clause-tells : goal.returns-in_err-store-clause-tells
 returns-in_err-store-clause-tells g c =
     let p = err_from_is_err_and c.from_residual.result c.from_residual.ensures.1 in
-    rw (p.1, p.2) (unopened g.W.Write.contents g.W.CountedWrite.failed c.args.path.now c.args.prints.now _ c.args.out.now c.in_err-store.field-0.0 c.if-is_empty.ensures)
+    rw (p.1, p.2) (unopened g.W.Write.contents g.W.CountedWrite.failed c.args.prints.now _ c.args.out.now c.in_err-store.field-0.0 c.if-is_empty.ensures)
 
 pub returns-clause-cause : goal.returns-clause-cause
 returns-clause-cause g c =
