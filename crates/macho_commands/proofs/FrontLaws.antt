@@ -27,7 +27,8 @@ use Rattle.macho_commands_signing.specs.Signed.{is_signed_file}
 use Rattle.macho_commands.specs.Engine.{AreAsked, Asked, Outcome, ShowsEdited, edited_file, written}
 use Rattle.macho_commands.specs.Engine.Asked.{one, several}
 use Rattle.macho_commands.specs.Engine.Outcome.{bytes, refused, refused_batch}
-use Rattle.macho_commands.specs.Loading.{FrontDecides, IsThinFront, with_rest}
+use Rattle.macho_commands_signing.specs.Loading.{IsThinFront}
+use Rattle.macho_commands.specs.Loading.{FrontDecides, with_rest}
 
 -- ---- a file that begins as an accepted one
 
@@ -170,7 +171,7 @@ first_fits front is =
       room = omega (arith, least.1, content);
     }
 
-found_longer : (front rest : List ℕ) → length (front ++ rest) < 2 ^ 32 → file_fault front ≡ None → begins_fat front ≡ false → (begins_fat (front ++ rest) ≡ false) × (container_found (front ++ rest) ≡ None) × (container_found front ≡ None)
+pub found_longer : (front rest : List ℕ) → length (front ++ rest) < 2 ^ 32 → file_fault front ≡ None → begins_fat front ≡ false → (begins_fat (front ++ rest) ≡ false) × (container_found (front ++ rest) ≡ None) × (container_found front ≡ None)
 unfolding container_found
 found_longer front rest short ok thin =
     let least = least_length front ok in

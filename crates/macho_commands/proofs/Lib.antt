@@ -1,5 +1,6 @@
 pub mod NotingLaws
 pub mod FrontLaws
+pub mod LoadedLaws
 pub mod Outcomes
 pub mod StoreLaws
 pub mod SigningLaws

@@ -1,5 +1,5 @@
 //! New bytes of old ones.
-ghost use Rattle.std.specs.Prelude.{◌≡◌, ◌≢◌, ◌∷◌, [], All, None, Ok, Some, IfOk, IfErr, OnOk, length, string_bytes};
+ghost use Rattle.std.specs.Prelude.{◌≡◌, ◌≢◌, ◌∷◌, [], All, None, Ok, Some, IfOk, IfErr, IsTrue, OnOk, length, string_bytes};
 ghost use Rattle.macho_edits.specs.Batch.{calls_of};
 ghost use Rattle.arwen_macho.specs.Fronts.{LiesIn, fronts_on};
 ghost use Rattle.macho_commands.specs.Engine.{AreAsked, IsSignedOutcome, IsSigningError, MayFail, Outcome};
@@ -20,9 +20,9 @@ use crate::noting::{left_note, note_wanted, tell};
 use crate::signing::{Signing, Signs};
 use crate::verifying::verify_file;
 use arwen_macho::macho::{Front, MachoBatchError, MachoContainer, MachoEdit, lay_fronts};
-use byte_store::{Opens, Store, load_up_to};
-use command_words::{MOST_BYTES, Notes, RegularFiles, words_of};
-use macho_commands_signing::{changes_of, front_changes, write_changes_of};
+use byte_store::{Opens, Store};
+use command_words::{Notes, RegularFiles, words_of};
+use macho_commands_signing::{Loaded, changes_of, front_changes, load_for_edits, write_changes_of};
 use macho_signatures::{Slot, lay_slots};
 use macho_signing::{NewSlots, Scope, signed_slots};
 use std::alloc::Global;
@@ -91,6 +91,17 @@ fn signs_of(signing: Signing, command: &MachoCommand) -> Signs
         (MachoCommand::Verify(_), _) => Signs::Nothing,
         (_, Signing::Renewed) => Signs::Touched,
         (_, Signing::Left) => Signs::Nothing,
+    }
+}
+
+/// Whether a command makes no slot of a signature anew.
+fn leaves_signatures(signing: Signing, command: &MachoCommand) -> bool
+    ensures { IsTrue result
+        → signs_of signing (macho_command_model command.now) ≡ Signs.Nothing }
+{
+    match signs_of(signing, command) {
+        Signs::Nothing => true,
+        _ => false,
     }
 }
 
@@ -331,14 +342,15 @@ pub fn patch_store<S: Store>(
     ensures cause { IfErr result (HasCause S.may_fail_read S.may_fail_write S.may_take_none
         (S.contents store.old) (S.failed store.old) (S.failed store.new)) }
 {
-    let mut bytes = load_up_to(alloc, store, MOST_BYTES)?;
+    let leaves = leaves_signatures(signing, command);
+    let Loaded { mut bytes, length } = load_for_edits(alloc, store, leaves)?;
     let Made {
         fronts,
         slots,
         text,
     } = made_of(alloc, bytes.as_slice(), command, notes, signing)?;
     let pieces = changes_of(alloc, &mut bytes, fronts.as_slice(), slots.as_slice())?;
-    write_changes_of(store, bytes.len() as u64, pieces.as_slice())?;
+    write_changes_of(store, length, pieces.as_slice())?;
     Ok(text)
 }
 

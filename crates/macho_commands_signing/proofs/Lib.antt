@@ -1,3 +1,4 @@
+pub mod LoadingLaws
 pub mod PieceLaws
 pub mod EditedSignature
 pub mod RenewedSignature

@@ -1,4 +1,5 @@
 pub mod Kept
+pub mod Loading
 pub mod Pieces
 pub mod Signed
 pub mod Verdicts

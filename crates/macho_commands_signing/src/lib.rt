@@ -3,9 +3,11 @@
 #![tactic(auto)]
 
 mod changes;
+mod loading;
 mod signed;
 mod verdict;
 
 pub use changes::{changes_of, front_changes, write_changes_of};
+pub use loading::{Loaded, load_for_edits};
 pub use signed::{is_signed_file, note_if};
 pub use verdict::{Verdict, verdict_of};
