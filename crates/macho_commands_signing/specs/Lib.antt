@@ -2,4 +2,5 @@ pub mod Kept
 pub mod Loading
 pub mod Pieces
 pub mod Signed
+pub mod Slices
 pub mod Verdicts

@@ -5,9 +5,11 @@
 mod changes;
 mod loading;
 mod signed;
+mod slices;
 mod verdict;
 
 pub use changes::{changes_of, front_changes, write_changes_of};
 pub use loading::{Loaded, load_for_edits};
 pub use signed::{is_signed_file, note_if};
+pub use slices::{SliceFront, SliceFronts, load_slices};
 pub use verdict::{Verdict, verdict_of};

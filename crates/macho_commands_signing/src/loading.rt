@@ -11,7 +11,7 @@ use macho_image::{MachFault, MachO, is_fat};
 use std::alloc::Global;
 
 /// How many bytes are read where a front may be enough.
-const FRONT: usize = 1 << 16;
+pub(crate) const FRONT: usize = 1 << 16;
 
 /// Bytes of a file that were read for an edit of it.
 #[derive(Drop)]
@@ -99,7 +99,7 @@ fn is_front_of(alloc: Global, bytes: &[u8], size: u64) -> Result<bool, ReadError
 }
 
 /// Whether bytes are a thin file by themselves, in which content begins. Error: `Memory`.
-fn is_thin_front(alloc: Global, bytes: &[u8]) -> Result<bool, ReadError>
+pub(crate) fn is_thin_front(alloc: Global, bytes: &[u8]) -> Result<bool, ReadError>
     ensures front { IfOk result (λ is. IsTrue is → IsThinFront bytes.now) }
     ensures err { IfErr result (λ e. e ≡ Memory) }
 {
