@@ -8,7 +8,7 @@ mod signed;
 mod slices;
 mod verdict;
 
-pub use changes::{changes_of, front_changes, write_changes_of};
+pub use changes::{changes_of, front_changes, lent_pieces, push_changes_at, write_changes_of};
 pub use loading::{Loaded, load_for_edits};
 pub use signed::{is_signed_file, note_if};
 pub use slices::{SliceFront, SliceFronts, load_slices};
