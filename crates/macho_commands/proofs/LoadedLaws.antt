@@ -22,7 +22,7 @@ use Rattle.macho_commands.proofs.FrontLaws.{found_longer, front_decides, shows_l
 
 -- ---- patches that lie in first bytes leave the rest
 
-put_at-append : (at : ℕ) (part first rest : List ℕ) → at + length part ≤ length first → put_at at part (first ++ rest) ≡ put_at at part first ++ rest
+pub put_at-append : (at : ℕ) (part first rest : List ℕ) → at + length part ≤ length first → put_at at part (first ++ rest) ≡ put_at at part first ++ rest
 put_at-append at part first rest inside =
     let before : take at (first ++ rest) ≡ take at first = take-append-le at first rest (omega (arith, inside)) in
     let behind : drop (at + length part) (first ++ rest) ≡ drop (at + length part) first ++ rest = drop-append-le (at + length part) first rest inside in
@@ -36,7 +36,7 @@ laid-append (patch ∷ patches) first rest inside =
 
 -- ---- where no slot of a signature is made anew
 
-short_joined : (front file : List ℕ) (is : IsFrontOf front file) → length (front ++ is.rest) < 2 ^ 32
+pub short_joined : (front file : List ℕ) (is : IsFrontOf front file) → length (front ++ is.rest) < 2 ^ 32
 short_joined front file is =
     let P : List ℕ → Type 0 = λ l. length l < 2 ^ 32 in
     subst P (sym is.joined) is.short
