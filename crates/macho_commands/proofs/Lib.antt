@@ -3,6 +3,7 @@ pub mod FrontLaws
 pub mod LoadedLaws
 pub mod Outcomes
 pub mod SlicedLaws
+pub mod SlicedRuns
 pub mod StoreLaws
 pub mod SigningLaws
 pub mod FittingLaws

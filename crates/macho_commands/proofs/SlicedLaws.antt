@@ -1,9 +1,9 @@
 -- What comes of a fat file, told by the fronts of its slices.
-use Rattle.std.proofs.Common.{◌≡◌, ◌≤◌, ◌<◌, ◌^◌, ◌+◌, ◌∙◌, ◌⊎◌, ◌||◌, ℕ, inl, inr, Bool, true, false, if◌then◌else◌, List, [], ◌∷◌, ◌++◌, length, take, drop, map, append_assoc, None, Option, Some, Result, Ok, Err, refl, sym, ap, subst, arith}
+use Rattle.std.proofs.Common.{◌≡◌, ◌≤◌, ◌<◌, ◌^◌, ◌+◌, ◌∙◌, ℕ, inl, inr, Bool, true, false, List, [], ◌∷◌, ◌++◌, length, take, drop, map, append_assoc, None, Option, Result, Ok, Err, refl, sym, ap, subst, arith}
 use Rattle.std.specs.List.{All, AllZip, list_any}
 use Rattle.std.specs.Prelude.{⊤}
 use Rattle.std.proofs.Math.Seq.{drop-append-add, take-append-add}
-use Rattle.std.proofs.lemmas.List.{drop-drop, length-append, length-drop, length-take-le, take-append-drop, take_all, take-take}
+use Rattle.std.proofs.lemmas.List.{drop-drop, length-append, length-drop, length-take-le, take-append-drop}
 use Rattle.std.proofs.lemmas.List.Elements.{All-cons, All-head, All-nil, All-tail}
 use Rattle.byte_store.proofs.LaidLaws.{laid-append as laid-both, length-laid, tail_lies}
 use Rattle.byte_store.specs.Known.{put_at}
@@ -11,7 +11,7 @@ use Rattle.byte_store.specs.Laid.{LiesIn, Patch, laid}
 use Rattle.byte_store.specs.Shown.{shifted}
 use Rattle.macho_commands.proofs.FrontLaws.{accepts, first_fits, first_longer, found_longer, laid_made, longer_answer, longer_state, signed_longer, state_longer, step_fits, stepped, thin_container, thin_step}
 use Rattle.macho_commands.proofs.LoadedLaws.{laid-append, put_at-append, short_joined}
-use Rattle.macho_commands.specs.Engine.{AreAsked, Asked, Outcome, ShowsEdited, Tells, edited_file, outcome_of, written}
+use Rattle.macho_commands.specs.Engine.{AreAsked, Asked, Outcome, ShowsEdited, Tells, outcome_of, written}
 use Rattle.macho_commands.specs.Engine.Asked.{one, several}
 use Rattle.macho_commands.specs.Engine.Outcome.{bytes as new_bytes, no_edits, not_signed, refused, refused_batch}
 use Rattle.macho_commands.specs.declared.error.MachoCommandError.{MachoCommandError}
@@ -24,7 +24,7 @@ use Rattle.arwen_macho.proofs.FatLaws.{accepted_slice, accepted_whole, behind_sl
 use Rattle.arwen_macho.proofs.FatStepLaws.{fat_step_ok}
 use Rattle.arwen_macho.proofs.ShapeLaws.{fat_shows}
 use Rattle.arwen_macho.proofs.PutLaws.{length-put_at, slice-put_at_apart}
-use Rattle.arwen_macho.proofs.SliceLaws.{ApartFrom, AreBehind, AreLaid, AreShown, OutsideAll, get_or-laid_over, length-laid_over, shown-laid_over, take-laid_over}
+use Rattle.arwen_macho.proofs.SliceLaws.{ApartFrom, AreLaid, AreShown, OutsideAll, get_or-laid_over, length-laid_over, shown-laid_over, take-laid_over}
 use Rattle.arwen_macho.proofs.TableLaws.{SameTable, archs_same, table_same}
 use Rattle.arwen_macho.specs.Container.{as_fat, as_thin, container_bytes, container_step, first_container}
 use Rattle.arwen_macho.specs.ContainerShown.{ShowsFile}
@@ -33,7 +33,7 @@ use Rattle.arwen_macho.specs.declared.macho.MachoType.TheVariants.{Fat, SingleAr
 use Rattle.arwen_macho.specs.FatShown.{FatShows, IsOutside}
 use Rattle.arwen_macho.specs.Found.{Found, begins_fat, container_found, found_first, slice_found, slices_found}
 use Rattle.arwen_macho.specs.Shown.{Shows}
-use Rattle.arwen_macho.specs.FatState.{FatState, Slice, bytes_laid_over, fat_laid_bytes, fat_step, first_fat_state, first_slice, joined_step, step_slices}
+use Rattle.arwen_macho.specs.FatState.{FatState, Slice, bytes_laid_over, fat_laid_bytes, fat_step, first_fat_state, first_slice, step_slices}
 use Rattle.macho_commands_signing.proofs.SliceLaws.{rising_within}
 use Rattle.macho_commands_signing.specs.Slices.{AreRising, HasSlices}
 use Rattle.macho_edits.specs.Call.{Call}
@@ -41,7 +41,7 @@ use Rattle.macho_edits.specs.Held.{is_edited_by}
 use Rattle.macho_edits.specs.State.{Refusal, State, first_state, laid_bytes, step}
 use Rattle.macho_image.proofs.ForCallers.{table_passes}
 use Rattle.macho_image.specs.Checks.{file_fault}
-use Rattle.macho_image.specs.Fat.{AreSlices, archs_of, nfat_arch_of, slice_of, table_end, table_fault}
+use Rattle.macho_image.specs.Fat.{AreSlices, archs_of, nfat_arch_of, slice_of, table_end}
 use Rattle.macho_image.specs.declared.fat.FatArch.{FatArch}
 
 -- ---- patches within a part of bytes

@@ -198,14 +198,19 @@ tells_all : (choice : Signing) (meaning : MachoMeaning) (old : Option (List ℕ)
 tells_all choice meaning old loaded e reads tells file known =
     tells_file (signs_of choice meaning) (asked meaning) loaded file e (reads_file (signs_of choice meaning) old loaded file reads known) tells
 
+-- an error that tells some outcome, and where the bytes are known theirs
+pub refused_by : (choice : Signing) (meaning : MachoMeaning) (old mid : Option (List ℕ)) (o : Outcome) (e : MachoCommandError) → Stays old mid → Tells o e → ((file : List ℕ) → old ≡ Some file → Tells (outcome choice meaning file) e) → FailsPatch choice meaning old mid e
+refused_by choice meaning old mid o (Io e) kept some tells = absurd some
+refused_by choice meaning old mid o Memory kept some tells = (kept, tells)
+refused_by choice meaning old mid o (Macho e) kept some tells = (kept, tells)
+refused_by choice meaning old mid o (MachoBatch e) kept some tells = (kept, tells)
+refused_by choice meaning old mid o (Edits e) kept some tells = (kept, tells)
+refused_by choice meaning old mid o (signing e) kept some tells = (kept, tells)
+refused_by choice meaning old mid o Unfit kept some tells = (kept, tells)
+
 pub refused_store : (choice : Signing) (meaning : MachoMeaning) (old mid : Option (List ℕ)) (loaded : Loaded) (e : MachoCommandError) → ReadsStore (signs_of choice meaning) old loaded → Stays old mid → Tells (outcome choice meaning loaded.bytes.items) e → FailsPatch choice meaning old mid e
-refused_store choice meaning old mid loaded Memory reads kept tells = (kept, λ file known. tt)
-refused_store choice meaning old mid loaded (Io e) reads kept tells = absurd tells
-refused_store choice meaning old mid loaded (Macho e) reads kept tells = (kept, tells_all choice meaning old loaded (Macho e) reads tells)
-refused_store choice meaning old mid loaded (MachoBatch e) reads kept tells = (kept, tells_all choice meaning old loaded (MachoBatch e) reads tells)
-refused_store choice meaning old mid loaded (Edits e) reads kept tells = (kept, tells_all choice meaning old loaded (Edits e) reads tells)
-refused_store choice meaning old mid loaded (signing e) reads kept tells = (kept, tells_all choice meaning old loaded (signing e) reads tells)
-refused_store choice meaning old mid loaded Unfit reads kept tells = absurd tells
+refused_store choice meaning old mid loaded e reads kept tells =
+    refused_by choice meaning old mid (outcome choice meaning loaded.bytes.items) e kept tells (tells_all choice meaning old loaded e reads tells)
 
 pub patched_store : (choice : Signing) (meaning : MachoMeaning) (old mid new : Option (List ℕ)) (loaded : Loaded) (fronts : List Front) (slots : List Slot) (pieces : List Piece) → ReadsStore (signs_of choice meaning) old loaded → Stays old mid → Writes choice meaning loaded.bytes.items fronts slots → ArePiecesOf loaded.bytes.items (slots_on slots (fronts_on fronts loaded.bytes.items)) pieces → Becomes (laid (patches_of pieces)) mid new → Patched choice meaning old new
 patched_store choice meaning old mid new loaded fronts slots pieces reads kept writes are becomes file known =

@@ -1,5 +1,5 @@
 -- What edits make of the slices of a fat file, told by their fronts.
-use Rattle.std.specs.Prelude.{ℕ, ◌≡◌, List, [], ◌∷◌, ◌++◌, All, Bool, length, map}
+use Rattle.std.specs.Prelude.{ℕ, ◌≡◌, ◌<◌, ◌^◌, List, [], ◌∷◌, ◌++◌, All, Bool, length, map}
 use Rattle.std.specs.List.{list_any}
 use Rattle.arwen_macho.specs.Container.{first_container}
 use Rattle.byte_store.specs.Laid.{LiesIn, Patch, laid}
@@ -11,8 +11,14 @@ use Rattle.macho_commands.specs.Engine.{Asked, ShowsEdited, Tells, outcome_of}
 use Rattle.macho_commands.specs.Engine.Outcome.{bytes}
 use Rattle.macho_commands.specs.Notes.{note_line}
 use Rattle.macho_commands.specs.declared.error.MachoCommandError.{MachoCommandError}
+use Rattle.macho_commands_signing.specs.Loading.{IsThinFront}
 use Rattle.macho_commands_signing.specs.Signed.{is_signed_file}
 use Rattle.macho_commands_signing.specs.declared.slices.SliceFront.{SliceFront}
+
+-- a front that was read of a slice
+pub record IsLoadedFront (front : SliceFront) : Type 0 where
+  pub low : front.offset < 2 ^ 32
+  pub thin : IsThinFront front.bytes.items
 
 -- patches that lie in a front, and make of it what edits make of it, which shows these
 pub record MakesFront (a : Asked) (front : List ℕ) (patches : List Patch) : Type 0 where

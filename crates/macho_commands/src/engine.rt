@@ -18,11 +18,14 @@ use crate::edits::parse_macho_edits;
 use crate::error::MachoCommandError;
 use crate::noting::{left_note, note_wanted, tell};
 use crate::signing::{Signing, Signs};
+use crate::sliced::patch_slices;
 use crate::verifying::verify_file;
 use arwen_macho::macho::{Front, MachoBatchError, MachoContainer, MachoEdit, lay_fronts};
 use byte_store::{Opens, Store};
 use command_words::{Notes, RegularFiles, words_of};
-use macho_commands_signing::{Loaded, changes_of, front_changes, load_for_edits, write_changes_of};
+use macho_commands_signing::{
+    Loaded, changes_of, front_changes, load_for_edits, load_slices, write_changes_of,
+};
 use macho_signatures::{Slot, lay_slots};
 use macho_signing::{NewSlots, Scope, signed_slots};
 use std::alloc::Global;
@@ -217,7 +220,7 @@ fn signed(alloc: Global, edited: &[u8], scope: Scope<'_>) -> Result<NewSlots, Ma
 
 /// The fronts that the edits of a command write over the bytes of a file, and the line of its note; no text where it is
 /// left out. Its edits are read before the bytes are looked at.
-fn fronts_of(
+pub(crate) fn fronts_of(
     alloc: Global,
     bytes: &[u8],
     command: &MachoCommand,
@@ -326,6 +329,32 @@ fn alone(alloc: Global, edit: MachoEdit) -> Result<Vec<MachoEdit>, MachoCommandE
 /// `Io` with the error of the call that failed, which the store counted, or of those that `load_up_to` and
 /// `write_pieces` make; the others tell why the edit is not made.
 pub fn patch_store<S: Store>(
+    alloc: Global,
+    store: &mut S,
+    command: &MachoCommand,
+    notes: Notes,
+    signing: Signing,
+) -> Result<String, MachoCommandError>
+    ensures patched { OnOk result (Patched signing (macho_command_model command.now)
+        (S.contents store.old) (S.contents store.new)) }
+    ensures told { IfOk result (λ text. TellsWantedAt signing (macho_command_model command.now)
+        notes (S.contents store.old) (string_bytes text)) }
+    ensures err { IfErr result (λ e. MayFail (macho_command_model command.now) e) }
+    ensures left { IfErr result (λ e. FailsPatch signing (macho_command_model command.now)
+        (S.contents store.old) (S.contents store.new) e) }
+    ensures cause { IfErr result (HasCause S.may_fail_read S.may_fail_write S.may_take_none
+        (S.contents store.old) (S.failed store.old) (S.failed store.new)) }
+{
+    if leaves_signatures(signing, command) {
+        if let Some(slices) = load_slices(alloc, store)? {
+            return patch_slices(alloc, store, &slices, command, notes, signing);
+        }
+    }
+    patch_loaded(alloc, store, command, notes, signing)
+}
+
+/// The same where the store doesn't hold a fat file whose slices are edited by their fronts.
+fn patch_loaded<S: Store>(
     alloc: Global,
     store: &mut S,
     command: &MachoCommand,

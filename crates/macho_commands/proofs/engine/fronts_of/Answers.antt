@@ -1,4 +1,3 @@
-use Rattle.macho_commands.proofs.SlicedLaws.{laid_in}
 use Rattle.std.proofs.lemmas.Result.{err_from_is_err_and}
 use Rattle.macho_commands.proofs.engine.fronts_of.Goals as goal
 
