@@ -1,5 +1,6 @@
-//! What stands below the commands for Mach-O files: whether a file bears code signatures, what is told of those whose
-//! pages don't fit, and the pieces of a file's bytes that an edit and new slots of its signatures change.
+//! What stands below the commands for Mach-O files: how much of a file is read for an edit, whether it bears code
+//! signatures, what is told of those whose pages don't fit, and the pieces of its bytes that an edit and new slots of its
+//! signatures change.
 #![tactic(auto)]
 
 mod changes;
