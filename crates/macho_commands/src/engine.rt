@@ -317,8 +317,8 @@ fn alone(alloc: Global, edit: MachoEdit) -> Result<Vec<MachoEdit>, MachoCommandE
 }
 
 /// Edits the bytes of a store in their place. Where no slot of a signature is made anew, the front of a thin file is read:
-/// its first 64 KiB, if they hold all load commands and content begins in them; and of a fat file the table, and such a
-/// front of each slice. Of any other file the first `MOST_BYTES` are read. Bytes that change are written, after all that
+/// its first 64 KiB, or else its first MiB, if they hold all load commands and content begins in them; and of a fat file
+/// the table, and such a front of each slice. Of any other file the first `MOST_BYTES` are read. Bytes that change are written, after all that
 /// may be refused or wants memory, and nothing is cut. An edit that changes no byte opens the store for writing too, and
 /// writes nothing. A refusal, and an error of a read, leave the bytes as they were; a write that fails leaves the first of
 /// the bytes that were to be written, in order.

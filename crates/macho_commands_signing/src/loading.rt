@@ -10,8 +10,11 @@ use command_words::MOST_BYTES;
 use macho_image::{MachFault, MachO, is_fat};
 use std::alloc::Global;
 
-/// How many bytes are read where a front may be enough.
+/// How many bytes are read first where a front may be enough.
 pub(crate) const FRONT: usize = 1 << 16;
+
+/// How many are read next, where content begins behind those.
+pub(crate) const LONG_FRONT: usize = 1 << 20;
 
 /// Bytes of a file that were read for an edit of it.
 #[derive(Drop)]
@@ -23,7 +26,7 @@ pub struct Loaded {
 }
 
 /// First bytes of a store that tell what an edit makes of its file: `MOST_BYTES`, as far as it has them; or, where a
-/// front is enough, that of a thin file, of which no more is read than a few pages.
+/// front is enough, that of a thin file, which has 64 KiB or 1 MiB.
 ///
 /// # Errors
 ///
@@ -74,9 +77,31 @@ fn load_front<S: Store>(alloc: Global, store: &mut S) -> Result<Option<Loaded>, 
     ensures cause { IfErr result (IsNotRead S.may_fail_read
         (S.contents store.old) (S.failed store.old) (S.failed store.new)) }
 {
-    let bytes = load_up_to(alloc, store, FRONT)?;
+    if let Some(loaded) = front_within(alloc, store, FRONT)? {
+        return Ok(Some(loaded));
+    }
+    front_within(alloc, store, LONG_FRONT)
+}
+
+/// The first bytes of a store, at most so many, where they are all or the front of a thin file.
+fn front_within<S: Store>(
+    alloc: Global,
+    store: &mut S,
+    most: usize,
+) -> Result<Option<Loaded>, ReadError>
+    requires { most ≤ 2 ^ 32 }
+    ensures loaded { IfOk result (λ found.
+        IfSome found (IsLoaded true (S.contents store.old))) }
+    ensures within { IfOk result (λ found.
+        IfSome found (λ loaded. vec_len loaded.bytes ≤ loaded.length)) }
+    ensures kept { Stays (S.contents store.old) (S.contents store.new) }
+    ensures grows { S.failed store.old ≤ S.failed store.new }
+    ensures cause { IfErr result (IsNotRead S.may_fail_read
+        (S.contents store.old) (S.failed store.old) (S.failed store.new)) }
+{
+    let bytes = load_up_to(alloc, store, most)?;
     let mut length = bytes.len() as u64;
-    if bytes.len() >= FRONT {
+    if bytes.len() >= most {
         length = store.length()?;
         if !is_front_of(alloc, bytes.as_slice(), length)? {
             return Ok(None);

@@ -6,7 +6,7 @@ ghost use Rattle.macho_image.specs.Fat.{arch_of, table};
 ghost use Rattle.macho_image.specs.declared.fat.TheConstants.{FAT_ARCH_SIZE, FAT_HEADER_SIZE};
 ghost use Rattle.macho_commands_signing.specs.Slices.{AreFrontsOf, AreRising, AreSlicesRead, IsAt, IsFrontAt, IsTableOf};
 
-use crate::loading::{FRONT, is_thin_front};
+use crate::loading::{FRONT, LONG_FRONT, is_thin_front};
 use byte_store::{ReadError, Store, load_up_to};
 use command_words::MOST_BYTES;
 use macho_image::fat::{FAT_ARCH_SIZE, FAT_HEADER_SIZE};
@@ -170,8 +170,28 @@ fn front_of<S: Store>(
     ensures cause { IfErr result (IsNotRead S.may_fail_read
         (S.contents store.old) (S.failed store.old) (S.failed store.new)) }
 {
+    if let Some(front) = front_within(alloc, store, arch, FRONT)? {
+        return Ok(Some(front));
+    }
+    front_within(alloc, store, arch, LONG_FRONT)
+}
+
+/// The same of at most so many bytes.
+fn front_within<S: Store>(
+    alloc: Global,
+    store: &mut S,
+    arch: FatArch,
+    most: usize,
+) -> Result<Option<SliceFront>, ReadError>
+    ensures front { IfOk result (λ found.
+        IfSome found (IsFrontAt (S.contents store.old) arch)) }
+    ensures kept { Stays (S.contents store.old) (S.contents store.new) }
+    ensures grows { S.failed store.old ≤ S.failed store.new }
+    ensures cause { IfErr result (IsNotRead S.may_fail_read
+        (S.contents store.old) (S.failed store.old) (S.failed store.new)) }
+{
     let offset = arch.offset as u64;
-    let bytes = load_at(alloc, store, offset, FRONT.min(arch.size as usize))?;
+    let bytes = load_at(alloc, store, offset, most.min(arch.size as usize))?;
     if !is_thin_front(alloc, bytes.as_slice())? {
         return Ok(None);
     }

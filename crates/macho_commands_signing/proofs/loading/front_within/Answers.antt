@@ -5,20 +5,20 @@ use Rattle.byte_store.specs.Known.{HasLength}
 use Rattle.macho_commands_signing.specs.declared.loading.Loaded.{Loaded}
 use Rattle.macho_commands_signing.specs.Loading.{IsThinFront}
 use Rattle.macho_commands_signing.proofs.LoadingLaws.{all_read, front_read}
-use Rattle.macho_commands_signing.proofs.loading.load_front.Goals as goal
-use Rattle.macho_commands_signing.proofs.loading.load_front.Goals.{then-len-ge-FRONT+in_ok-length+in_ok-is_front_of+else-not-branch, else-len-ge-FRONT}
+use Rattle.macho_commands_signing.proofs.loading.front_within.Goals as goal
+use Rattle.macho_commands_signing.proofs.loading.front_within.Goals.{then-len-most+in_ok-length+in_ok-is_front_of+else-not-branch, else-len-most}
 
 pub returns-clause-loaded : goal.returns-clause-loaded
 returns-clause-loaded g c =
     let bytes = c.in_ok-bytes.bytes in
-    let loaded : Loaded = record { bytes = bytes; length = c.if-len-ge-FRONT.length } in
-    elim c.if-len-ge-FRONT.branch [
-      | then-len-ge-FRONT+in_ok-length+in_ok-is_front_of+else-not-branch w ↦
+    let loaded : Loaded = record { bytes = bytes; length = c.if-len-most.length } in
+    elim c.if-len-most.branch [
+      | then-len-most+in_ok-length+in_ok-is_front_of+else-not-branch w ↦
           let front : IsTrue w.in_ok-is_front_of.field-0 = search rules in
           let Long : ℕ → Type 0 = HasLength (g.S.Store.contents c.load_up_to.new.store) in
           let thin : IsThinFront bytes.items = subst IsThinFront w.as_slice.ensures.value (w.in_ok-is_front_of.ensures.front front) in
-          front_read _ _ 65536 loaded c.in_ok-bytes.ensures.read c.in_ok-bytes.ensures.kept
+          front_read _ _ c.args.most loaded c.in_ok-bytes.ensures.read c.in_ok-bytes.ensures.kept
           (subst Long (sym w.length-is) w.in_ok-length.ensures.length) (omega (arith, w.length-is, w.in_ok-is_front_of.ensures.short front)) thin
-      | else-len-ge-FRONT w ↦
+      | else-len-most w ↦
           all_read true _ loaded (c.in_ok-bytes.ensures.whole (omega arith)) (omega (arith, bytes.ok.0)) (omega (arith, bytes.ok.0))
     ]
