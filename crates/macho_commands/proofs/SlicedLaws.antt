@@ -20,12 +20,7 @@ use Rattle.macho_commands.specs.Sliced.{MakesFront, MakesFronts, RefusesFronts, 
 use Rattle.macho_commands_signing.specs.Loading.{IsFrontOf, IsThinFront}
 use Rattle.macho_commands_signing.specs.Signed.{is_signed, is_signed_file, is_signed_slice}
 use Rattle.macho_commands_signing.specs.declared.slices.SliceFront.{SliceFront}
-use Rattle.arwen_macho.proofs.FatLaws.{accepted_slice, accepted_whole, behind_slices}
-use Rattle.arwen_macho.proofs.FatStepLaws.{fat_step_ok}
-use Rattle.arwen_macho.proofs.ShapeLaws.{fat_shows}
-use Rattle.arwen_macho.proofs.PutLaws.{length-put_at, slice-put_at_apart}
-use Rattle.arwen_macho.proofs.SliceLaws.{ApartFrom, AreLaid, AreShown, OutsideAll, get_or-laid_over, length-laid_over, shown-laid_over, take-laid_over}
-use Rattle.arwen_macho.proofs.TableLaws.{SameTable, archs_same, table_same}
+use Rattle.arwen_macho.proofs.ForCallers.{ApartFrom, AreLaid, AreShown, OutsideAll, SameTable, accepted_slice, accepted_whole, archs_same, behind_slices, fat_shows, fat_step_ok, get_or-laid_over, length-laid_over, length-put_at, shown-laid_over, slice-put_at_apart, table_same, take-laid_over}
 use Rattle.arwen_macho.specs.Container.{as_fat, as_thin, container_bytes, container_step, first_container}
 use Rattle.arwen_macho.specs.ContainerShown.{ShowsFile}
 use Rattle.arwen_macho.specs.declared.macho.MachoType.{MachoType}
