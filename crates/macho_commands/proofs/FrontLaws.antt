@@ -27,7 +27,8 @@ use Rattle.macho_commands_signing.specs.Signed.{is_signed_file}
 use Rattle.macho_commands.specs.Engine.{AreAsked, Asked, Outcome, ShowsEdited, edited_file, written}
 use Rattle.macho_commands.specs.Engine.Asked.{one, several}
 use Rattle.macho_commands.specs.Engine.Outcome.{bytes, refused, refused_batch}
-use Rattle.macho_commands.specs.Loading.{FrontDecides, IsThinFront, with_rest}
+use Rattle.macho_commands_signing.specs.Loading.{IsThinFront}
+use Rattle.macho_commands.specs.Loading.{FrontDecides, with_rest}
 
 -- ---- a file that begins as an accepted one
 
@@ -89,7 +90,7 @@ same_shape front rest four =
 abbrev pub longer_state : List ℕ → State → State
 longer_state rest s = record { old = s.old ++ rest; list = s.list; high = s.high }
 
-abbrev longer_answer : List ℕ → Result State Refusal → Result State Refusal
+abbrev pub longer_answer : List ℕ → Result State Refusal → Result State Refusal
 longer_answer rest (Ok s) = Ok (longer_state rest s)
 longer_answer rest (Err refusal) = Err refusal
 
@@ -154,12 +155,12 @@ first_longer front rest short ok =
     rw (same.1, same.2, ends) refl
 
 -- a state as it is read ends in the front
-record FirstFits (front : List ℕ) : Type 0 where
-  header : header_size (ctx_of front).container ≤ length front
-  high : (first_state front).high ≤ length front
-  room : available (first_state front) ≤ length front
+pub record FirstFits (front : List ℕ) : Type 0 where
+  pub header : header_size (ctx_of front).container ≤ length front
+  pub high : (first_state front).high ≤ length front
+  pub room : available (first_state front) ≤ length front
 
-first_fits : (front : List ℕ) → IsThinFront front → FirstFits front
+pub first_fits : (front : List ℕ) → IsThinFront front → FirstFits front
 unfolding first_state
 first_fits front is =
     let least = least_length front is.accepted in
@@ -170,7 +171,7 @@ first_fits front is =
       room = omega (arith, least.1, content);
     }
 
-found_longer : (front rest : List ℕ) → length (front ++ rest) < 2 ^ 32 → file_fault front ≡ None → begins_fat front ≡ false → (begins_fat (front ++ rest) ≡ false) × (container_found (front ++ rest) ≡ None) × (container_found front ≡ None)
+pub found_longer : (front rest : List ℕ) → length (front ++ rest) < 2 ^ 32 → file_fault front ≡ None → begins_fat front ≡ false → (begins_fat (front ++ rest) ≡ false) × (container_found (front ++ rest) ≡ None) × (container_found front ≡ None)
 unfolding container_found
 found_longer front rest short ok thin =
     let least = least_length front ok in
@@ -178,7 +179,7 @@ found_longer front rest short ok thin =
     let same = accepts front rest short ok in
     (shape, rw (shape, same.0) refl, rw (thin, ok) refl)
 
-thin_container : (bytes' : List ℕ) → begins_fat bytes' ≡ false → first_container bytes' ≡ SingleArch (held_at_read bytes')
+pub thin_container : (bytes' : List ℕ) → begins_fat bytes' ≡ false → first_container bytes' ≡ SingleArch (held_at_read bytes')
 thin_container bytes' thin = rw thin refl
 
 -- ---- what edits make of it
@@ -187,13 +188,13 @@ written_longer : (refusing : Refusal → Outcome) (rest : List ℕ) (is_edited :
 written_longer refusing rest is_edited (Ok s) keeps laid = ap (λ (l : List ℕ). bytes l) (laid s refl)
 written_longer refusing rest is_edited (Err refusal) keeps laid = sym (keeps refusal)
 
-stepped : (calls : List Call) (front rest : List ℕ) → IsThinFront front → length (front ++ rest) < 2 ^ 32 → step calls (longer_state rest (first_state front)) ≡ longer_answer rest (step calls (first_state front))
+pub stepped : (calls : List Call) (front rest : List ℕ) → IsThinFront front → length (front ++ rest) < 2 ^ 32 → step calls (longer_state rest (first_state front)) ≡ longer_answer rest (step calls (first_state front))
 unfolding first_state
 stepped calls front rest is short =
     let same = accepts front rest short is.accepted in
     step_longer calls (first_state front) rest same.1 (same_content front rest short is.accepted is.content)
 
-laid_made : (calls : List Call) (front rest : List ℕ) (s : State) → IsThinFront front → length (front ++ rest) < 2 ^ 32 → step calls (first_state front) ≡ Ok s → laid_bytes (longer_state rest s) ≡ laid_bytes s ++ rest
+pub laid_made : (calls : List Call) (front rest : List ℕ) (s : State) → IsThinFront front → length (front ++ rest) < 2 ^ 32 → step calls (first_state front) ≡ Ok s → laid_bytes (longer_state rest s) ≡ laid_bytes s ++ rest
 unfolding first_state
 laid_made calls front rest s is short made =
     let fits : FirstFits front = first_fits front is in
@@ -216,12 +217,12 @@ front_decides (several (Err wrong)) front rest is short = refl
 
 -- ---- what it shows
 
-thin_step : (calls : List Call) (front : List ℕ) → begins_fat front ≡ false → container_step calls (first_container front) ≡ as_thin (is_edited_by calls false) (step calls (first_state front))
+pub thin_step : (calls : List Call) (front : List ℕ) → begins_fat front ≡ false → container_step calls (first_container front) ≡ as_thin (is_edited_by calls false) (step calls (first_state front))
 unfolding container_step
 thin_step calls front thin = rw (thin_container front thin) refl
 
 -- bytes that show a state that fits show that of a longer file with the rest behind them
-state_longer : (s : State) (rest new : List ℕ) → length (s.old ++ rest) < 2 ^ 32 → IsThinFront s.old → begins_fat new ≡ false → Shows s new → Shows (longer_state rest s) (new ++ rest)
+pub state_longer : (s : State) (rest new : List ℕ) → length (s.old ++ rest) < 2 ^ 32 → IsThinFront s.old → begins_fat new ≡ false → Shows s new → Shows (longer_state rest s) (new ++ rest)
 state_longer s rest new short is thin shows =
     let long : length new ≡ length s.old = shows.long in
     let room : length (new ++ rest) < 2 ^ 32 = omega (arith, length-append new rest, length-append s.old rest) in

@@ -1,6 +1,9 @@
 pub mod NotingLaws
 pub mod FrontLaws
+pub mod LoadedLaws
 pub mod Outcomes
+pub mod SlicedLaws
+pub mod SlicedRuns
 pub mod StoreLaws
 pub mod SigningLaws
 pub mod FittingLaws

@@ -1,11 +1,10 @@
 -- What is told of an edit: of a file that was read, of bytes, of a store.
-use Rattle.std.proofs.Common.{◌≡◌, ◌∙◌, ◌^◌, ℕ, Bool, List, [], None, Option, ap, subst}
+use Rattle.std.proofs.Common.{◌≡◌, ◌∙◌, ℕ, Bool, List, [], None, Option, ap}
 use Rattle.arwen_macho.specs.Container.{first_container}
 use Rattle.arwen_macho.specs.Found.{container_found}
 use Rattle.arwen_macho.specs.Fronts.{fronts_on}
 use Rattle.arwen_macho.specs.declared.front.Front.{Front}
 use Rattle.arwen_macho.specs.declared.macho.MachoType.{MachoType}
-use Rattle.byte_store.specs.Known.{IsFirst}
 use Rattle.command_words.specs.Rows.{Text}
 use Rattle.command_words.specs.declared.noting.Notes.{Notes}
 use Rattle.command_words.specs.declared.noting.Notes.TheVariants.{LeftOut, Wanted}
@@ -16,28 +15,26 @@ use Rattle.macho_commands.specs.declared.signing.Signing.{Signing}
 use Rattle.macho_commands.specs.declared.signing.Signs.{Signs}
 use Rattle.macho_commands.specs.declared.signing.Signs.TheVariants.{Nothing, Touched, Whole}
 use Rattle.macho_commands_signing.specs.Signed.{is_signed_file}
-use Rattle.macho_signatures.specs.Renewed.{laid}
 use Rattle.macho_signatures.specs.declared.renewal.Slot.{Slot}
 use Rattle.macho_signing.specs.Thin.{Pages}
 use Rattle.macho_signing.specs.declared.file.NewSlots.{NewSlots}
-use Rattle.macho_commands.proofs.StoreLaws.{read_whole}
+use Rattle.macho_commands_signing.specs.declared.loading.Loaded.{Loaded}
+use Rattle.macho_commands.proofs.StoreLaws.{ReadsStore, told_all}
 
 -- what is told of the file that was read is told of its bytes
 pub told_of_bytes : (n : Notes) (path : Text) (file : List ℕ) (read : MachoType) (told : Text) → container_found file ≡ None → read ≡ first_container file → TellsOf n path read told → TellsWanted n path file told
 told_of_bytes Wanted path file read told found is tells = (found, tells ∙ ap (λ (r : MachoType). note_line (is_signed_file r) path) is)
 told_of_bytes LeftOut path file read told found is tells = tells
 
--- what is told of the first 4 GiB of a store, where they are edited
+-- what is told of what was read of a store, where it is edited
 left_out : (signs : Signs) (a : Asked) (path : Text) (file : List ℕ) (told : Text) → TellsBy signs LeftOut a path file told → told ≡ []
 left_out Nothing a path file told tells = tells
 left_out Touched a path file told tells = tells
 left_out Whole a path file told tells = tells
 
-pub told_of_store : (n : Notes) (choice : Signing) (meaning : MachoMeaning) (known : Option (List ℕ)) (loaded : List ℕ) (fronts : List Front) (slots : List Slot) (told : Text) → IsFirst (2 ^ 32) known loaded → Writes choice meaning loaded fronts slots → TellsCommand choice meaning n loaded told → TellsWantedAt choice meaning n known told
-told_of_store Wanted choice meaning known loaded fronts slots told first writes tells = λ file is.
-    let P : List ℕ → Type 0 = λ l. TellsCommand choice meaning Wanted l told in
-    subst P (read_whole (signs_of choice meaning) (asked meaning) known loaded file (laid slots (fronts_on fronts loaded)) first is writes.is) tells
-told_of_store LeftOut choice meaning known loaded fronts slots told first writes tells = left_out (signs_of choice meaning) (asked meaning) (file_of meaning) loaded told tells
+pub told_of_store : (n : Notes) (choice : Signing) (meaning : MachoMeaning) (known : Option (List ℕ)) (loaded : Loaded) (fronts : List Front) (slots : List Slot) (told : Text) → ReadsStore (signs_of choice meaning) known loaded → Writes choice meaning loaded.bytes.items fronts slots → TellsCommand choice meaning n loaded.bytes.items told → TellsWantedAt choice meaning n known told
+told_of_store Wanted choice meaning known loaded fronts slots told reads writes tells = told_all choice meaning Wanted known loaded fronts slots told reads writes tells
+told_of_store LeftOut choice meaning known loaded fronts slots told reads writes tells = left_out (signs_of choice meaning) (asked meaning) (file_of meaning) loaded.bytes.items told tells
 
 -- what is told where slots were made anew
 pub told_signed : (signs : Signs) (n : Notes) (a : Asked) (path at : Text) (file : List ℕ) (fronts : List Front) (pages : Pages) (new : NewSlots) (told : Text) → WritesEdits a file fronts → SignsBy pages (fronts_on fronts file) new → at ≡ path → TellsLeft signs n new.are_some_left at told → TellsSigned signs n a path file told

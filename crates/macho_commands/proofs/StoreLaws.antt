@@ -1,22 +1,31 @@
 -- Of a file that is too long its first bytes tell as much as the whole.
-use Rattle.std.proofs.Common.{◌≡◌, ◌≤◌, ◌-◌, ◌^◌, ◌⊎◌, inl, inr, if◌then◌else◌, ℕ, Bool, true, false, List, [], ◌∷◌, length, take, Option, Some, Ok, Err, refl, sym, ap, ◌∙◌, subst, arith}
+use Rattle.std.proofs.Common.{◌≡◌, ◌≤◌, ◌-◌, ◌^◌, ◌⊎◌, inl, inr, if◌then◌else◌, ℕ, Bool, true, false, List, [], ◌∷◌, ◌++◌, length, take, Option, Some, Ok, Err, refl, sym, ap, ◌∙◌, subst, arith}
 use Rattle.byte_store.specs.declared.pieces.Piece.{Piece}
 use Rattle.byte_store.specs.Fault.{BecomesLaid}
-use Rattle.byte_store.specs.Known.{Becomes, IsFirst, Stays}
-use Rattle.byte_store.specs.Laid.{laid, patches_of}
+use Rattle.byte_store.specs.Known.{Becomes, Stays}
+use Rattle.byte_store.specs.Laid.{LiesIn, Patch, laid, patches_of}
+use Rattle.command_words.specs.Rows.{Text}
+use Rattle.command_words.specs.declared.noting.Notes.{Notes}
 use Rattle.arwen_macho.specs.declared.front.Front.{Front}
 use Rattle.arwen_macho.specs.Fronts.{fronts_on}
 use Rattle.macho_commands.specs.Stores.{FailsPatch, Patched, Torn}
+use Rattle.macho_commands_signing.specs.Loading.{IsFirstOf, IsFrontRead, IsLoaded}
 use Rattle.macho_commands_signing.specs.Pieces.{ArePiecesOf}
+use Rattle.macho_commands_signing.specs.declared.loading.Loaded.{Loaded}
 use Rattle.macho_commands.specs.declared.signing.Signing.{Signing}
 use Rattle.macho_commands.specs.declared.signing.Signs.{Signs}
 use Rattle.macho_commands.specs.declared.signing.Signs.TheVariants.{Nothing, Touched, Whole}
 use Rattle.macho_signatures.specs.Renewed.{laid as slots_on}
 use Rattle.macho_signatures.specs.declared.renewal.Slot.{Slot}
 use Rattle.macho_signing.specs.Thin.{Pages, all, since}
-use Rattle.macho_commands.specs.Meaning.{MachoMeaning}
+use Rattle.macho_commands.specs.Loading.{with_rest}
+use Rattle.macho_commands.specs.Meaning.{MachoMeaning, file_of}
+use Rattle.macho_commands.specs.Notes.{TellsBy, TellsCommand}
+use Rattle.macho_commands.proofs.LoadedLaws.{front_outcome, front_shows, front_told, laid-append, tells_with_rest}
 use Rattle.macho_commands.specs.declared.error.MachoCommandError.{MachoCommandError}
 use Rattle.macho_commands.specs.declared.error.MachoCommandError.TheVariants.{Edits, Io, Macho, MachoBatch, Memory, Signing as signing, Unfit}
+use Rattle.std.specs.List.{All}
+use Rattle.std.specs.Prelude.{IsTrue}
 use Rattle.std.proofs.lemmas.Bool.{cases_lt, cond-true, lt-ltb}
 use Rattle.std.proofs.lemmas.List.{length-take-le, take_all}
 use Rattle.macho_image.specs.Checks.{file_fault}
@@ -24,7 +33,7 @@ use Rattle.macho_image.specs.Fat.{table_fault}
 use Rattle.macho_image.specs.declared.format.MachFault.TheVariants.{TooLong}
 use Rattle.arwen_macho.specs.Found.{begins_fat, container_found, fat_found, found_fault}
 use Rattle.arwen_macho.specs.Found.Found.{fault}
-use Rattle.macho_commands.specs.Engine.{Asked, IsSignedOutcome, MayFail, Outcome, Tells, Writes, asked, edited_file, outcome, outcome_by, outcome_of, sign_on, signs_of}
+use Rattle.macho_commands.specs.Engine.{Asked, IsSignedOutcome, MayFail, Outcome, ShowsBy, Tells, Writes, asked, edited_file, outcome, outcome_by, outcome_of, sign_on, signs_of}
 use Rattle.macho_commands.specs.Engine.Asked.{one, several}
 use Rattle.macho_commands.specs.Engine.Outcome.{bytes, no_file, refused, refused_batch}
 
@@ -122,49 +131,109 @@ whole_of_first_by Whole a file new makes = elim (cases_lt (length file) (2 ^ 32)
   | inr long ↦ absurd (long_signs_none all a (take (2 ^ 32) file) new (long_first file long) makes)
 ]
 
--- ---- a run over a store, of which the first 4 GiB were read
+-- ---- a run over a store, of which the first 4 GiB were read, or a front where no slot is made anew
 
-pub read_outcome : (signs : Signs) (a : Asked) (old : Option (List ℕ)) (loaded file : List ℕ) → IsFirst (2 ^ 32) old loaded → old ≡ Some file → outcome_by signs a loaded ≡ outcome_by signs a file
-read_outcome signs a old loaded file first known = ap (outcome_by signs a) (first file known) ∙ first_outcome_by signs a file
+abbrev Reads : Signs → Loaded → List ℕ → Type 0
+Reads signs loaded file = IsFirstOf loaded file ⊎ ((signs ≡ Nothing) × IsFrontRead loaded file)
 
-pub read_whole : (signs : Signs) (a : Asked) (old : Option (List ℕ)) (loaded file made : List ℕ) → IsFirst (2 ^ 32) old loaded → old ≡ Some file → outcome_by signs a loaded ≡ bytes made → loaded ≡ file
-read_whole signs a old loaded file made first known makes =
-    first file known ∙ whole_of_first_by signs a file made (ap (outcome_by signs a) (sym (first file known)) ∙ makes)
+-- what was read of a file whose bytes are known
+pub record ReadsStore (signs : Signs) (old : Option (List ℕ)) (loaded : Loaded) : Type 0 where
+  pub enough : Bool
+  pub leaves : IsTrue enough → signs ≡ Nothing
+  pub is : IsLoaded enough old loaded
 
-tells_whole : (choice : Signing) (meaning : MachoMeaning) (old : Option (List ℕ)) (loaded file : List ℕ) (e : MachoCommandError) → IsFirst (2 ^ 32) old loaded → old ≡ Some file → Tells (outcome choice meaning loaded) e → Tells (outcome choice meaning file) e
-tells_whole choice meaning old loaded file e first known tells =
+reads_file : (signs : Signs) (old : Option (List ℕ)) (loaded : Loaded) (file : List ℕ) → ReadsStore signs old loaded → old ≡ Some file → Reads signs loaded file
+reads_file signs old loaded file reads known = elim (reads.is file known) [
+  | inl first ↦ inl first
+  | inr front ↦ inr (reads.leaves front.0, front.1)
+]
+
+-- where new bytes are made of what was read, that was all of the file
+whole_read : (signs : Signs) (a : Asked) (loaded : Loaded) (file new : List ℕ) → IsFirstOf loaded file → outcome_by signs a loaded.bytes.items ≡ bytes new → loaded.bytes.items ≡ file
+whole_read signs a loaded file new first makes =
+    first.first ∙ whole_of_first_by signs a file new (ap (outcome_by signs a) (sym first.first) ∙ makes)
+
+-- what a file becomes by patches of what was read
+pub record MakesOf (signs : Signs) (a : Asked) (loaded : Loaded) (patches : List Patch) (file : List ℕ) : Type 0 where
+  pub is : outcome_by signs a file ≡ bytes (laid patches file)
+  pub shows : ShowsBy signs a file (laid patches file)
+  pub long : length file ≡ loaded.length
+
+makes_of : (signs : Signs) (a : Asked) (loaded : Loaded) (patches : List Patch) (file : List ℕ) → Reads signs loaded file → All (LiesIn (length loaded.bytes.items)) patches → outcome_by signs a loaded.bytes.items ≡ bytes (laid patches loaded.bytes.items) → ShowsBy signs a loaded.bytes.items (laid patches loaded.bytes.items) → MakesOf signs a loaded patches file
+makes_of signs a loaded patches file (inl first) inside makes shows =
+    let Shown : List ℕ → Type 0 = λ l. ShowsBy signs a l (laid patches l) in
+    let whole : loaded.bytes.items ≡ file = whole_read signs a loaded file (laid patches loaded.bytes.items) first makes in
+    record {
+      is = ap (outcome_by signs a) (sym whole) ∙ makes ∙ ap (λ (l : List ℕ). bytes (laid patches l)) whole;
+      shows = subst Shown whole shows;
+      long = ap length (sym whole) ∙ sym first.long;
+    }
+makes_of signs a loaded patches file (inr (leaves, read)) inside makes shows =
+    let front : List ℕ = loaded.bytes.items in
+    let rest : List ℕ = read.front.rest in
+    let over : laid patches front ++ rest ≡ laid patches file = sym (laid-append patches front rest inside) ∙ ap (laid patches) read.front.joined in
+    let Shown : List ℕ → Type 0 = ShowsBy signs a file in
+    record {
+      is = front_outcome signs a front file read.front leaves ∙ ap (with_rest rest) makes ∙ ap (λ (l : List ℕ). bytes l) over;
+      shows = subst Shown over (front_shows signs a front file (laid patches front) read.front leaves shows);
+      long = sym read.long;
+    }
+
+-- the same of what a command writes
+pub makes_store : (choice : Signing) (meaning : MachoMeaning) (old : Option (List ℕ)) (loaded : Loaded) (fronts : List Front) (slots : List Slot) (pieces : List Piece) (file : List ℕ) → ReadsStore (signs_of choice meaning) old loaded → old ≡ Some file → Writes choice meaning loaded.bytes.items fronts slots → ArePiecesOf loaded.bytes.items (slots_on slots (fronts_on fronts loaded.bytes.items)) pieces → MakesOf (signs_of choice meaning) (asked meaning) loaded (patches_of pieces) file
+makes_store choice meaning old loaded fronts slots pieces file reads known writes are =
+    let Made : List ℕ → Type 0 = λ l. IsSignedOutcome choice meaning loaded.bytes.items l in
+    makes_of (signs_of choice meaning) (asked meaning) loaded (patches_of pieces) file (reads_file (signs_of choice meaning) old loaded file reads known)
+    are.inside (writes.is ∙ ap (λ (l : List ℕ). bytes l) (sym are.same)) (subst Made (sym are.same) writes.shows)
+
+tells_file : (signs : Signs) (a : Asked) (loaded : Loaded) (file : List ℕ) (e : MachoCommandError) → Reads signs loaded file → Tells (outcome_by signs a loaded.bytes.items) e → Tells (outcome_by signs a file) e
+tells_file signs a loaded file e (inl first) tells =
     let P : Outcome → Type 0 = λ o. Tells o e in
-    subst P (read_outcome (signs_of choice meaning) (asked meaning) old loaded file first known) tells
+    subst P (ap (outcome_by signs a) first.first ∙ first_outcome_by signs a file) tells
+tells_file signs a loaded file e (inr (leaves, read)) tells =
+    let P : Outcome → Type 0 = λ o. Tells o e in
+    subst P (sym (front_outcome signs a loaded.bytes.items file read.front leaves)) (tells_with_rest read.front.rest (outcome_by signs a loaded.bytes.items) e tells)
 
-pub refused_store : (choice : Signing) (meaning : MachoMeaning) (old mid : Option (List ℕ)) (loaded : List ℕ) (e : MachoCommandError) → IsFirst (2 ^ 32) old loaded → Stays old mid → Tells (outcome choice meaning loaded) e → FailsPatch choice meaning old mid e
-refused_store choice meaning old mid loaded Memory first kept tells = (kept, λ file known. tt)
-refused_store choice meaning old mid loaded (Io e) first kept tells = absurd tells
-refused_store choice meaning old mid loaded (Macho e) first kept tells = (kept, λ file known. tells_whole choice meaning old loaded file (Macho e) first known tells)
-refused_store choice meaning old mid loaded (MachoBatch e) first kept tells = (kept, λ file known. tells_whole choice meaning old loaded file (MachoBatch e) first known tells)
-refused_store choice meaning old mid loaded (Edits e) first kept tells = (kept, λ file known. tells_whole choice meaning old loaded file (Edits e) first known tells)
-refused_store choice meaning old mid loaded (signing e) first kept tells = (kept, λ file known. tells_whole choice meaning old loaded file (signing e) first known tells)
-refused_store choice meaning old mid loaded Unfit first kept tells = absurd tells
+tells_all : (choice : Signing) (meaning : MachoMeaning) (old : Option (List ℕ)) (loaded : Loaded) (e : MachoCommandError) → ReadsStore (signs_of choice meaning) old loaded → Tells (outcome choice meaning loaded.bytes.items) e → (file : List ℕ) → old ≡ Some file → Tells (outcome choice meaning file) e
+tells_all choice meaning old loaded e reads tells file known =
+    tells_file (signs_of choice meaning) (asked meaning) loaded file e (reads_file (signs_of choice meaning) old loaded file reads known) tells
 
-pub patched_store : (choice : Signing) (meaning : MachoMeaning) (old mid new : Option (List ℕ)) (loaded : List ℕ) (fronts : List Front) (slots : List Slot) (pieces : List Piece) → IsFirst (2 ^ 32) old loaded → Stays old mid → Writes choice meaning loaded fronts slots → ArePiecesOf loaded (slots_on slots (fronts_on fronts loaded)) pieces → Becomes (laid (patches_of pieces)) mid new → Patched choice meaning old new
-patched_store choice meaning old mid new loaded fronts slots pieces first kept writes are becomes file known =
-    let all_made : List ℕ = slots_on slots (fronts_on fronts loaded) in
-    let Shown : List ℕ → Type 0 = λ l. IsSignedOutcome choice meaning l (laid (patches_of pieces) l) in
-    let Made : List ℕ → Type 0 = λ l. IsSignedOutcome choice meaning loaded l in
-    let whole : loaded ≡ file = read_whole (signs_of choice meaning) (asked meaning) old loaded file all_made first known writes.is in (
-      laid (patches_of pieces) file,
-      ap (outcome choice meaning) (sym whole) ∙ writes.is ∙ ap (λ (l : List ℕ). bytes l) (sym are.same ∙ ap (laid (patches_of pieces)) whole),
-      becomes file (kept ∙ known),
-      subst Shown whole (subst Made (sym are.same) writes.shows),
-    )
+-- an error that tells some outcome, and where the bytes are known theirs
+pub refused_by : (choice : Signing) (meaning : MachoMeaning) (old mid : Option (List ℕ)) (o : Outcome) (e : MachoCommandError) → Stays old mid → Tells o e → ((file : List ℕ) → old ≡ Some file → Tells (outcome choice meaning file) e) → FailsPatch choice meaning old mid e
+refused_by choice meaning old mid o (Io e) kept some tells = absurd some
+refused_by choice meaning old mid o Memory kept some tells = (kept, tells)
+refused_by choice meaning old mid o (Macho e) kept some tells = (kept, tells)
+refused_by choice meaning old mid o (MachoBatch e) kept some tells = (kept, tells)
+refused_by choice meaning old mid o (Edits e) kept some tells = (kept, tells)
+refused_by choice meaning old mid o (signing e) kept some tells = (kept, tells)
+refused_by choice meaning old mid o Unfit kept some tells = (kept, tells)
 
-pub torn_store : (choice : Signing) (meaning : MachoMeaning) (old mid new : Option (List ℕ)) (loaded : List ℕ) (fronts : List Front) (slots : List Slot) (pieces : List Piece) → IsFirst (2 ^ 32) old loaded → Stays old mid → Writes choice meaning loaded fronts slots → ArePiecesOf loaded (slots_on slots (fronts_on fronts loaded)) pieces → Stays mid new ⊎ BecomesLaid (patches_of pieces) mid new → Stays old new ⊎ Torn choice meaning old new
-torn_store choice meaning old mid new loaded fronts slots pieces first kept writes are (inl stays) = inl (stays ∙ kept)
-torn_store choice meaning old mid new loaded fronts slots pieces first kept writes are (inr laid_first) = inr (λ file known.
-    let whole : loaded ≡ file = read_whole (signs_of choice meaning) (asked meaning) old loaded file (slots_on slots (fronts_on fronts loaded)) first known writes.is in (
-      patches_of pieces,
-      ap (outcome choice meaning) (sym whole) ∙ writes.is ∙ ap (λ (l : List ℕ). bytes l) (sym are.same ∙ ap (laid (patches_of pieces)) whole),
-      (laid_first.0, laid_first.1 file (kept ∙ known)),
-    ))
+pub refused_store : (choice : Signing) (meaning : MachoMeaning) (old mid : Option (List ℕ)) (loaded : Loaded) (e : MachoCommandError) → ReadsStore (signs_of choice meaning) old loaded → Stays old mid → Tells (outcome choice meaning loaded.bytes.items) e → FailsPatch choice meaning old mid e
+refused_store choice meaning old mid loaded e reads kept tells =
+    refused_by choice meaning old mid (outcome choice meaning loaded.bytes.items) e kept tells (tells_all choice meaning old loaded e reads tells)
+
+pub patched_store : (choice : Signing) (meaning : MachoMeaning) (old mid new : Option (List ℕ)) (loaded : Loaded) (fronts : List Front) (slots : List Slot) (pieces : List Piece) → ReadsStore (signs_of choice meaning) old loaded → Stays old mid → Writes choice meaning loaded.bytes.items fronts slots → ArePiecesOf loaded.bytes.items (slots_on slots (fronts_on fronts loaded.bytes.items)) pieces → Becomes (laid (patches_of pieces)) mid new → Patched choice meaning old new
+patched_store choice meaning old mid new loaded fronts slots pieces reads kept writes are becomes file known =
+    let makes = makes_store choice meaning old loaded fronts slots pieces file reads known writes are in
+    (laid (patches_of pieces) file, makes.is, becomes file (kept ∙ known), makes.shows)
+
+pub torn_store : (choice : Signing) (meaning : MachoMeaning) (old mid new : Option (List ℕ)) (loaded : Loaded) (fronts : List Front) (slots : List Slot) (pieces : List Piece) → ReadsStore (signs_of choice meaning) old loaded → Stays old mid → Writes choice meaning loaded.bytes.items fronts slots → ArePiecesOf loaded.bytes.items (slots_on slots (fronts_on fronts loaded.bytes.items)) pieces → Stays mid new ⊎ BecomesLaid (patches_of pieces) mid new → Stays old new ⊎ Torn choice meaning old new
+torn_store choice meaning old mid new loaded fronts slots pieces reads kept writes are (inl stays) = inl (stays ∙ kept)
+torn_store choice meaning old mid new loaded fronts slots pieces reads kept writes are (inr laid_first) = inr (λ file known.
+    let makes = makes_store choice meaning old loaded fronts slots pieces file reads known writes are in
+    (patches_of pieces, makes.is, (laid_first.0, laid_first.1 file (kept ∙ known))))
+
+-- the line that is told of what was read is told of the file
+told_file : (signs : Signs) (n : Notes) (a : Asked) (path : Text) (loaded : Loaded) (file new : List ℕ) (told : Text) → Reads signs loaded file → outcome_by signs a loaded.bytes.items ≡ bytes new → TellsBy signs n a path loaded.bytes.items told → TellsBy signs n a path file told
+told_file signs n a path loaded file new told (inl first) makes tells =
+    let P : List ℕ → Type 0 = λ l. TellsBy signs n a path l told in
+    subst P (whole_read signs a loaded file new first makes) tells
+told_file signs n a path loaded file new told (inr (leaves, read)) makes tells = front_told signs n a path loaded.bytes.items file told read.front leaves tells
+
+pub told_all : (choice : Signing) (meaning : MachoMeaning) (n : Notes) (old : Option (List ℕ)) (loaded : Loaded) (fronts : List Front) (slots : List Slot) (told : Text) → ReadsStore (signs_of choice meaning) old loaded → Writes choice meaning loaded.bytes.items fronts slots → TellsCommand choice meaning n loaded.bytes.items told → (file : List ℕ) → old ≡ Some file → TellsCommand choice meaning n file told
+told_all choice meaning n old loaded fronts slots told reads writes tells file known =
+    told_file (signs_of choice meaning) n (asked meaning) (file_of meaning) loaded file (slots_on slots (fronts_on fronts loaded.bytes.items)) told
+    (reads_file (signs_of choice meaning) old loaded file reads known) writes.is tells
 
 -- an error that tells an outcome is one that the command may have
 pub may_fail : (choice : Signing) (meaning : MachoMeaning) (file : List ℕ) (e : MachoCommandError) → Tells (outcome choice meaning file) e → MayFail meaning e

@@ -7,5 +7,6 @@ pub mod Loading
 pub mod Meaning
 pub mod Notes
 pub mod Refusing
+pub mod Sliced
 pub mod Stores
 pub mod Verifying

@@ -1,20 +1,10 @@
 -- The first bytes of a file from which a command makes what it makes of the whole.
-use Rattle.std.specs.Prelude.{ℕ, ◌≡◌, ◌<◌, ◌^◌, ◌++◌, List, None, length, false}
-use Rattle.patch_bytes.specs.Bytes.{AreBytes}
+use Rattle.std.specs.Prelude.{ℕ, ◌≡◌, ◌<◌, ◌^◌, ◌++◌, List, length}
 use Rattle.arwen_macho.specs.Container.{first_container}
-use Rattle.arwen_macho.specs.Found.{begins_fat}
-use Rattle.macho_image.specs.Checks.{file_fault}
-use Rattle.macho_image.specs.Commands.{first_content_of}
 use Rattle.macho_commands.specs.Engine.{Asked, Outcome, ShowsEdited, outcome_of}
 use Rattle.macho_commands.specs.Engine.Outcome.{bytes, no_edits, no_file, refused, refused_batch, not_signed}
+use Rattle.macho_commands_signing.specs.Loading.{IsThinFront}
 use Rattle.macho_commands_signing.specs.Signed.{is_signed_file}
-
--- bytes that are a thin file by themselves, and in which content begins
-pub record IsThinFront (front : List ℕ) : Type 0 where
-  pub bytes : AreBytes front
-  pub thin : begins_fat front ≡ false
-  pub accepted : file_fault front ≡ None
-  pub content : first_content_of front < length front
 
 -- the outcome of a file, by that of its front: new bytes have the rest of the file behind them
 abbrev pub with_rest : List ℕ → Outcome → Outcome

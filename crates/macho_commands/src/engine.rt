@@ -1,5 +1,5 @@
 //! New bytes of old ones.
-ghost use Rattle.std.specs.Prelude.{◌≡◌, ◌≢◌, ◌∷◌, [], All, None, Ok, Some, IfOk, IfErr, OnOk, length, string_bytes};
+ghost use Rattle.std.specs.Prelude.{◌≡◌, ◌≢◌, ◌∷◌, [], All, None, Ok, Some, IfOk, IfErr, IsTrue, OnOk, length, string_bytes};
 ghost use Rattle.macho_edits.specs.Batch.{calls_of};
 ghost use Rattle.arwen_macho.specs.Fronts.{LiesIn, fronts_on};
 ghost use Rattle.macho_commands.specs.Engine.{AreAsked, IsSignedOutcome, IsSigningError, MayFail, Outcome};
@@ -18,11 +18,14 @@ use crate::edits::parse_macho_edits;
 use crate::error::MachoCommandError;
 use crate::noting::{left_note, note_wanted, tell};
 use crate::signing::{Signing, Signs};
+use crate::sliced::patch_slices;
 use crate::verifying::verify_file;
 use arwen_macho::macho::{Front, MachoBatchError, MachoContainer, MachoEdit, lay_fronts};
-use byte_store::{Opens, Store, load_up_to};
-use command_words::{MOST_BYTES, Notes, RegularFiles, words_of};
-use macho_commands_signing::{changes_of, front_changes, write_changes_of};
+use byte_store::{Opens, Store};
+use command_words::{Notes, RegularFiles, words_of};
+use macho_commands_signing::{
+    Loaded, changes_of, front_changes, load_for_edits, load_slices, write_changes_of,
+};
 use macho_signatures::{Slot, lay_slots};
 use macho_signing::{NewSlots, Scope, signed_slots};
 use std::alloc::Global;
@@ -91,6 +94,17 @@ fn signs_of(signing: Signing, command: &MachoCommand) -> Signs
         (MachoCommand::Verify(_), _) => Signs::Nothing,
         (_, Signing::Renewed) => Signs::Touched,
         (_, Signing::Left) => Signs::Nothing,
+    }
+}
+
+/// Whether a command makes no slot of a signature anew.
+fn leaves_signatures(signing: Signing, command: &MachoCommand) -> bool
+    ensures { IsTrue result
+        → signs_of signing (macho_command_model command.now) ≡ Signs.Nothing }
+{
+    match signs_of(signing, command) {
+        Signs::Nothing => true,
+        _ => false,
     }
 }
 
@@ -206,7 +220,7 @@ fn signed(alloc: Global, edited: &[u8], scope: Scope<'_>) -> Result<NewSlots, Ma
 
 /// The fronts that the edits of a command write over the bytes of a file, and the line of its note; no text where it is
 /// left out. Its edits are read before the bytes are looked at.
-fn fronts_of(
+pub(crate) fn fronts_of(
     alloc: Global,
     bytes: &[u8],
     command: &MachoCommand,
@@ -302,10 +316,12 @@ fn alone(alloc: Global, edit: MachoEdit) -> Result<Vec<MachoEdit>, MachoCommandE
     Ok(edits)
 }
 
-/// Edits the bytes of a store in their place. Its first `MOST_BYTES` are read; bytes that change are
-/// written, after all that may be refused or wants memory, and nothing is cut. An edit that changes no
-/// byte opens the store for writing too, and writes nothing. A refusal, and an error of a read, leave the bytes
-/// as they were; a write that fails leaves the first of the bytes that were to be written, in order.
+/// Edits the bytes of a store in their place. Where no slot of a signature is made anew, the front of a thin file is read:
+/// its first 64 KiB, or else its first MiB, if they hold all load commands and content begins in them; and of a fat file
+/// the table, and such a front of each slice. Of any other file the first `MOST_BYTES` are read. Bytes that change are written, after all that
+/// may be refused or wants memory, and nothing is cut. An edit that changes no byte opens the store for writing too, and
+/// writes nothing. A refusal, and an error of a read, leave the bytes as they were; a write that fails leaves the first of
+/// the bytes that were to be written, in order.
 ///
 /// Where notes are wanted, the line is answered that tells what a user should know of the edit, of the bytes as they
 /// were, with the command's path; else no text. It is made before anything is written.
@@ -331,14 +347,41 @@ pub fn patch_store<S: Store>(
     ensures cause { IfErr result (HasCause S.may_fail_read S.may_fail_write S.may_take_none
         (S.contents store.old) (S.failed store.old) (S.failed store.new)) }
 {
-    let mut bytes = load_up_to(alloc, store, MOST_BYTES)?;
+    if leaves_signatures(signing, command) {
+        if let Some(slices) = load_slices(alloc, store)? {
+            return patch_slices(alloc, store, &slices, command, notes, signing);
+        }
+    }
+    patch_loaded(alloc, store, command, notes, signing)
+}
+
+/// The same where the store doesn't hold a fat file whose slices are edited by their fronts.
+fn patch_loaded<S: Store>(
+    alloc: Global,
+    store: &mut S,
+    command: &MachoCommand,
+    notes: Notes,
+    signing: Signing,
+) -> Result<String, MachoCommandError>
+    ensures patched { OnOk result (Patched signing (macho_command_model command.now)
+        (S.contents store.old) (S.contents store.new)) }
+    ensures told { IfOk result (λ text. TellsWantedAt signing (macho_command_model command.now)
+        notes (S.contents store.old) (string_bytes text)) }
+    ensures err { IfErr result (λ e. MayFail (macho_command_model command.now) e) }
+    ensures left { IfErr result (λ e. FailsPatch signing (macho_command_model command.now)
+        (S.contents store.old) (S.contents store.new) e) }
+    ensures cause { IfErr result (HasCause S.may_fail_read S.may_fail_write S.may_take_none
+        (S.contents store.old) (S.failed store.old) (S.failed store.new)) }
+{
+    let leaves = leaves_signatures(signing, command);
+    let Loaded { mut bytes, length } = load_for_edits(alloc, store, leaves)?;
     let Made {
         fronts,
         slots,
         text,
     } = made_of(alloc, bytes.as_slice(), command, notes, signing)?;
     let pieces = changes_of(alloc, &mut bytes, fronts.as_slice(), slots.as_slice())?;
-    write_changes_of(store, bytes.len() as u64, pieces.as_slice())?;
+    write_changes_of(store, length, pieces.as_slice())?;
     Ok(text)
 }
 

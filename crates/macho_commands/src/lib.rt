@@ -10,6 +10,7 @@ mod error;
 pub mod laws;
 mod noting;
 mod signing;
+mod sliced;
 mod tables;
 mod verifying;
 

@@ -1,7 +1,9 @@
+pub mod LoadingLaws
 pub mod PieceLaws
 pub mod EditedSignature
 pub mod RenewedSignature
 pub mod StepSignature
+pub mod SliceLaws
 pub mod FitWords
 pub mod KeptSignature
 pub mod KeptParts

@@ -1,4 +1,6 @@
 pub mod Kept
+pub mod Loading
 pub mod Pieces
 pub mod Signed
+pub mod Slices
 pub mod Verdicts

@@ -1,16 +1,18 @@
 //! The bytes that fronts and slots change, and writing them into a store.
-ghost use Rattle.std.specs.Prelude.{◌≡◌, ◌+◌, ◌≤◌, ◌⊎◌, All, IfErr, IfOk, IsTrue, OnErr, OnOk, length};
+ghost use Rattle.std.specs.Prelude.{◌≡◌, ◌+◌, ◌^◌, ◌++◌, ◌<◌, ◌≤◌, ◌⊎◌, All, IfErr, IfOk, IsTrue, OnErr, OnOk, length, map};
 ghost use Rattle.byte_store.specs.Causes.{EndsBy};
 ghost use Rattle.byte_store.specs.Fault.{BecomesLaid};
 ghost use Rattle.byte_store.specs.Known.{Becomes, HasLength, Stays, put_at};
+ghost use Rattle.byte_store.specs.Composed.{owned_patches};
 ghost use Rattle.byte_store.specs.Laid.{LiesIn, laid, patches_of};
+ghost use Rattle.byte_store.specs.Shown.{shifted};
 ghost use Rattle.arwen_macho.specs.Fronts.{LiesIn as IsInside, fronts_on};
 ghost use Rattle.macho_signatures.specs.Pages.{hash_bytes};
 ghost use Rattle.macho_signatures.specs.Renewed.{SlotLies, laid as slots_on};
 ghost use Rattle.macho_commands_signing.specs.Pieces.{ArePiecesOf, LaysOn, LiesOn};
 
 use arwen_macho::macho::Front;
-use byte_store::{Piece, Store, write_pieces};
+use byte_store::{OwnedPiece, Piece, Store, write_pieces};
 use macho_signatures::Slot;
 use std::alloc::{AllocError, Global};
 use std::io;
@@ -108,6 +110,45 @@ fn put(bytes: &mut [u8], at: usize, part: &[u8])
     ensures { bytes.new ≡ put_at at part.now bytes.old }
 {
     bytes[at..at + part.len()].copy_from_slice(part);
+}
+
+/// Puts copies of the changes of a slice, which begins at an offset, behind pieces of its file. Error: `AllocError`.
+pub fn push_changes_at(
+    alloc: Global,
+    pieces: &mut Vec<OwnedPiece>,
+    offset: u64,
+    changes: &[Piece<'_>],
+) -> Result<(), AllocError>
+    requires at { offset < 2 ^ 32 }
+    requires inside { All (LiesIn (2 ^ 32)) (patches_of changes.now) }
+    ensures { OnOk result (owned_patches pieces.new.items
+        ≡ owned_patches pieces.old.items ++ map (shifted offset) (patches_of changes.now)) }
+{
+    for change in changes {
+        let bytes = Vec::from_slice(alloc, change.bytes)?;
+        pieces.push(OwnedPiece {
+            offset: offset + change.offset,
+            bytes,
+        })?;
+    }
+    Ok(())
+}
+
+/// Pieces that have their bytes from others. Error: `AllocError`.
+pub fn lent_pieces<'a>(
+    alloc: Global,
+    pieces: &'a [OwnedPiece],
+) -> Result<Vec<Piece<'a>>, AllocError>
+    ensures { IfOk result (λ lent. patches_of lent.items ≡ owned_patches pieces.now) }
+{
+    let mut lent = Vec::with_capacity(alloc, pieces.len())?;
+    for piece in pieces {
+        lent.push(Piece {
+            offset: piece.offset,
+            bytes: piece.bytes.as_slice(),
+        })?;
+    }
+    Ok(lent)
 }
 
 /// Writes pieces over the bytes of a store that has so many. It is opened for writing also where there are

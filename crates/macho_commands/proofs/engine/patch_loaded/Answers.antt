@@ -1,0 +1,57 @@
+-- What was read of the store tells of its file.
+use Rattle.std.proofs.Common.{◌∙◌, sym}
+use Rattle.std.proofs.lemmas.Result.{err_from_is_err_and}
+use Rattle.macho_commands_signing.specs.declared.loading.Loaded.{Loaded}
+use Rattle.macho_commands.specs.Engine.{signs_of}
+use Rattle.macho_commands.specs.Meaning.{macho_command_model}
+use Rattle.macho_commands.proofs.NotingLaws.{told_of_store}
+use Rattle.macho_commands.proofs.StoreLaws.{ReadsStore, makes_store, patched_store, refused_store, torn_store}
+use Rattle.macho_commands.proofs.engine.patch_loaded.Goals as goal
+
+pub returns-in_err-fronts-clause-left : goal.returns-in_err-fronts-clause-left
+returns-in_err-fronts-clause-left g c =
+    let p = err_from_is_err_and c.from_residual-in_err-fronts.result c.from_residual-in_err-fronts.ensures.1 in
+    let loaded : Loaded = c.in_ok-bytes.field-0 in
+    let reads : ReadsStore (signs_of c.args.signing (macho_command_model c.args.command.now)) (g.S.Store.contents c.args.store.now) loaded =
+    record { enough = c.leaves_signatures-leaves.result; leaves = c.leaves_signatures-leaves.ensures; is = c.in_ok-bytes.ensures.loaded } in
+    rw (p.1, p.2) (refused_store c.args.signing (macho_command_model c.args.command.now) _ _ loaded _ reads c.in_ok-bytes.ensures.kept (rw (sym c.as_slice.ensures.value) c.in_err-fronts.ensures.err))
+
+pub returns-clause-patched : goal.returns-clause-patched
+returns-clause-patched g c =
+    let loaded : Loaded = c.in_ok-bytes.field-0 in
+    let reads : ReadsStore (signs_of c.args.signing (macho_command_model c.args.command.now)) (g.S.Store.contents c.args.store.now) loaded =
+    record { enough = c.leaves_signatures-leaves.result; leaves = c.leaves_signatures-leaves.ensures; is = c.in_ok-bytes.ensures.loaded } in
+    patched_store c.args.signing (macho_command_model c.args.command.now) _ _ _ loaded c.as_slice-2.result.now c.as_slice-3.result.now c.as_slice-4.result.now reads c.in_ok-bytes.ensures.kept
+    (rw (sym c.as_slice.ensures.value, c.as_slice-2.ensures.value, c.as_slice-3.ensures.value) c.in_ok-fronts.ensures.ok)
+    (rw (sym c.deref_mut.ensures.value, c.as_slice-4.ensures.value) c.in_ok-pieces.ensures.ok)
+    c.in_ok-write_changes_of.ensures.ok
+
+pub write_changes_of-requires-clause-old : goal.write_changes_of-requires-clause-old
+write_changes_of-requires-clause-old g c = λ file known.
+    let loaded : Loaded = c.in_ok-bytes.field-0 in
+    let reads : ReadsStore (signs_of c.args.signing (macho_command_model c.args.command.now)) (g.S.Store.contents c.args.store.now) loaded =
+    record { enough = c.leaves_signatures-leaves.result; leaves = c.leaves_signatures-leaves.ensures; is = c.in_ok-bytes.ensures.loaded } in
+    (makes_store c.args.signing (macho_command_model c.args.command.now) (g.S.Store.contents c.args.store.now) loaded c.as_slice-2.result.now c.as_slice-3.result.now c.as_slice-4.result.now file reads (sym c.in_ok-bytes.ensures.kept ∙ known)
+    (rw (sym c.as_slice.ensures.value, c.as_slice-2.ensures.value, c.as_slice-3.ensures.value) c.in_ok-fronts.ensures.ok)
+    (rw (sym c.deref_mut.ensures.value, c.as_slice-4.ensures.value) c.in_ok-pieces.ensures.ok)).long
+
+pub returns-in_err-write_changes_of-clause-left : goal.returns-in_err-write_changes_of-clause-left
+returns-in_err-write_changes_of-clause-left g c =
+    let p = err_from_is_err_and c.from_residual-in_err-write_changes_of.result c.from_residual-in_err-write_changes_of.ensures.1 in
+    let loaded : Loaded = c.in_ok-bytes.field-0 in
+    let reads : ReadsStore (signs_of c.args.signing (macho_command_model c.args.command.now)) (g.S.Store.contents c.args.store.now) loaded =
+    record { enough = c.leaves_signatures-leaves.result; leaves = c.leaves_signatures-leaves.ensures; is = c.in_ok-bytes.ensures.loaded } in
+    rw (p.1, p.2) (torn_store c.args.signing (macho_command_model c.args.command.now) _ _ _ loaded c.as_slice-2.result.now c.as_slice-3.result.now c.as_slice-4.result.now reads c.in_ok-bytes.ensures.kept
+    (rw (sym c.as_slice.ensures.value, c.as_slice-2.ensures.value, c.as_slice-3.ensures.value) c.in_ok-fronts.ensures.ok)
+    (rw (sym c.deref_mut.ensures.value, c.as_slice-4.ensures.value) c.in_ok-pieces.ensures.ok)
+    c.in_err-write_changes_of.ensures.err)
+
+-- the line of what was read is that of the file
+pub returns-clause-told : goal.returns-clause-told
+returns-clause-told g c =
+    let loaded : Loaded = c.in_ok-bytes.field-0 in
+    let reads : ReadsStore (signs_of c.args.signing (macho_command_model c.args.command.now)) (g.S.Store.contents c.args.store.now) loaded =
+    record { enough = c.leaves_signatures-leaves.result; leaves = c.leaves_signatures-leaves.ensures; is = c.in_ok-bytes.ensures.loaded } in
+    told_of_store c.args.notes c.args.signing (macho_command_model c.args.command.now) _ loaded c.as_slice-2.result.now c.as_slice-3.result.now _ reads
+    (rw (sym c.as_slice.ensures.value, c.as_slice-2.ensures.value, c.as_slice-3.ensures.value) c.in_ok-fronts.ensures.ok)
+    (rw (sym c.as_slice.ensures.value) c.in_ok-fronts.ensures.told)

@@ -1,0 +1,56 @@
+-- What edits make of the slices of a fat file, told by their fronts.
+use Rattle.std.specs.Prelude.{ℕ, ◌≡◌, ◌<◌, ◌^◌, List, [], ◌∷◌, ◌++◌, All, Bool, length, map}
+use Rattle.std.specs.List.{list_any}
+use Rattle.arwen_macho.specs.Container.{first_container}
+use Rattle.byte_store.specs.Laid.{LiesIn, Patch, laid}
+use Rattle.byte_store.specs.Shown.{shifted}
+use Rattle.command_words.specs.Rows.{Text}
+use Rattle.command_words.specs.declared.noting.Notes.{Notes}
+use Rattle.command_words.specs.declared.noting.Notes.TheVariants.{LeftOut, Wanted}
+use Rattle.macho_commands.specs.Engine.{Asked, ShowsEdited, Tells, outcome_of}
+use Rattle.macho_commands.specs.Engine.Outcome.{bytes}
+use Rattle.macho_commands.specs.Notes.{note_line}
+use Rattle.macho_commands.specs.declared.error.MachoCommandError.{MachoCommandError}
+use Rattle.macho_commands_signing.specs.Loading.{IsThinFront}
+use Rattle.macho_commands_signing.specs.Signed.{is_signed_file}
+use Rattle.macho_commands_signing.specs.declared.slices.SliceFront.{SliceFront}
+
+-- a front that was read of a slice
+pub record IsLoadedFront (front : SliceFront) : Type 0 where
+  pub low : front.offset < 2 ^ 32
+  pub thin : IsThinFront front.bytes.items
+
+-- patches that lie in a front, and make of it what edits make of it, which shows these
+pub record MakesFront (a : Asked) (front : List ℕ) (patches : List Patch) : Type 0 where
+  pub inside : All (LiesIn (length front)) patches
+  pub is : outcome_of a front ≡ bytes (laid patches front)
+  pub shows : ShowsEdited a front (laid patches front)
+
+-- patches of a file: those of the front of each slice, where the slice begins
+abbrev pub MakesFronts : Asked → List SliceFront → List Patch → Type 0
+MakesFronts a [] patches = patches ≡ []
+MakesFronts a (front ∷ fronts) patches = (here : List Patch) × (behind : List Patch)
+    × (patches ≡ map (shifted front.offset) here ++ behind) × MakesFront a front.bytes.items here × MakesFronts a fronts behind
+
+-- those of one front more are put behind others
+abbrev pub AddsFront : Asked → SliceFront → List Patch → List Patch → Type 0
+AddsFront a front old new = (here : List Patch) × (new ≡ old ++ map (shifted front.offset) here) × MakesFront a front.bytes.items here
+
+-- an error tells what edits make of a front, behind those of which they make new ones
+pub record RefusesFronts (a : Asked) (fronts : List SliceFront) (e : MachoCommandError) : Type 0 where
+  pub before : List SliceFront
+  pub front : SliceFront
+  pub behind : List SliceFront
+  pub patches : List Patch
+  pub are : fronts ≡ before ++ front ∷ behind
+  pub makes : MakesFronts a before patches
+  pub tells : Tells (outcome_of a front.bytes.items) e
+
+-- a front tells of a signature
+abbrev pub is_signed_front : SliceFront → Bool
+is_signed_front front = is_signed_file (first_container front.bytes.items)
+
+-- the line of a file, one of whose slices is signed
+abbrev pub TellsFronts : Notes → Text → List SliceFront → Text → Type 0
+TellsFronts Wanted path fronts told = told ≡ note_line (list_any is_signed_front fronts) path
+TellsFronts LeftOut path fronts told = told ≡ []

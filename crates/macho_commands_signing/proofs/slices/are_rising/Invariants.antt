@@ -1,0 +1,7 @@
+-- Where the slices from one on rise from where those before it end, all do.
+use Rattle.std.proofs.Common.{drop}
+use Rattle.macho_commands_signing.specs.Slices.{AreRising}
+use Rattle.macho_commands_signing.proofs.slices.are_rising.Given as goal
+
+abbrev pub invariant-loop-arch : goal.invariant-loop-arch
+invariant-loop-arch l = AreRising l.end l.size (drop l.arch-index l.archs) → AreRising l.start l.size l.archs

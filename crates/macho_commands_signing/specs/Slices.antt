@@ -1,0 +1,51 @@
+-- How much is read of a fat file that is edited.
+use Rattle.std.specs.Prelude.{ℕ, ◌≡◌, ◌+◌, ◌<◌, ◌≤◌, ◌^◌, List, [], ◌∷◌, None, Option, Some, drop, length, take, true}
+use Rattle.std.specs.List.{AllZip}
+use Rattle.arwen_macho.specs.Found.{begins_fat}
+use Rattle.macho_image.specs.Fat.{archs_of, table_end, table_fault}
+use Rattle.macho_image.specs.declared.fat.FatArch.{FatArch}
+use Rattle.macho_commands_signing.specs.Loading.{IsThinFront}
+use Rattle.macho_commands_signing.specs.declared.slices.SliceFront.{SliceFront}
+use Rattle.macho_commands_signing.specs.declared.slices.SliceFronts.{SliceFronts}
+
+-- slices that have bytes, each behind the one before it, from a position on and within so many bytes
+abbrev pub AreRising : ℕ → ℕ → List FatArch → Type 0
+AreRising start size [] = start ≤ size
+AreRising start size (arch ∷ archs) = (start ≤ arch.offset) × (0 < arch.size) × AreRising (arch.offset + arch.size) size archs
+
+-- a fat file whose table passes all checks and has these slices
+pub record HasSlices (file : List ℕ) (archs : List FatArch) : Type 0 where
+  pub begins : begins_fat file ≡ true
+  pub passes : table_fault file ≡ None
+  pub archs_are : archs_of file ≡ archs
+
+-- the slices of every file of so many bytes that has these first
+pub record IsTableOf (first : List ℕ) (size : ℕ) (archs : List FatArch) : Type 0 where
+  pub some : 0 < length archs
+  pub short : size < 2 ^ 32
+  pub rising : AreRising (table_end (length archs)) size archs
+  pub of : (file : List ℕ) → first ≡ take (length first) file → length file ≡ size → HasSlices file archs
+
+-- bytes that stand at an offset of known ones
+abbrev pub IsAt : Option (List ℕ) → ℕ → List ℕ → Type 0
+IsAt known offset bytes = (file : List ℕ) → known ≡ Some file → bytes ≡ take (length bytes) (drop offset file)
+
+-- the first bytes of a slice, which are a thin file by themselves
+pub record IsFrontAt (known : Option (List ℕ)) (arch : FatArch) (front : SliceFront) : Type 0 where
+  pub offset : front.offset ≡ arch.offset
+  pub within : length front.bytes.items ≤ arch.size
+  pub thin : IsThinFront front.bytes.items
+  pub read : IsAt known arch.offset front.bytes.items
+
+-- those of all slices
+abbrev pub AreFrontsOf : Option (List ℕ) → List FatArch → List SliceFront → Type 0
+AreFrontsOf known archs fronts = AllZip (IsFrontAt known) archs fronts
+
+-- what was read of a fat file: its slices and their fronts
+pub record AreSlicesRead (known : Option (List ℕ)) (read : SliceFronts) : Type 0 where
+  pub archs : List FatArch
+  pub some : 0 < length archs
+  pub short : read.length < 2 ^ 32
+  pub rising : AreRising (table_end (length archs)) read.length archs
+  pub fronts : AreFrontsOf known archs read.fronts.items
+  pub has : (file : List ℕ) → known ≡ Some file → HasSlices file archs × (length file ≡ read.length)
