@@ -1,6 +1,6 @@
 -- Where no word begins with a hyphen, none asks for quiet.
 use Rattle.std.specs.Prelude.{◌&&◌}
-use Rattle.std.proofs.Common.{◌≡◌, ◌∙◌, ◌∷◌, [], Bool, List, ap, false, if◌then◌else◌, refl, subst, sym, true, true≢false}
+use Rattle.std.proofs.Common.{◌≡◌, ◌∙◌, ◌∷◌, [], Bool, List, ap, false, if◌then◌else◌, refl, subst, true}
 use Rattle.arwen_cli.specs.Line.{has_option}
 use Rattle.arwen_cli.specs.Moving.{has_move_word, is_elf_line, is_move_word, is_moving_line}
 use Rattle.arwen_cli.specs.Quiet.{is_mark, is_quiet_word, without_quiet}
@@ -67,9 +67,3 @@ pub heard_for_all : (P : List Text → Type 0) (heard audible words : List Text)
 heard_for_all P heard audible words is_unsigned is holds plain =
     let same : heard ≡ words = heard_is heard audible words is_unsigned is plain in
     subst P same (holds (ap has_option same ∙ plain))
-
--- a line in which no word begins with a hyphen has no leave
-pub never_moving : (heard audible words : List Text) → heard ≡ unsigned audible → audible ≡ without_quiet words → is_moving_line heard ≡ true → has_option words ≡ false → ⊥
-never_moving heard audible words is_unsigned is moves plain =
-    let same : heard ≡ words = heard_is heard audible words is_unsigned is plain in
-    true≢false (sym moves ∙ ap is_moving_line same ∙ unmoved words plain)

@@ -143,7 +143,8 @@ fn a_list_that_fits_is_apart(rt: HostRuntime) {
 
 #[test]
 fn a_list_that_grows_is_stuck(rt: HostRuntime) {
-    let want = "section 2 has no spare entry (--move-dynamic lets it move), the edge of a loaded segment stands behind it";
+    let want =
+        "section 2 has no spare entry (--move-dynamic lets it move), the edge of a loaded segment stands behind it";
     expect_stuck(&rt, &ElfEdit::AddDebugTag, want);
 }
 

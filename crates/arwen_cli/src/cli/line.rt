@@ -8,7 +8,7 @@ ghost use Rattle.macho_commands.specs.Meaning.{macho_lines};
 ghost use Rattle.macho_commands.specs.Meaning.{macho_command_model};
 ghost use Rattle.arwen_cli.specs.Meaning.{shown};
 ghost use Rattle.arwen_cli.specs.Line.{has_option, meaning_of};
-ghost use Rattle.arwen_cli.specs.Moving.{MeansMoving};
+ghost use Rattle.arwen_cli.specs.Moving.{MeansMoving, takes_leave as takes_the_leave};
 ghost use Rattle.arwen_cli_show.specs.Args.{ShowMeaning, args_meant, args_model};
 ghost use Rattle.arwen_cli.specs.Parser.{MayRefuse, MayRefuseReading, MayRefuseTaken, MeansBy, MeansTaken};
 
@@ -18,8 +18,8 @@ use crate::cli::quiet::without_quiet;
 use crate::cli::signing::without_sign;
 use crate::cli::{ArwenError, Command, ElfCommand, MachoCommand};
 use arwen_cli_show::{Args, ArgsFault, HELP, parse_args};
-use command_words::{ValueError, Values};
-use elf_commands::elf_table;
+use command_words::{ValueError, Values, find_row};
+use elf_commands::{elf, elf_table};
 use macho_commands::macho_table;
 use std::alloc::{AllocError, Global};
 
@@ -71,25 +71,64 @@ pub fn parse_line(alloc: Global, words: &[&str]) -> Result<Command, ArwenError>
 {
     let audible = without_quiet(alloc, words)?;
     let heard = without_sign(alloc, audible.as_slice())?;
-    if is_moved_by(heard.as_slice()) {
-        return Ok(Command::Elf(parse_moving(alloc, heard.as_slice())?));
-    }
-    parse_heard(alloc, heard.as_slice())
+    parse_audible(alloc, heard.as_slice())
 }
 
-/// The command of a line of an ELF file with `--move-dynamic`.
+/// The same of words without `-q` and `--sign`.
+fn parse_audible(alloc: Global, words: &[&str]) -> Result<Command, ArwenError>
+    ensures means { IfOk result (λ command. has_option (map (λ w. w.now) words.now) ≡ false
+        → meaning_of (map (λ w. w.now) words.now) ≡ Some (shown command)) }
+    ensures refused { IfErr result (λ error. has_option (map (λ w. w.now) words.now) ≡ false
+        → (meaning : Meaning) → meaning_of (map (λ w. w.now) words.now) ≡ Some meaning
+        → error ≡ ArwenError.Memory) }
+    ensures err { IfErr result (λ error. IsOfLine error) }
+{
+    if is_moved_by(words) {
+        return Ok(Command::Elf(parse_moving(alloc, words)?));
+    }
+    parse_heard(alloc, words)
+}
+
+/// The command of a line of an ELF file with `--move-dynamic`; where `apply` has no words for it, the parser tells that it has no
+/// such option.
 fn parse_moving(alloc: Global, words: &[&str]) -> Result<ElfCommand, ArwenError>
     ensures means { IfOk result (λ command.
         MeansMoving (map (λ w. w.now) words.now) (elf_command_model command)) }
     ensures err { IfErr result (λ error. IsOfLine error) }
 {
-    let words = without_move(alloc, words)?;
-    let (name, values) = parse_values(alloc, ELF, elf_table(), words.as_slice())?;
+    let heard = without_move(alloc, words)?;
+    let (name, values) = parse_values(alloc, ELF, elf_table(), heard.as_slice())?;
+    if !takes_leave(name) {
+        return Err(no_leave(alloc, words));
+    }
     let command = ElfCommand::with_leave(alloc, name, values)?;
     or_usage(alloc, command)
 }
 
-/// The same of words without `-q` and `--sign`.
+/// Whether the command of a name is `apply`, or an edit that it takes.
+fn takes_leave(name: &str) -> bool
+    ensures { result ≡ takes_the_leave name.now }
+{
+    if name == elf::apply::NAME {
+        return true;
+    }
+    match find_row(elf_table(), name) {
+        Some(row) => row.is_edit,
+        None => false,
+    }
+}
+
+/// The fault of a line with an option that its command doesn't have.
+fn no_leave(alloc: Global, words: &[&str]) -> ArwenError
+    ensures { IsOfLine result }
+{
+    match parse_elf(alloc, words) {
+        Ok(_) => or_memory(usage(alloc, 2)),
+        Err(fault) => fault,
+    }
+}
+
+/// The same of words without `--move-dynamic` too.
 fn parse_heard(alloc: Global, words: &[&str]) -> Result<Command, ArwenError>
     ensures means { IfOk result (λ command. has_option (map (λ w. w.now) words.now) ≡ false
         → meaning_of (map (λ w. w.now) words.now) ≡ Some (shown command)) }

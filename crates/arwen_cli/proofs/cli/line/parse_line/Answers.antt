@@ -12,10 +12,10 @@ pub returns-clause-means : goal.returns-clause-means
 returns-clause-means c =
     let audible = ap texts c.as_slice.ensures.value ∙ c.in_ok-audible.ensures in
     let heard = ap texts c.as_slice-2.ensures.value ∙ c.in_ok-heard.ensures in
-    IfOk-weaker c.parse_heard.result _ _ (λ command means. heard_for_all (λ ws. meaning_of ws ≡ Some (shown command)) (texts c.as_slice-2.result.now) (texts c.as_slice.result.now) (texts c.args.words.now) heard audible means) c.parse_heard.ensures.means
+    IfOk-weaker c.parse_audible.result _ _ (λ command means. heard_for_all (λ ws. meaning_of ws ≡ Some (shown command)) (texts c.as_slice-2.result.now) (texts c.as_slice.result.now) (texts c.args.words.now) heard audible means) c.parse_audible.ensures.means
 
 pub returns-clause-refused : goal.returns-clause-refused
 returns-clause-refused c =
     let audible = ap texts c.as_slice.ensures.value ∙ c.in_ok-audible.ensures in
     let heard = ap texts c.as_slice-2.ensures.value ∙ c.in_ok-heard.ensures in
-    IfErr-weaker c.parse_heard.result _ _ (λ error refused. heard_for_all (λ ws. (meaning : Meaning) → meaning_of ws ≡ Some meaning → error ≡ Memory) (texts c.as_slice-2.result.now) (texts c.as_slice.result.now) (texts c.args.words.now) heard audible refused) c.parse_heard.ensures.refused
+    IfErr-weaker c.parse_audible.result _ _ (λ error refused. heard_for_all (λ ws. (meaning : Meaning) → meaning_of ws ≡ Some meaning → error ≡ Memory) (texts c.as_slice-2.result.now) (texts c.as_slice.result.now) (texts c.args.words.now) heard audible refused) c.parse_audible.ensures.refused
