@@ -1,5 +1,5 @@
 -- The line of a fault has the path that the words name.
-use Rattle.std.proofs.Common.{◌≡◌, ◌∙◌, List, Option, Some, None, Bool, true, false, Result, Ok, Err, ap, refl, subst, sym}
+use Rattle.std.proofs.Common.{◌≡◌, ◌∙◌, Option, Some, None, Bool, true, false, Result, Ok, Err, ap, refl, subst, sym}
 use Rattle.std.specs.Prelude.{IfOk, String, if◌then◌else◌, string_bytes}
 use Rattle.std.specs.declared.alloc.Global.{Global}
 use Rattle.command_words.specs.Rows.{Text}

@@ -16,7 +16,6 @@ use Rattle.arwen_cli.specs.declared.cli.error.ArwenError.{ArwenError}
 use Rattle.arwen_cli.specs.declared.cli.error.ArwenError.TheVariants.{Memory}
 use Rattle.arwen_cli.specs.Meaning.{Meaning, of_elf, of_macho, of_show}
 use Rattle.command_words.specs.Rows.{Given, Line, Named, Text, asked_by_words, asked_with, given_by, kind_of, line_named, meant_by, meant_with, named, named_of}
-use Rattle.command_words.specs.Groups.{Wrong}
 use Rattle.command_words.specs.WordValues.{TellsNoValue}
 use Rattle.command_words.specs.declared.word_values.ValueError.{ValueError}
 use Rattle.command_words.specs.declared.word_values.ValueError.TheVariants as value

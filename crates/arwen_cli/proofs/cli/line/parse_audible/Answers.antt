@@ -1,7 +1,6 @@
 -- A line in which no word begins with a hyphen has no leave.
-use Rattle.std.proofs.Common.{◌≡◌, ◌∙◌, false, sym, true≢false}
+use Rattle.std.proofs.Common.{◌∙◌, sym, true≢false}
 use Rattle.std.proofs.lemmas.Result.{err_from_is_err_and}
-use Rattle.arwen_cli.specs.Line.{has_option}
 use Rattle.arwen_cli.proofs.Meanings.{texts}
 use Rattle.arwen_cli.proofs.Quiet.{unmoved}
 use Rattle.arwen_cli.proofs.cli.line.parse_audible.Goals as goal

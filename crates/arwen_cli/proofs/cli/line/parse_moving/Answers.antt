@@ -1,7 +1,6 @@
 -- The values that are found ask for the command with the leave.
-use Rattle.std.proofs.Common.{◌≡◌, ◌∙◌, List, ap, codes, map, not, subst, sym, true}
+use Rattle.std.proofs.Common.{◌≡◌, ◌∙◌, List, ap, codes, map, subst, sym, true}
 use Rattle.std.specs.Option.{option_map}
-use Rattle.std.proofs.lemmas.Bool.{not-false}
 use Rattle.std.proofs.lemmas.Result.{IfOk-weaker}
 use Rattle.command_words.specs.Rows.{Given, Named, Text, given_model, named_of}
 use Rattle.elf_commands.specs.Meaning.{elf_command_model, elf_lines}
@@ -17,5 +16,5 @@ returns-clause-means c =
     let heard : texts c.as_slice.result.now ≡ without_move (texts c.args.words.now) = ap texts c.as_slice.ensures.value ∙ c.in_ok-heard.ensures in
     let by_table = subst (λ (t : List Named). IsTaken (codes "elf") t (texts c.as_slice.result.now) (name, given)) c.elf_table.ensures c.in_ok-name.ensures.taken in
     let taken = subst (λ (ws : List Text). IsTaken (codes "elf") (map named_of elf_lines) ws (name, given)) heard by_table in
-    let leave : takes_leave name ≡ true = sym c.takes_leave.ensures ∙ not-false c.takes_leave.result c.if-not-takes_leave.false in
+    let leave : takes_leave name ≡ true = sym c.takes_leave.ensures ∙ c.if-not-takes_leave.false in
     IfOk-weaker c.or_usage.result _ _ (λ command is. ((name, given), taken, leave, sym c.in_ok-command.ensures ∙ ap (option_map elf_command_model) is)) c.or_usage.ensures.ok
