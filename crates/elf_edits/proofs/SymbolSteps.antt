@@ -14,7 +14,7 @@ use Rattle.elf_edits.specs.declared.symbols.SymbolChange.{SymbolChange}
 use Rattle.elf_edits.specs.declared.symbols.SymbolChange.TheVariants as changes
 use Rattle.elf_edits.specs.Changes.{name_for}
 use Rattle.elf_edits.specs.Edit.{RenameDynamicSymbols}
-use Rattle.elf_edits.specs.SymbolChanges.{AreSymbolsAfter, BeginsAt, GivesNames, changed_symbol, changed_to, is_changed, renamed_by}
+use Rattle.elf_edits.specs.SymbolChanges.{AreSymbolsAfter, BeginsAt, GivesNames, changed_symbol, changed_to, is_changed, renamed_by, renamed_from}
 use Rattle.elf_edits.specs.Symbols.{behind_first, cleared, has_new_name, has_version_to_clear, name_of_symbol, names_behind_first, renamed}
 use Rattle.elf_edits.specs.Texts.{holds_nul, value_of}
 use Rattle.elf_edits.proofs.SymbolLaws.{any_name_behind_first, not_cleared}
@@ -99,6 +99,27 @@ module _ (names : List (Bor (List ℕ) × Bor (List ℕ))) (name : List ℕ) whe
   none_renamed old seen i is at found =
       ap (with_symbols old) (sym (changed_alike name_of_symbol (renamed_by names) (λ y. y) old.symbols i name (ap (λ (ys : List NamedSymbol). option_map name_of_symbol (slice_get ys i)) (sym is) ∙ at)
       (λ y h. ap (λ (n : List ℕ). record y { name = n }) (ap (λ (o : Option (List ℕ)). unwrap_or o y.name) (ap (name_for names) h ∙ sym (ap (option_map (λ (t : Bor (List ℕ)). t.now)) found)))) ∙ changed_to_itself old.symbols i))
+
+-- the one name becomes the other
+pub the_one_renamed : (from to : List ℕ) (old new : EditedList) (seen : List NamedSymbol) (i : ℕ) (name given : List ℕ) → seen ≡ old.symbols → option_map (λ (y : NamedSymbol). y.name) (slice_get seen i) ≡ Some name
+    → bytes_eq name from ≡ true → given ≡ to
+    → new ≡ record old { symbols = changed_at i (λ y. record y { name = given }) old.symbols } → new ≡ record old { symbols = changed_at i (renamed_from from to) old.symbols }
+unfolding with_symbols
+the_one_renamed from to old new seen i name given is at same made new_is =
+    new_is
+    ∙ ap (with_symbols old) (changed_alike name_of_symbol (λ y. record y { name = given }) (renamed_from from to) old.symbols i name (ap (λ (ys : List NamedSymbol). option_map name_of_symbol (slice_get ys i)) (sym is) ∙ at)
+    (λ y h. ap (λ (n : List ℕ). record y { name = n }) made ∙ sym (cond-true (bytes_eq y.name from) (with_name to y) y (ap (λ (n : List ℕ). bytes_eq n from) h ∙ same))))
+
+-- a symbol with another name stays
+pub not_renamed : (from to : List ℕ) (y : NamedSymbol) → bytes_eq y.name from ≡ false → renamed_from from to y ≡ y
+not_renamed from to y other = rw other refl
+
+pub no_one_renamed : (from to : List ℕ) (old : EditedList) (seen : List NamedSymbol) (i : ℕ) (name : List ℕ) → seen ≡ old.symbols → option_map (λ (y : NamedSymbol). y.name) (slice_get seen i) ≡ Some name
+    → bytes_eq name from ≡ false → old ≡ record old { symbols = changed_at i (renamed_from from to) old.symbols }
+unfolding with_symbols
+no_one_renamed from to old seen i name is at other =
+    ap (with_symbols old) (sym (changed_alike name_of_symbol (renamed_from from to) (λ y. y) old.symbols i name (ap (λ (ys : List NamedSymbol). option_map name_of_symbol (slice_get ys i)) (sym is) ∙ at)
+    (λ y h. not_renamed from to y (ap (λ (n : List ℕ). bytes_eq n from) h ∙ other)) ∙ changed_to_itself old.symbols i))
 
 pub is_name : (name : List ℕ) → holds_nul name ≡ false → IsName name
 is_name name h = ap not h
@@ -194,6 +215,7 @@ left_as_it_was (changes.Name names) y kept = by_name (name_for names.now.entries
     by_name : (o : Option (List ℕ)) → is_some o ≡ false → with_name (unwrap_or o y.name) y ≡ y
     by_name None e = refl
     by_name (Some name) e = absurd (cc)
+left_as_it_was (changes.One from to) y kept = not_renamed from.now to.now y kept
 left_as_it_was (changes.Version name) y kept = not_cleared name.now y kept
 
 -- ## The symbols that a change leaves
@@ -283,3 +305,50 @@ module _ (names : List (Bor (List ℕ) × Bor (List ℕ))) (pairs : List (List �
   -- a name that is given is among the new ones
   pub given_names : list_any holds_nul (flat_map (λ pair. pair.0 ∷ pair.1 ∷ []) pairs) ≡ false → GivesNames names
   given_names none old new is = is_name new (value_whole old new pairs none (sym (same old) ∙ is))
+
+-- ## One pair alone
+
+module _ (from to : List ℕ) where
+  -- what one pair makes of a name
+  by_test : (b : Bool) → is_some (if b then Some to else None) ≡ b
+  by_test true = refl
+  by_test false = refl
+
+  pair_test : (ys : List NamedSymbol) → list_any (λ y. bytes_eq y.name from) ys ≡ list_any (λ y. has_new_name ((from, to) ∷ []) y.name) ys
+  pair_test [] = refl
+  pair_test (y ∷ ys) =
+      ap (λ (b : Bool). b || list_any (λ z. bytes_eq z.name from) ys) (sym (by_test (bytes_eq y.name from)))
+      ∙ ap (λ (b : Bool). has_new_name ((from, to) ∷ []) y.name || b) (pair_test ys)
+
+  pair_renames : (y : NamedSymbol) → renamed_from from to y ≡ renamed ((from, to) ∷ []) y
+  pair_renames y = by_name (bytes_eq y.name from)
+    where
+      by_name : (b : Bool) → (if b then with_name to y else y) ≡ with_name (unwrap_or (if b then Some to else None) y.name) y
+      by_name true = refl
+      by_name false = refl
+
+  pair_renames_each : (ys : List NamedSymbol) → map (renamed_from from to) ys ≡ map (renamed ((from, to) ∷ [])) ys
+  pair_renames_each [] = refl
+  pair_renames_each (y ∷ ys) = ap (λ z. z ∷ map (renamed_from from to) ys) (pair_renames y) ∙ ap (λ l. renamed ((from, to) ∷ []) y ∷ l) (pair_renames_each ys)
+
+  pair_renames_all : (ys : List NamedSymbol) → behind_first (renamed_from from to) ys ≡ behind_first (renamed ((from, to) ∷ [])) ys
+  pair_renames_all [] = refl
+  pair_renames_all (y ∷ ys) = ap (λ l. y ∷ l) (pair_renames_each ys)
+
+  pub pair_found_names : (ys : List NamedSymbol) → list_any (λ y. bytes_eq y.name from) (drop 1 ys) ≡ list_any (has_new_name ((from, to) ∷ [])) (names_behind_first ys)
+  pair_found_names ys = pair_test (drop 1 ys) ∙ sym (any_name_behind_first (has_new_name ((from, to) ∷ [])) ys)
+
+  abbrev IsRenamedFrom : EditedList → Option EditedList → Type 0
+  IsRenamedFrom old None = list_any (λ y. bytes_eq y.name from) (drop 1 old.symbols) ≡ false
+  IsRenamedFrom old (Some new) = (list_any (λ y. bytes_eq y.name from) (drop 1 old.symbols) ≡ true) × (new ≡ record old { symbols = behind_first (renamed_from from to) old.symbols })
+
+  pub after_one_rename : (old : EditedList) (made : Option EditedList) → IsRenamedFrom old made → AreSymbolsAfter (RenameDynamicSymbols ((from, to) ∷ [])) old made
+  unfolding with_symbols
+  after_one_rename old None h = sym (pair_test (drop 1 old.symbols)) ∙ h
+  after_one_rename old (Some new) h = (sym (pair_test (drop 1 old.symbols)) ∙ h.0, h.1 ∙ ap (with_symbols old) (pair_renames_all old.symbols))
+
+  -- the name that is given is the new one
+  pub given_one : list_any holds_nul (flat_map (λ pair. pair.0 ∷ pair.1 ∷ []) ((from, to) ∷ [])) ≡ false → IsName to
+  given_one none =
+      let parts = or_parts (holds_nul from) (holds_nul to || false) none in
+      is_name to (or_parts (holds_nul to) false parts.1).0

@@ -1,7 +1,8 @@
 -- What the code makes of dynamic symbols.
-use Rattle.std.specs.Prelude.{ℕ, ◌≡◌, ◌≤◌, List, ◌++◌, length, take, drop, Bool, true, false, is_some, Option, Some, None, unwrap_or}
+use Rattle.std.specs.Prelude.{ℕ, ◌≡◌, ◌≤◌, List, ◌++◌, length, take, drop, Bool, true, false, is_some, Option, Some, None, unwrap_or, if◌then◌else◌}
 use Rattle.std.specs.Borrow.{Bor}
 use Rattle.std.specs.List.{list_any}
+use Rattle.std.specs.Str.{bytes_eq}
 use Rattle.elf_image.specs.Views.{NamedSymbol}
 use Rattle.elf_image_symbol_edits.specs.EditedList.{EditedList, IsName, with_name}
 use Rattle.elf_edits.specs.declared.symbols.SymbolChange.{SymbolChange}
@@ -14,6 +15,10 @@ use Rattle.elf_edits.specs.Symbols.{behind_first, cleared, has_version_to_clear}
 abbrev pub renamed_by : List (Bor (List ℕ) × Bor (List ℕ)) → NamedSymbol → NamedSymbol
 renamed_by names y = with_name (unwrap_or (name_for names y.name) y.name) y
 
+-- the symbol with the second name, if it has the first
+abbrev pub renamed_from : List ℕ → List ℕ → NamedSymbol → NamedSymbol
+renamed_from old new y = if bytes_eq y.name old then with_name new y else y
+
 -- no name that a map gives has a NUL in it
 abbrev pub GivesNames : List (Bor (List ℕ) × Bor (List ℕ)) → Type 0
 GivesNames names = (old new : List ℕ) → name_for names old ≡ Some new → IsName new
@@ -21,11 +26,13 @@ GivesNames names = (old new : List ℕ) → name_for names old ≡ Some new → 
 -- the symbols that a change is about
 abbrev pub is_changed : SymbolChange → NamedSymbol → Bool
 is_changed (changes.Name names) y = is_some (name_for names.now.entries y.name)
+is_changed (changes.One old new) y = bytes_eq y.name old.now
 is_changed (changes.Version name) y = has_version_to_clear name.now y
 
 -- a symbol with its change
 abbrev pub changed_symbol : SymbolChange → NamedSymbol → NamedSymbol
 changed_symbol (changes.Name names) y = renamed_by names.now.entries y
+changed_symbol (changes.One old new) y = renamed_from old.now new.now y
 changed_symbol (changes.Version name) y = cleared name.now y
 
 -- the symbols with a change, up to a position
@@ -47,6 +54,7 @@ pub record EndsAt (change : SymbolChange) (ys : List NamedSymbol) (i : ℕ) : Ty
 -- a change by which symbols have names without a NUL
 abbrev pub KeepsNames : SymbolChange → Type 0
 KeepsNames (changes.Name names) = GivesNames names.now.entries
+KeepsNames (changes.One old new) = IsName new.now
 KeepsNames (changes.Version name) = Unit {0}
 
 -- the symbols after an edit where it wrote something; none where it did not

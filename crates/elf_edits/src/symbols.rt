@@ -1,10 +1,10 @@
 //! Dynamic symbols that edits make (gABI, Symbol Table; GNU symbol versioning).
 ghost use Rattle.std.specs.Prelude.{◌≡◌, ◌<◌, ◌≤◌, IfOk, MatchOption, Some, drop, false, length, option_map, slice_get};
 ghost use Rattle.std.specs.List.{list_any};
-ghost use Rattle.elf_image_symbol_edits.specs.EditedList.{changed_at};
+ghost use Rattle.elf_image_symbol_edits.specs.EditedList.{IsName, changed_at};
 ghost use Rattle.elf_image_symbol_edits.specs.Loan.{symbols_now};
 ghost use Rattle.elf_edits.specs.Edit.{RenameDynamicSymbols, edit_model, texts_of};
-ghost use Rattle.elf_edits.specs.SymbolChanges.{AreSymbolsAfter, AreSymbolsChanged, BeginsAt, EndsAt, GivesNames, KeepsNames, changed_symbol, is_changed, renamed_by};
+ghost use Rattle.elf_edits.specs.SymbolChanges.{AreSymbolsAfter, AreSymbolsChanged, BeginsAt, EndsAt, GivesNames, KeepsNames, changed_symbol, is_changed, renamed_by, renamed_from};
 ghost use Rattle.elf_edits.specs.Symbols.{behind_first, cleared, has_new_name, has_version_to_clear, names_behind_first};
 ghost use Rattle.elf_edits.specs.TextModel.{pairs_model};
 ghost use Rattle.elf_edits.specs.Texts.{holds_nul};
@@ -24,6 +24,8 @@ const FEW: usize = 16;
 pub(crate) enum SymbolChange<'e, 'n> {
     // The name of a symbol is the one that stands for it here, if one does.
     Name(&'e HashMap<&'n [u8], &'n [u8]>),
+    // The one name becomes the other: a name is compared in place of looked up.
+    One(&'e [u8], &'e [u8]),
     // A symbol with this name has, where it has a version, that of a global symbol.
     Version(&'e [u8]),
 }
@@ -69,6 +71,28 @@ fn rename(
     }
 }
 
+// Gives a symbol another name, if it has the one.
+fn rename_one(
+    alloc: Global,
+    old: &[u8],
+    new: &[u8],
+    edited: &mut EditedSymbols<'_>,
+    i: usize,
+) -> Result<(), AllocError>
+    requires there { i < length edited.old.symbols }
+    requires name { IsName new.now }
+    ensures { IfOk result (λ _. edited.new ≡ record edited.old {
+      symbols = changed_at i (renamed_from old.now new.now) edited.old.symbols;
+    }) }
+{
+    if edited.lend().name(i) != old {
+        return Ok(());
+    }
+    let name = Vec::from_slice(alloc, new)?;
+    edited.rename(i, ByteString::owned(name));
+    Ok(())
+}
+
 // Clears the version of a symbol with this name, where it has one.
 fn clear(name: &[u8], edited: &mut EditedSymbols<'_>, i: usize)
     requires { i < length edited.old.symbols }
@@ -90,6 +114,7 @@ impl SymbolChange<'_, '_> {
     {
         match self {
             SymbolChange::Name(names) => names.contains_key(symbols.name(i)),
+            SymbolChange::One(old, _) => symbols.name(i) == *old,
             SymbolChange::Version(name) => has_version(symbols, i, name),
         }
     }
@@ -152,6 +177,7 @@ impl SymbolChange<'_, '_> {
     {
         match self {
             SymbolChange::Name(names) => rename(alloc, names, edited, i),
+            SymbolChange::One(old, new) => rename_one(alloc, old, new, edited, i),
             SymbolChange::Version(name) => {
                 clear(name, edited, i);
                 Ok(())
@@ -225,6 +251,10 @@ pub fn rename_any(
     ensures { IfOk result (λ found. found ≡ list_any (has_new_name (pairs_model pairs.now))
         (names_behind_first (symbols_now symbols.now))) }
 {
+    if pairs.len() == 1 {
+        let (old, new) = &pairs[0];
+        return Ok(SymbolChange::One(old.as_slice(), new.as_slice()).is_about_any(symbols));
+    }
     let names = map_of(alloc, pairs)?;
     Ok(SymbolChange::Name(&names).is_about_any(symbols))
 }
@@ -240,6 +270,10 @@ pub fn renamed<'d>(
     ensures { IfOk result
         (AreSymbolsAfter (RenameDynamicSymbols (pairs_model pairs.now)) symbols.now) }
 {
+    if pairs.len() == 1 {
+        let (old, new) = &pairs[0];
+        return SymbolChange::One(old.as_slice(), new.as_slice()).change(alloc, symbols);
+    }
     let names = map_of(alloc, pairs)?;
     SymbolChange::Name(&names).change(alloc, symbols)
 }

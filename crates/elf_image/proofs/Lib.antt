@@ -1,7 +1,6 @@
 pub mod ImageSteps
 pub mod ReadSteps
 pub mod TextSteps
-pub mod EditSteps
 pub mod ReadImageLaws
 pub mod EditedLaws
 pub mod SegmentsKept

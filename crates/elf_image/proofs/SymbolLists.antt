@@ -14,7 +14,7 @@ use Rattle.elf_image_symbol_edits.specs.EditedList.{EditedList}
 use Rattle.elf_image.specs.ImageSteps.{NamedParts, named_in}
 use Rattle.elf_format.specs.Stages.{parts_read}
 use Rattle.elf_image.specs.Names.{are_same_texts}
-use Rattle.elf_image.specs.declared.symbol_lists.SymbolLists.{SymbolLists}
+use Rattle.elf_image_symbol_edits.specs.declared.lists.SymbolLists.{SymbolLists}
 use Rattle.elf_image.specs.SymbolsRead.{AreSymbolsOfImage, AreSymbolsOfFile, AreSymbolsRead, HasDynamicSymbolsOf, HasStaticSymbolsOf, lists_read}
 use Rattle.elf_image.proofs.ReadComplete.{same_texts-refl}
 use Rattle.elf_image.proofs.ReadImageLaws.{read_images_hold_parts}

@@ -14,7 +14,6 @@ pub use Rattle.elf_format.specs.Image
 pub use Rattle.elf_format.specs.ReadNumbers
 pub use Rattle.elf_format.specs.Answers
 pub mod ImageModel
-pub mod EditedLists
 pub mod SymbolsRead
 pub mod SymbolEdits
 pub mod BuilderModel

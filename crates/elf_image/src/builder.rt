@@ -2,7 +2,6 @@ ghost use Rattle.std.specs.Prelude.{◌≡◌, ◌<◌, length, map, slice_index
 ghost use Rattle.elf_image.specs.ImageModel.{definition_model, entry_model, needs_model, section_model, segment_model};
 ghost use Rattle.elf_format.specs.Answers.{borrowed};
 
-use crate::symbol_lists::EditedLists;
 use crate::version::Versions;
 use elf_format::form::Form;
 use elf_format::header::Header;
@@ -10,6 +9,7 @@ use elf_image_parts::dynamic::Dynamic;
 use elf_image_parts::section::Section;
 use elf_image_parts::segment;
 use elf_image_symbol_edits::SymbolsNow;
+use elf_image_symbol_edits::lists::EditedLists;
 use patch_bytes::{ByteOrder2, ByteString, Wide};
 use std::alloc::{AllocError, Global};
 use std::marker::Model;

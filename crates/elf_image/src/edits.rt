@@ -10,10 +10,10 @@ ghost use Rattle.elf_image.specs.ImageModel.{entry_model, needs_model, segment_m
 ghost use Rattle.elf_image_parts.specs.Segments.{added_stack as added_header, with_load_align, with_stack_added, with_stack_flags};
 
 use crate::builder::{Builder, Segment};
-use elf_format::constants::PT_GNU_STACK;
-use elf_format::records::SegmentHeader;
 use elf_image_parts::dynamic::Dynamic;
-use elf_image_parts::segment::{STACK_ALIGN, STACK_FLAGS};
+use elf_image_parts::entries::{remove_entry, remove_tagged, retag_entries, retag_entry};
+use elf_image_parts::segment::STACK_FLAGS;
+use elf_image_parts::segments::{added_stack, align_loads, flag_stack, stack_position};
 use elf_image_versions::version::VersionNeed;
 use patch_bytes::ByteString;
 use std::alloc::{AllocError, Global};
@@ -238,86 +238,4 @@ impl<'data> Builder<'data> {
         let at = self.segments.len() - 1;
         Ok(self.stack_flags_at(at))
     }
-}
-
-// The program header for the stack, as it is added.
-fn added_stack(flags: u32) -> Segment<'static>
-    ensures { segment_model result ≡ added_header flags }
-{
-    Segment {
-        numbers: SegmentHeader {
-            p_type: PT_GNU_STACK,
-            p_flags: flags,
-            p_offset: 0,
-            p_vaddr: 0,
-            p_paddr: 0,
-            p_filesz: 0,
-            p_memsz: 0,
-            p_align: STACK_ALIGN,
-        },
-    }
-}
-
-// The entry at a position is gone.
-fn remove_entry(list: &mut Vec<Dynamic<'_>>, index: usize)
-    requires { index < vec_len list.old }
-    ensures { map entry_model list.new.items ≡ remove (map entry_model list.old.items) index }
-{
-    drop(list.remove(index));
-}
-
-// The entries with the tag are gone.
-fn remove_tagged(list: &mut Vec<Dynamic<'_>>, tag: u64)
-    ensures { map entry_model list.new.items ≡ without_tag tag (map entry_model list.old.items) }
-{
-    list.retain(|entry| entry.tag() != tag);
-}
-
-// The entry at a position gets the tag.
-fn retag_entry(list: &mut Vec<Dynamic<'_>>, index: usize, tag: u64)
-    requires { index < vec_len list.old }
-    ensures { map entry_model list.new.items
-        ≡ with_tag_at index tag (map entry_model list.old.items) }
-{
-    list[index].set_tag(tag);
-}
-
-// The entries with the one tag get the other.
-fn retag_entries(list: &mut Vec<Dynamic<'_>>, old: u64, new: u64)
-    ensures { map entry_model list.new.items ≡ retagged old new (map entry_model list.old.items) }
-{
-    for i in 0..list.len() {
-        list[i].change_tag(old, new);
-    }
-}
-
-// The loaded segments get the alignment.
-fn align_loads(segments: &mut Vec<Segment<'_>>, align: u64)
-    ensures { map segment_model segments.new.items
-        ≡ with_load_align align (map segment_model segments.old.items) }
-{
-    for i in 0..segments.len() {
-        segments[i].align_load(align);
-    }
-}
-
-// Where the first program header for the stack stands.
-fn stack_position(segments: &[Segment<'_>]) -> Option<usize>
-    ensures { result ≡ position (λ p. (segment_model p).p_type == STACK) segments.now }
-{
-    segments
-        .iter()
-        .position(|segment| segment.p_type() == PT_GNU_STACK)
-}
-
-// The first program header for the stack gets the flags.
-fn flag_stack(segments: &mut Vec<Segment<'_>>, flags: u32)
-    ensures { map segment_model segments.new.items
-        ≡ with_stack_flags flags (map segment_model segments.old.items) }
-{
-    let Some(at) = stack_position(segments) else {
-        return;
-    };
-    let segment = &mut segments[at];
-    segment.numbers.p_flags = flags;
 }

@@ -10,7 +10,6 @@ mod lookups;
 mod read;
 mod section_edits;
 mod symbol_edits;
-mod symbol_lists;
 
 pub use crate::builder::{Builder, Segment};
 pub use elf_format::machine::machine_of;

@@ -2,8 +2,10 @@
 #![tactic(auto)]
 
 pub mod dynamic;
+pub mod entries;
 pub mod section;
 pub mod segment;
+pub mod segments;
 
 pub use crate::dynamic::Dynamic;
 pub use crate::section::Section;

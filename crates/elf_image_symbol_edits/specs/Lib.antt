@@ -1,4 +1,5 @@
 pub mod EditedList
+pub mod EditedLists
 pub mod Rising
 pub mod Changes
 pub mod EditedModel

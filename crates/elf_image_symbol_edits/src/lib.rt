@@ -4,6 +4,7 @@
 mod change;
 mod changes;
 pub mod edited_symbols;
+pub mod lists;
 mod numbers;
 pub mod rows;
 pub mod symbols_now;

@@ -10,7 +10,7 @@ use Rattle.elf_image.specs.Edited.{AreSegments}
 use Rattle.elf_image.specs.ImageModel.{segment_model}
 use Rattle.elf_image_parts.specs.LendingFlags.{with_flags}
 use Rattle.elf_image_parts.specs.Segments.{with_stack_flags}
-use Rattle.elf_image.proofs.EditSteps.{first_seen, flags_set, is_stack, place_within}
+use Rattle.elf_image_parts.proofs.ForCallers.EditSteps.{first_seen, flags_set, is_stack, place_within}
 use Rattle.elf_image.proofs.Kept.{with_segments}
 use Rattle.elf_image.proofs.LookupSteps.{position-map}
 use Rattle.elf_image.proofs.SegmentsKept.{segments_flagged, type_flagged}

@@ -6,7 +6,7 @@ use Rattle.elf_format.specs.Image.{Image}
 use Rattle.elf_image.specs.File.{segment_of_type}
 use Rattle.elf_image_parts.specs.declared.segment.Segment.{Segment}
 use Rattle.elf_image.specs.ImageModel.{segment_model}
-use Rattle.elf_image.proofs.EditSteps.{is_stack, none_seen}
+use Rattle.elf_image_parts.proofs.ForCallers.EditSteps.{is_stack, none_seen}
 use Rattle.elf_image.proofs.LookupSteps.{position-map}
 use Rattle.elf_image.proofs.builder.Builder.stack_mut.Goals as goal
 

@@ -4,9 +4,9 @@ use borrow.Author.Tests.{tests}
 use Rattle.std.proofs.lemmas.Fn.{filter_same}
 use Rattle.elf_image_parts.specs.declared.dynamic.Dynamic.{Dynamic}
 use Rattle.elf_image_parts.specs.DynamicTag.{tag_of}
-use Rattle.elf_image.specs.ImageModel.{entry_model}
-use Rattle.elf_image.proofs.EditSteps.{without_kept}
-use Rattle.elf_image.proofs.edits.remove_tagged.Goals as goal
+use Rattle.elf_image_parts.specs.PartModels.{entry_model}
+use Rattle.elf_image_parts.proofs.EditSteps.{without_kept}
+use Rattle.elf_image_parts.proofs.entries.remove_tagged.Goals as goal
 
 pub returns : goal.returns
 returns c =

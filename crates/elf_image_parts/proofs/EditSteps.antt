@@ -16,7 +16,7 @@ use Rattle.elf_image_parts.specs.declared.dynamic.Dynamic.{Dynamic}
 use Rattle.elf_image_parts.specs.declared.dynamic.Dynamic.TheVariants as kinds
 use Rattle.elf_image_parts.specs.DynamicList.{with_tag, with_tag_at, without_tag}
 use Rattle.elf_image_parts.specs.DynamicTag.{tag_of}
-use Rattle.elf_image.specs.ImageModel.{entry_model}
+use Rattle.elf_image_parts.specs.PartModels.{entry_model}
 use Rattle.elf_image_parts.specs.Segments.{added_stack, with_stack_added, with_stack_flags}
 
 -- ## Any list, seen element by element

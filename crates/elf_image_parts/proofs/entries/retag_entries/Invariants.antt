@@ -1,8 +1,8 @@
 -- The entries so far have their tags.
 use Rattle.std.proofs.Common.{◌≡◌, ◌++◌, map, take, drop, length}
-use Rattle.elf_image.specs.ImageModel.{entry_model}
+use Rattle.elf_image_parts.specs.PartModels.{entry_model}
 use Rattle.elf_image_parts.specs.DynamicList.{retagged}
-use Rattle.elf_image.proofs.edits.retag_entries.Given as goal
+use Rattle.elf_image_parts.proofs.entries.retag_entries.Given as goal
 
 abbrev pub invariant-loop-i : goal.invariant-loop-i
 invariant-loop-i l =

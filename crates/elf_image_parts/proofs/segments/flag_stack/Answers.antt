@@ -1,9 +1,9 @@
 use Rattle.std.proofs.Common.{◌∙◌, List, ap, map, refl, sym}
 use Rattle.std.specs.Prelude.{position}
 use Rattle.elf_image_parts.specs.declared.segment.Segment.{Segment}
-use Rattle.elf_image.specs.ImageModel.{segment_model}
-use Rattle.elf_image.proofs.EditSteps.{flags_set, is_stack, none_flagged, none_seen}
-use Rattle.elf_image.proofs.edits.flag_stack.Goals as goal
+use Rattle.elf_image_parts.specs.PartModels.{segment_model}
+use Rattle.elf_image_parts.proofs.EditSteps.{flags_set, is_stack, none_flagged, none_seen}
+use Rattle.elf_image_parts.proofs.segments.flag_stack.Goals as goal
 
 pub returns-in_default : goal.returns-in_default
 returns-in_default c =

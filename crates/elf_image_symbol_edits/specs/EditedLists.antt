@@ -1,7 +1,7 @@
 -- The lists of symbols of an image, as they were read and as edits made them.
 use Rattle.elf_image_symbol_edits.specs.EditedList.{as_read}
-use Rattle.elf_image.specs.declared.symbol_lists.EditedLists.{EditedLists}
-use Rattle.elf_image.specs.declared.symbol_lists.SymbolLists.{SymbolLists}
+use Rattle.elf_image_symbol_edits.specs.declared.lists.EditedLists.{EditedLists}
+use Rattle.elf_image_symbol_edits.specs.declared.lists.SymbolLists.{SymbolLists}
 
 -- the lists as they were read
 abbrev pub lists_at_read : EditedLists → SymbolLists

@@ -2,9 +2,9 @@ use Rattle.std.proofs.Common.{◌≡◌, drop, map}
 use Rattle.patch_bytes.specs.Memory.{memory_of}
 use Rattle.elf_format.specs.Options.{each}
 use Rattle.elf_format.specs.Dynamic.{shown_entry}
-use Rattle.elf_image.specs.ImageModel.{entry_model}
+use Rattle.elf_image_parts.specs.PartModels.{entry_model}
 use Rattle.elf_format.proofs.ForCallers.ReadingSteps.{with_front}
-use Rattle.elf_image.proofs.read.texts.entries.kept_entries.Given as goal
+use Rattle.elf_image_parts.proofs.entries.kept_entries.Given as goal
 
 -- what was made so far, and what the rest gives
 abbrev pub invariant-loop-entry : goal.invariant-loop-entry

@@ -1,10 +1,10 @@
 use Rattle.std.proofs.Common.{◌≡◌, ◌∙◌, ◌<◌, arith, length, map}
 use Rattle.std.specs.Prelude.{vec_len}
 use Rattle.std.proofs.lemmas.List.{length-map, length-set}
-use Rattle.elf_image.specs.ImageModel.{segment_model}
+use Rattle.elf_image_parts.specs.PartModels.{segment_model}
 use Rattle.elf_image_parts.specs.Segments.{with_align}
-use Rattle.elf_image.proofs.EditSteps.{mapped_all, next_changed}
-use Rattle.elf_image.proofs.edits.align_loads.Goals as goal
+use Rattle.elf_image_parts.proofs.EditSteps.{mapped_all, next_changed}
+use Rattle.elf_image_parts.proofs.segments.align_loads.Goals as goal
 
 pub loop-i-preserved : goal.loop-i-preserved
 loop-i-preserved c =

@@ -1,8 +1,8 @@
 -- The program headers so far have the alignment.
 use Rattle.std.proofs.Common.{◌≡◌, ◌++◌, map, take, drop, length}
-use Rattle.elf_image.specs.ImageModel.{segment_model}
+use Rattle.elf_image_parts.specs.PartModels.{segment_model}
 use Rattle.elf_image_parts.specs.Segments.{with_align}
-use Rattle.elf_image.proofs.edits.align_loads.Given as goal
+use Rattle.elf_image_parts.proofs.segments.align_loads.Given as goal
 
 abbrev pub invariant-loop-i : goal.invariant-loop-i
 invariant-loop-i l =

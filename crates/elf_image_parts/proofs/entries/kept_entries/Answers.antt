@@ -6,11 +6,11 @@ use Rattle.patch_bytes.specs.Memory.{memory_of}
 use Rattle.elf_format.specs.Options.{each}
 use Rattle.elf_format.specs.Dynamic.{Entry, shown_entry}
 use Rattle.elf_format.specs.declared.records.EntryNumbers.{EntryNumbers}
-use Rattle.elf_image.specs.ImageModel.{entry_model}
+use Rattle.elf_image_parts.specs.PartModels.{entry_model}
 use Rattle.elf_format.specs.Seen.{shown_entry_model}
 use Rattle.elf_format.proofs.ForCallers.ReadingSteps.{no_entry}
 use Rattle.elf_format.proofs.ForCallers.ReadingSteps.{each_done, each_ends, each_goes}
-use Rattle.elf_image.proofs.read.texts.entries.kept_entries.Goals as goal
+use Rattle.elf_image_parts.proofs.entries.kept_entries.Goals as goal
 
 pub returns-in_err-one : goal.returns-in_err-one
 returns-in_err-one c =

@@ -3,10 +3,10 @@ use Rattle.std.specs.Prelude.{◌==◌, if◌then◌else◌, vec_len}
 use Rattle.std.proofs.lemmas.List.{length-map, length-set}
 use Rattle.elf_format.specs.Dynamic.{Entry}
 use Rattle.elf_format.specs.Image.{entry_tag}
-use Rattle.elf_image.specs.ImageModel.{entry_model}
+use Rattle.elf_image_parts.specs.PartModels.{entry_model}
 use Rattle.elf_image_parts.specs.DynamicList.{with_tag}
-use Rattle.elf_image.proofs.EditSteps.{mapped_all, next_changed}
-use Rattle.elf_image.proofs.edits.retag_entries.Goals as goal
+use Rattle.elf_image_parts.proofs.EditSteps.{mapped_all, next_changed}
+use Rattle.elf_image_parts.proofs.entries.retag_entries.Goals as goal
 
 pub loop-i-preserved : goal.loop-i-preserved
 loop-i-preserved c =

@@ -1,21 +1,23 @@
-//! The lists of symbols of an image.
+//! The two lists of symbols that an image has: those for a link editor and those for a loader (gABI, Symbol Table).
 ghost use Rattle.std.specs.Prelude.{◌≡◌, IfOk};
-ghost use Rattle.elf_image.specs.EditedLists.{edits_of_none, lists_at_read};
+ghost use Rattle.elf_image_symbol_edits.specs.EditedLists.{edits_of_none, lists_at_read};
 
-use elf_image_symbol_edits::EditedSymbols;
+use crate::edited_symbols::EditedSymbols;
 use elf_image_symbols::Symbols;
 use std::alloc::{AllocError, Global};
 
-// The symbols for a link editor and those for a loader.
+/// The symbols for a link editor and those for a loader, as they were read.
 #[derive(Debug, Drop)]
-pub(crate) struct SymbolLists<'data> {
-    pub(crate) symbols: Symbols<'data>,
-    pub(crate) dynamic_symbols: Symbols<'data>,
+pub struct SymbolLists<'data> {
+    /// Those for a link editor.
+    pub symbols: Symbols<'data>,
+    /// Those for a loader.
+    pub dynamic_symbols: Symbols<'data>,
 }
 
 impl<'data> SymbolLists<'data> {
-    // The same lists.
-    pub(crate) fn same(&self) -> SymbolLists<'data>
+    /// The same lists. Takes no memory.
+    pub fn same(&self) -> SymbolLists<'data>
         ensures { result ≡ self.now }
     {
         SymbolLists {
@@ -25,19 +27,18 @@ impl<'data> SymbolLists<'data> {
     }
 }
 
-// Both lists with what edits made of them.
+/// Both lists with what edits made of them.
 #[derive(Debug, Drop)]
-pub(crate) struct EditedLists<'data> {
-    pub(crate) symbols: EditedSymbols<'data>,
-    pub(crate) dynamic_symbols: EditedSymbols<'data>,
+pub struct EditedLists<'data> {
+    /// Those for a link editor.
+    pub symbols: EditedSymbols<'data>,
+    /// Those for a loader.
+    pub dynamic_symbols: EditedSymbols<'data>,
 }
 
 impl<'data> EditedLists<'data> {
-    // The lists, none of their symbols edited. Error: there is no room for edits of all.
-    pub(crate) fn new(
-        alloc: Global,
-        lists: &SymbolLists<'data>,
-    ) -> Result<EditedLists<'data>, AllocError>
+    /// The lists, none of their symbols edited. Error: `AllocError` where there is no room for edits of all.
+    pub fn new(alloc: Global, lists: &SymbolLists<'data>) -> Result<EditedLists<'data>, AllocError>
         ensures { IfOk result (λ edited. edited ≡ edits_of_none lists.now) }
     {
         let symbols = EditedSymbols::new(alloc, lists.symbols.same())?;
@@ -48,8 +49,8 @@ impl<'data> EditedLists<'data> {
         })
     }
 
-    // The same lists with the same edits.
-    pub(crate) fn try_clone(&self, alloc: Global) -> Result<EditedLists<'data>, AllocError>
+    /// The same lists with the same edits. Error: `AllocError`.
+    pub fn try_clone(&self, alloc: Global) -> Result<EditedLists<'data>, AllocError>
         ensures { IfOk result (λ copy. copy ≡ self.now) }
     {
         let symbols = self.symbols.try_clone(alloc)?;
@@ -60,8 +61,8 @@ impl<'data> EditedLists<'data> {
         })
     }
 
-    // The lists as they were read.
-    pub(crate) fn read(&self) -> SymbolLists<'data>
+    /// The lists as they were read. Takes no memory.
+    pub fn read(&self) -> SymbolLists<'data>
         ensures { result ≡ lists_at_read self.now }
     {
         SymbolLists {

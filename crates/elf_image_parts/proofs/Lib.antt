@@ -1,0 +1,2 @@
+pub mod EditSteps
+pub mod ForCallers
