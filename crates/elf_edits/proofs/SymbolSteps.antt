@@ -1,5 +1,5 @@
 -- Steps of looking through dynamic symbols, and of changing one after another.
-use Rattle.std.proofs.Common.{◌≡◌, ℕ, zero, suc, ◌+◌, ◌<◌, ◌≤◌, Bool, true, false, ◌||◌, List, [], ◌∷◌, ◌++◌, length, map, take, drop, refl, sym, ap, ◌∙◌, Option, Some, None, is_some, option_map, Bor, arith}
+use Rattle.std.proofs.Common.{◌≡◌, ℕ, zero, suc, ◌+◌, ◌<◌, ◌≤◌, Bool, true, false, ◌||◌, List, [], ◌∷◌, ◌++◌, length, map, take, drop, get_or, refl, sym, ap, ◌∙◌, Option, Some, None, is_some, option_map, Bor, arith}
 use Rattle.std.specs.Prelude.{◌&&◌, MatchOption, if◌then◌else◌, not, slice_get, unwrap_or}
 use Rattle.std.specs.List.{flat_map, list_any}
 use Rattle.std.specs.Map.{lookup}
@@ -16,7 +16,9 @@ use Rattle.elf_edits.specs.Changes.{name_for}
 use Rattle.elf_edits.specs.Edit.{RenameDynamicSymbols}
 use Rattle.elf_edits.specs.SymbolChanges.{AreSymbolsAfter, BeginsAt, GivesNames, changed_symbol, changed_to, is_changed, renamed_by, renamed_from}
 use Rattle.elf_edits.specs.Symbols.{behind_first, cleared, has_new_name, has_version_to_clear, name_of_symbol, names_behind_first, renamed}
-use Rattle.elf_edits.specs.Texts.{holds_nul, value_of}
+use Rattle.elf_edits.specs.TextModel.{Bytes, pairs_model}
+use Rattle.elf_edits.specs.Texts.{holds_nul, is_among, value_of}
+use Rattle.elf_edits.proofs.LookupSteps.{other_way}
 use Rattle.elf_edits.proofs.SymbolLaws.{any_name_behind_first, not_cleared}
 
 -- ## Some symbol is sought
@@ -348,7 +350,32 @@ module _ (from to : List ℕ) where
   after_one_rename old (Some new) h = (sym (pair_test (drop 1 old.symbols)) ∙ h.0, h.1 ∙ ap (with_symbols old) (pair_renames_all old.symbols))
 
   -- the name that is given is the new one
-  pub given_one : list_any holds_nul (flat_map (λ pair. pair.0 ∷ pair.1 ∷ []) ((from, to) ∷ [])) ≡ false → IsName to
+  pub given_one : list_any holds_nul (from ∷ to ∷ []) ≡ false → IsName to
   given_one none =
       let parts = or_parts (holds_nul from) (holds_nul to || false) none in
       is_name to (or_parts (holds_nul to) false parts.1).0
+
+-- a name that a symbol behind the first has is among theirs
+pub named_among : (name : List ℕ) (ys : List NamedSymbol) → list_any (λ y. bytes_eq y.name name) (drop 1 ys) ≡ is_among (names_behind_first ys) name
+named_among name ys = turned (drop 1 ys) ∙ sym (any_name_behind_first (bytes_eq name) ys)
+  where
+    turned : (zs : List NamedSymbol) → list_any (λ y. bytes_eq y.name name) zs ≡ list_any (λ y. bytes_eq name y.name) zs
+    turned [] = refl
+    turned (z ∷ zs) = ap (λ (b : Bool). b || list_any (λ y. bytes_eq y.name name) zs) (other_way z.name name) ∙ ap (λ (b : Bool). bytes_eq name z.name || b) (turned zs)
+
+-- a list of one pair, by what is read of it
+pub one_pair : (ps : List (Bytes × Bytes)) (p : Bytes × Bytes) (from to : List ℕ) → length ps ≡ 1 → p ≡ get_or ps 0 p → from ≡ p.0.items → to ≡ p.1.items → (from, to) ∷ [] ≡ pairs_model ps
+one_pair [] p from to one is first second = absurd (omega (arith, one))
+one_pair (x ∷ []) p from to one is first second =
+    ap (λ (f : List ℕ). (f, to) ∷ []) (first ∙ ap (λ (q : Bytes × Bytes). q.0.items) is)
+    ∙ ap (λ (g : List ℕ). (x.0.items, g) ∷ []) (second ∙ ap (λ (q : Bytes × Bytes). q.1.items) is)
+one_pair (x ∷ y ∷ ps) p from to one is first second = absurd (omega (arith, one))
+
+-- what a test by its negation says
+pub is_not : (b : Bool) → not b ≡ true → b ≡ false
+is_not true h = absurd (cc)
+is_not false h = refl
+
+pub is_so : (b : Bool) → not b ≡ false → b ≡ true
+is_so true h = refl
+is_so false h = absurd (cc)

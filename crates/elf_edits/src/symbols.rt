@@ -7,7 +7,7 @@ ghost use Rattle.elf_edits.specs.Edit.{RenameDynamicSymbols, edit_model, texts_o
 ghost use Rattle.elf_edits.specs.SymbolChanges.{AreSymbolsAfter, AreSymbolsChanged, BeginsAt, EndsAt, GivesNames, KeepsNames, changed_symbol, is_changed, renamed_by, renamed_from};
 ghost use Rattle.elf_edits.specs.Symbols.{behind_first, cleared, has_new_name, has_version_to_clear, names_behind_first};
 ghost use Rattle.elf_edits.specs.TextModel.{pairs_model};
-ghost use Rattle.elf_edits.specs.Texts.{holds_nul};
+ghost use Rattle.elf_edits.specs.Texts.{holds_nul, is_among};
 
 use crate::edit::ElfEdit;
 use crate::lookups::map_of;
@@ -257,6 +257,13 @@ pub fn rename_any(
     }
     let names = map_of(alloc, pairs)?;
     Ok(SymbolChange::Name(&names).is_about_any(symbols))
+}
+
+/// Whether a symbol behind the first has a name. Takes no memory.
+pub fn is_named(symbols: &SymbolsNow<'_>, name: &[u8]) -> bool
+    ensures { result ≡ is_among (names_behind_first (symbols_now symbols.now)) name.now }
+{
+    SymbolChange::One(name, name).is_about_any(symbols)
 }
 
 /// The symbols with the names that some pairs have for theirs, where they have one; `None` where none has. Error: `AllocError`.

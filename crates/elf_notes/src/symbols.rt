@@ -7,12 +7,13 @@ ghost use Rattle.elf_edits.specs.Texts.{is_among as among};
 ghost use Rattle.elf_image_symbol_edits.specs.Loan.{symbols_now};
 
 use crate::sets::{names_in, set_of, take_out};
+use elf_edits::symbols::is_named;
 use elf_image::SymbolsNow;
 use std::alloc::{AllocError, Global};
 use std::collections::HashSet;
 
 /// The names of some that no symbol behind the first has, and that aren't among others. The cost is in proportion to all
-/// of them.
+/// of them; a name alone is compared with those of the symbols, before all are looked up.
 pub(crate) fn unmatched_symbols_of<'e>(
     alloc: Global,
     asked: &[&'e [u8]],
@@ -24,6 +25,9 @@ pub(crate) fn unmatched_symbols_of<'e>(
         && not (among (map (λ n. n.now) put.now) name)) (map (λ n. n.now) asked.now)) }
 {
     if asked.is_empty() {
+        return Ok(Vec::new(alloc));
+    }
+    if asked.len() == 1 && is_named(&symbols, asked[0]) {
         return Ok(Vec::new(alloc));
     }
     let mut missing = set_of(alloc, asked)?;
