@@ -1,12 +1,12 @@
 -- Records of needed versions of which the libraries' names may be others.
-use Rattle.std.proofs.Common.{◌≡◌, ◌∙◌, ℕ, List, [], ◌∷◌, map, Bool, true, Option, Some, None, inl, inr, refl, sym, ap, subst}
+use Rattle.std.proofs.Common.{◌≡◌, ◌∙◌, ℕ, List, [], ◌∷◌, map, true, Option, Some, None, inl, inr, refl, sym, ap, subst}
 use Rattle.std.specs.Prelude.{IsSome}
 use Rattle.std.proofs.lemmas.Bool.{true≢false}
 use Rattle.std.proofs.lemmas.Option.{none-some}
 use Rattle.elf_format.specs.Dynamic.{Entry}
 use Rattle.elf_format.specs.Image.{Image}
 use Rattle.elf_format.specs.Versions.{VersionName, VersionNeeds}
-use Rattle.elf_image.specs.Edited.{AreEntriesOf, AreNeedsOf, AreSameNeeds, IsEdited, IsName, IsSameNeed}
+use Rattle.elf_image.specs.Edited.{AreEntriesOf, AreSameNeeds, IsEdited, IsName, IsSameNeed}
 use Rattle.elf_image.proofs.Kept.{needs_complete}
 
 -- ## What they keep

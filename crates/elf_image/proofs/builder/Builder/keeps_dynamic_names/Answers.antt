@@ -1,5 +1,5 @@
 -- The names that were read are those of the image that was read.
-use Rattle.std.proofs.Common.{◌≡◌, ◌↔◌, ◌∙◌, Ok, List, ap, not, subst, sym}
+use Rattle.std.proofs.Common.{◌≡◌, ◌↔◌, ◌∙◌, Ok, List, ap, not, subst}
 use Rattle.std.specs.Prelude.{IsTrue}
 use Rattle.elf_format.specs.Image.{Image, image_of}
 use Rattle.elf_format.specs.Views.{NamedSymbol}

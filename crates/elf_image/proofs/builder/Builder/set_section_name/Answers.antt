@@ -1,5 +1,5 @@
 -- The image with that name was read and edited.
-use Rattle.std.proofs.Common.{List, map, subst, sym, true}
+use Rattle.std.proofs.Common.{List, subst, sym, true}
 use Rattle.elf_format.specs.Image.{Image, ImageSection}
 use Rattle.elf_image.specs.BuilderModel.{image_model}
 use Rattle.elf_image.specs.Edited.{IsEdited}
