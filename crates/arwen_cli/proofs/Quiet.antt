@@ -2,9 +2,9 @@
 use Rattle.std.specs.Prelude.{◌&&◌}
 use Rattle.std.proofs.Common.{◌≡◌, ◌∙◌, ◌∷◌, [], Bool, List, ap, false, if◌then◌else◌, refl, subst, true}
 use Rattle.arwen_cli.specs.Line.{has_option}
-use Rattle.arwen_cli.specs.Moving.{has_move_word, is_elf_line, is_move_word, is_moving_line}
-use Rattle.arwen_cli.specs.Quiet.{is_mark, is_quiet_word, without_quiet}
-use Rattle.arwen_cli.specs.Signing.{is_macho_line, is_sign_word, unsigned, without_sign}
+use Rattle.arwen_cli_options.specs.Moving.{has_move_word, is_elf_line, is_move_word, is_moving_line}
+use Rattle.arwen_cli_options.specs.Quiet.{is_mark, is_quiet_word, without_quiet}
+use Rattle.arwen_cli_options.specs.Signing.{is_macho_line, is_sign_word, unsigned, without_sign}
 use Rattle.arwen_cli.proofs.Values.{first_value}
 use Rattle.arwen_cli.proofs.Words.{IsValue}
 use Rattle.command_words.specs.Rows.{Text}

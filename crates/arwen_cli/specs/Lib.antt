@@ -1,8 +1,8 @@
+pub use Rattle.arwen_cli_options.specs.Quiet
 pub mod Fault
 pub mod Line
 pub mod Meaning
 pub mod Parser
-pub mod Quiet
 pub mod Signing
 pub mod Moving
 pub mod Telling

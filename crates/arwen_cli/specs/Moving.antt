@@ -1,37 +1,12 @@
--- The option with which the dynamic section of an edited ELF file may move.
-use Rattle.std.specs.Prelude.{◌≡◌, ◌&&◌, ◌||◌, Bool, true, false, List, [], ◌∷◌, Some, codes, if◌then◌else◌, map}
+-- What a line asks for with which the dynamic section of an edited ELF file may move.
+use Rattle.std.specs.Prelude.{◌≡◌, ◌||◌, Bool, true, List, Some, codes, map}
 use Rattle.std.specs.Str.{bytes_eq}
 use Rattle.command_words.specs.Rows.{Given, Text, named, named_of}
 use Rattle.elf_format.specs.Options.{is_some_and}
 use Rattle.elf_commands.specs.Meaning.{ElfMeaning, elf_lines}
 use Rattle.elf_commands.specs.Moving.{meant_moving}
 use Rattle.arwen_cli.specs.Parser.{IsTaken}
-use Rattle.arwen_cli.specs.Quiet.{is_mark}
-
-abbrev pub is_move_word : Text → Bool
-is_move_word word = bytes_eq word (codes "--move-dynamic")
-
--- words have the option
-abbrev pub has_move_word : List Text → Bool
-has_move_word [] = false
-has_move_word (word ∷ words) = if is_mark word then false else (if is_move_word word then true else has_move_word words)
-
--- the line is one of an ELF file
-abbrev pub is_elf_line : List Text → Bool
-is_elf_line [] = false
-is_elf_line (word ∷ words) = bytes_eq word (codes "elf")
-
--- a line has the option where it may have it
-abbrev pub is_moving_line : List Text → Bool
-is_moving_line words = is_elf_line words && has_move_word words
-
--- words without the option
-abbrev pub without_move : List Text → List Text
-without_move [] = []
-without_move (word ∷ words) =
-    if is_move_word word then without_move words
-    else if is_mark word then word ∷ words
-    else word ∷ without_move words
+use Rattle.arwen_cli_options.specs.Moving.{without_move}
 
 -- the command of a name is `apply`, or an edit that it takes
 abbrev pub takes_leave : Text → Bool

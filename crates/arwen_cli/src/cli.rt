@@ -2,7 +2,7 @@
 ghost use Rattle.std.specs.Prelude.{◌≡◌, false, IfErr, IsSome, OnOk, map};
 ghost use Rattle.arwen_cli.specs.Line.{ElfMayFail, LineMayFail, MachoMayFail, MeaningMayFail, ShowMayFail, has_option, meaning_of};
 ghost use Rattle.arwen_cli.specs.Meaning.{shown};
-ghost use Rattle.arwen_cli.specs.Quiet.{notes_asked};
+ghost use Rattle.arwen_cli_options.specs.Quiet.{notes_asked};
 ghost use Rattle.arwen_cli.specs.Signing.{signing_asked};
 ghost use Rattle.elf_commands.specs.Meaning.{elf_command_model};
 ghost use Rattle.macho_commands.specs.Meaning.{macho_command_model};
@@ -11,12 +11,10 @@ mod command;
 mod error;
 mod file;
 mod line;
-mod moving;
 mod parser;
-mod quiet;
-mod signing;
 mod telling;
 
+use arwen_cli_options::{is_quiet, is_signed_by};
 pub use arwen_cli_show as show;
 use arwen_cli_show::Args;
 pub use command::Command;
@@ -38,8 +36,6 @@ pub use macho_commands::{
     macho_execute, macho_execute_telling, parse_macho_edits, patch_path, patch_store, run_macho,
     sign, verify, verify_bytes,
 };
-use quiet::is_quiet;
-use signing::is_signed_by;
 use std::rt::Files;
 pub use telling::fault_line;
 

@@ -12,11 +12,9 @@ ghost use Rattle.arwen_cli.specs.Moving.{MeansMoving, takes_leave as takes_the_l
 ghost use Rattle.arwen_cli_show.specs.Args.{ShowMeaning, args_meant, args_model};
 ghost use Rattle.arwen_cli.specs.Parser.{MayRefuse, MayRefuseReading, MayRefuseTaken, MeansBy, MeansTaken};
 
-use crate::cli::moving::{is_moved_by, without_move};
 use crate::cli::parser::{First, parse_values};
-use crate::cli::quiet::without_quiet;
-use crate::cli::signing::without_sign;
 use crate::cli::{ArwenError, Command, ElfCommand, MachoCommand};
+use arwen_cli_options::{is_moved_by, without_move, without_quiet, without_sign};
 use arwen_cli_show::{Args, ArgsFault, HELP, parse_args};
 use command_words::{ValueError, Values, find_row};
 use elf_commands::{elf, elf_table};

@@ -1,6 +1,6 @@
 use Rattle.std.proofs.Common.{◌≡◌, ◌++◌, drop, if◌then◌else◌, map}
-use Rattle.arwen_cli.specs.Moving.{without_move}
-use Rattle.arwen_cli.proofs.cli.moving.without_move.Given as goal
+use Rattle.arwen_cli_options.specs.Moving.{without_move}
+use Rattle.arwen_cli_options.proofs.moving.without_move.Given as goal
 
 -- the words so far, with what stays of those that are left
 abbrev pub invariant-loop-word : goal.invariant-loop-word

@@ -1,6 +1,6 @@
 use Rattle.std.proofs.Common.{◌≡◌, ◌++◌, drop, if◌then◌else◌, map}
-use Rattle.arwen_cli.specs.Signing.{unsigned, without_sign}
-use Rattle.arwen_cli.proofs.cli.signing.without_sign.Given as goal
+use Rattle.arwen_cli_options.specs.Signing.{unsigned, without_sign}
+use Rattle.arwen_cli_options.proofs.signing.without_sign.Given as goal
 
 -- the words so far, with what stays of those that are left
 abbrev pub invariant-loop-word : goal.invariant-loop-word

@@ -1,6 +1,6 @@
 use Rattle.std.proofs.Common.{◌≡◌, drop, map}
-use Rattle.arwen_cli.specs.Signing.{is_signed_line}
-use Rattle.arwen_cli.proofs.cli.signing.is_signed_by.Given as goal
+use Rattle.arwen_cli_options.specs.Signing.{is_signed_line}
+use Rattle.arwen_cli_options.proofs.signing.is_signed_by.Given as goal
 
 -- no word so far tells
 abbrev pub invariant-loop-word : goal.invariant-loop-word

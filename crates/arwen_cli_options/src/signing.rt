@@ -1,13 +1,13 @@
 //! The option `--sign`, by which the code signatures of edited Mach-O files are made to fit again.
 ghost use Rattle.std.specs.Prelude.{◌≡◌, IfOk, map};
-ghost use Rattle.arwen_cli.specs.Signing.{is_macho_line as is_for_macho, is_sign_word as asks_signing, is_signed_line, unsigned, without_sign as unsigned_words};
+ghost use Rattle.arwen_cli_options.specs.Signing.{is_macho_line as is_for_macho, is_sign_word as asks_signing, is_signed_line, unsigned, without_sign as unsigned_words};
 
-use crate::cli::quiet::is_mark;
+use crate::quiet::is_mark;
 use std::alloc::{AllocError, Global};
 
 /// The words of a line without `--sign`, where it is one of a Mach-O file. Behind a word `--` all words are values, and
 /// stay. Error: `AllocError`.
-pub(crate) fn without_sign<'a>(alloc: Global, words: &[&'a str]) -> Result<Vec<&'a str>, AllocError>
+pub fn without_sign<'a>(alloc: Global, words: &[&'a str]) -> Result<Vec<&'a str>, AllocError>
     ensures { IfOk result (λ heard.
         map (λ w. w.now) heard.items ≡ unsigned (map (λ w. w.now) words.now)) }
 {
@@ -36,7 +36,7 @@ fn is_macho_line(words: &[&str]) -> bool
 }
 
 /// Whether a line has a word `--sign` that is no value. Takes no memory.
-pub(crate) fn is_signed_by(words: &[&str]) -> bool
+pub fn is_signed_by(words: &[&str]) -> bool
     ensures { result ≡ is_signed_line (map (λ w. w.now) words.now) }
 {
     for word in words {

@@ -1,6 +1,6 @@
 use Rattle.std.proofs.Common.{◌≡◌, drop, map}
-use Rattle.arwen_cli.specs.Moving.{has_move_word}
-use Rattle.arwen_cli.proofs.cli.moving.has_word.Given as goal
+use Rattle.arwen_cli_options.specs.Moving.{has_move_word}
+use Rattle.arwen_cli_options.proofs.moving.has_word.Given as goal
 
 -- no word so far tells
 abbrev pub invariant-loop-word : goal.invariant-loop-word

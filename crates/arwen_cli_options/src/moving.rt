@@ -1,12 +1,12 @@
 //! The option `--move-dynamic`, with which the dynamic section of an edited ELF file may move.
 ghost use Rattle.std.specs.Prelude.{◌≡◌, IfOk, map};
-ghost use Rattle.arwen_cli.specs.Moving.{has_move_word, is_elf_line as is_for_elf, is_move_word as asks_move, is_moving_line, without_move as unmoved_words};
+ghost use Rattle.arwen_cli_options.specs.Moving.{has_move_word, is_elf_line as is_for_elf, is_move_word as asks_move, is_moving_line, without_move as unmoved_words};
 
-use crate::cli::quiet::is_mark;
+use crate::quiet::is_mark;
 use std::alloc::{AllocError, Global};
 
 /// The words of a line without `--move-dynamic`. Behind a word `--` all words are values, and stay. Error: `AllocError`.
-pub(crate) fn without_move<'a>(alloc: Global, words: &[&'a str]) -> Result<Vec<&'a str>, AllocError>
+pub fn without_move<'a>(alloc: Global, words: &[&'a str]) -> Result<Vec<&'a str>, AllocError>
     ensures { IfOk result (λ heard.
         map (λ w. w.now) heard.items ≡ unmoved_words (map (λ w. w.now) words.now)) }
 {
@@ -25,7 +25,7 @@ pub(crate) fn without_move<'a>(alloc: Global, words: &[&'a str]) -> Result<Vec<&
 }
 
 /// Whether a line of an ELF file has a word `--move-dynamic` that is no value. Takes no memory.
-pub(crate) fn is_moved_by(words: &[&str]) -> bool
+pub fn is_moved_by(words: &[&str]) -> bool
     ensures { result ≡ is_moving_line (map (λ w. w.now) words.now) }
 {
     is_elf_line(words) && has_word(words)

@@ -1,6 +1,6 @@
 use Rattle.std.proofs.Common.{◌≡◌, drop, map}
-use Rattle.arwen_cli.specs.Quiet.{is_quiet}
-use Rattle.arwen_cli.proofs.cli.quiet.is_quiet.Given as goal
+use Rattle.arwen_cli_options.specs.Quiet.{is_quiet}
+use Rattle.arwen_cli_options.proofs.quiet.is_quiet.Given as goal
 
 -- no word so far tells
 abbrev pub invariant-loop-word : goal.invariant-loop-word

@@ -1,15 +1,12 @@
 //! The option `-q`, by which notes are left out.
 ghost use Rattle.std.specs.Prelude.{◌≡◌, IfOk, map};
-ghost use Rattle.arwen_cli.specs.Quiet.{is_mark as marks_values, is_quiet as is_line_quiet, is_quiet_word as asks_quiet, without_quiet as heard_of};
+ghost use Rattle.arwen_cli_options.specs.Quiet.{is_mark as marks_values, is_quiet as is_line_quiet, is_quiet_word as asks_quiet, without_quiet as heard_of};
 
 use std::alloc::{AllocError, Global};
 
 /// The words of a line without `-q` and `--quiet`. Behind a word `--` all words are values, and stay. Error:
 /// `AllocError`.
-pub(crate) fn without_quiet<'a>(
-    alloc: Global,
-    words: &[&'a str],
-) -> Result<Vec<&'a str>, AllocError>
+pub fn without_quiet<'a>(alloc: Global, words: &[&'a str]) -> Result<Vec<&'a str>, AllocError>
     ensures { IfOk result (λ heard.
         map (λ w. w.now) heard.items ≡ heard_of (map (λ w. w.now) words.now)) }
 {
@@ -28,7 +25,7 @@ pub(crate) fn without_quiet<'a>(
 }
 
 /// Whether a line has a word `-q` or `--quiet` that is no value. Takes no memory.
-pub(crate) fn is_quiet(words: &[&str]) -> bool
+pub fn is_quiet(words: &[&str]) -> bool
     ensures { result ≡ is_line_quiet (map (λ w. w.now) words.now) }
 {
     for word in words {
@@ -50,7 +47,7 @@ fn is_quiet_word(word: &str) -> bool
 }
 
 /// Whether a word is the one behind which all are values.
-pub(crate) fn is_mark(word: &str) -> bool
+pub fn is_mark(word: &str) -> bool
     ensures { result ≡ marks_values word.now }
 {
     word == "--"

@@ -1,0 +1,3 @@
+pub mod Quiet
+pub mod Signing
+pub mod Moving
