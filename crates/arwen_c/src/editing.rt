@@ -2,7 +2,7 @@
 ghost use Rattle.std.specs.Prelude.{◌≡◌, ◌⊎◌, Err, IfErr, IfOk, IsOk, MatchResult, map, string_bytes};
 ghost use Rattle.elf_commands.specs.ElfAsked.{asked_of_words};
 ghost use Rattle.elf_commands.specs.ElfEngine.{TellsEdit, bytes_left};
-ghost use Rattle.elf_commands.specs.declared.error.ElfCommandError.TheVariants.{Memory as no_memory};
+ghost use Rattle.elf_commands.specs.ElfCommandError.TheVariants.{Memory as no_memory};
 ghost use Rattle.elf_commands.specs.ElfWords.{elf_edits_of};
 ghost use Rattle.macho_commands.specs.Edits.{edits_of};
 ghost use Rattle.macho_commands.specs.Engine.{Asked, Tells, outcome_of};

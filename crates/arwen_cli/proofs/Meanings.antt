@@ -7,7 +7,7 @@ use Rattle.command_words.proofs.ForCallers.{meant_with-named, named-map}
 use Rattle.elf_commands.specs.Meaning.{ElfMeaning, Reading, elf_lines}
 use Rattle.macho_commands.specs.Meaning.{MachoMeaning, macho_lines}
 use Rattle.elf_commands.specs.ElfEngine.{ElfMayFail as ElfCommandMayFail}
-use Rattle.elf_commands.specs.declared.error.ElfCommandError.TheVariants as elf_error
+use Rattle.elf_commands.specs.ElfCommandError.TheVariants as elf_error
 use Rattle.macho_commands.specs.declared.error.MachoCommandError.TheVariants as macho_error
 use Rattle.arwen_cli_show.specs.Args.{ShowMeaning, args_meant}
 use Rattle.arwen_cli_show.specs.declared.command.ShowCommandError.TheVariants as show_error

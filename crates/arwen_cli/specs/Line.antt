@@ -6,7 +6,7 @@ use Rattle.std.specs.Result.{result_ok}
 use Rattle.std.specs.Str.{bytes_eq}
 use Rattle.elf_commands.specs.ElfEngine.{ElfMayFail as CommandMayFail}
 use Rattle.elf_commands.specs.Meaning.{ElfMeaning, Reading, elf_lines}
-use Rattle.elf_commands.specs.declared.error.ElfCommandError.{ElfCommandError}
+use Rattle.elf_commands.specs.ElfCommandError.{ElfCommandError}
 use Rattle.macho_commands.specs.Engine.{MayFail}
 use Rattle.macho_commands.specs.Meaning.{MachoMeaning, macho_lines}
 use Rattle.macho_commands.specs.declared.error.MachoCommandError.{MachoCommandError}

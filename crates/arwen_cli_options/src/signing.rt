@@ -1,6 +1,6 @@
 //! The option `--sign`, by which the code signatures of edited Mach-O files are made to fit again.
 ghost use Rattle.std.specs.Prelude.{◌≡◌, IfOk, map};
-ghost use Rattle.arwen_cli_options.specs.Signing.{is_macho_line as is_for_macho, is_sign_word as asks_signing, is_signed_line, unsigned, without_sign as unsigned_words};
+ghost use Rattle.arwen_cli_options.specs.Signing.{is_macho_line as is_for_macho, is_sign_word as asks_signing, is_signed_line, unsigned};
 
 use crate::quiet::is_mark;
 use std::alloc::{AllocError, Global};

@@ -4,8 +4,8 @@ use Rattle.byte_store.specs.Fault.{IsLeft}
 use Rattle.byte_store.specs.Known.{IsAll, Stays}
 use Rattle.byte_store.specs.Replaced.{IsReplacedInPart}
 use Rattle.byte_store.specs.declared.writing.Left.{Left}
-use Rattle.elf_commands.specs.declared.error.ElfCommandError.{ElfCommandError}
-use Rattle.elf_commands.specs.declared.error.ElfCommandError.TheVariants.{Edits, Elf, ElfBatch, Io, Memory}
+use Rattle.elf_commands.specs.ElfCommandError.{ElfCommandError}
+use Rattle.elf_commands.specs.ElfCommandError.TheVariants.{Edits, Elf, ElfBatch, Io, Memory}
 use Rattle.elf_commands.specs.Shrinking.{Finding}
 use Rattle.arwen_cli_patchelf_lines.specs.Plans.{PlanMeant}
 use Rattle.arwen_cli_patchelf.specs.Made.{IsMadeOf}

@@ -1,8 +1,8 @@
 -- Prints, one behind the other.
 use Rattle.std.proofs.Common.{◌≡◌, [], ◌∷◌, ◌==◌, false, ℕ, List, Option, inl, inr, length, refl, subst}
 use Rattle.std.specs.declared.io.Error.{Error}
-use Rattle.elf_commands.specs.declared.error.ElfCommandError.{ElfCommandError}
-use Rattle.elf_commands.specs.declared.error.ElfCommandError.TheVariants.{Io}
+use Rattle.elf_commands.specs.ElfCommandError.{ElfCommandError}
+use Rattle.elf_commands.specs.ElfCommandError.TheVariants.{Io}
 use Rattle.arwen_cli_patchelf.specs.declared.printing.Print.{Print}
 use Rattle.arwen_cli_patchelf.specs.Printing.{HasPrintCause, HasPrintCauseAt, TellsPrints}
 

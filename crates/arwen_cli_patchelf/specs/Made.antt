@@ -8,8 +8,8 @@ use Rattle.elf_commands.specs.ElfAsked.{ElfAsked, elf_asked, one}
 use Rattle.elf_commands.specs.ElfEngine.{LeavesElf, TellsEdit}
 use Rattle.elf_commands.specs.Meaning.{apply_moving_elf}
 use Rattle.elf_commands.specs.ShrinkRuns.{AreFoundIn, TellsShrunk}
-use Rattle.elf_commands.specs.declared.error.ElfCommandError.{ElfCommandError}
-use Rattle.elf_commands.specs.declared.error.ElfCommandError.TheVariants.{Io, Memory}
+use Rattle.elf_commands.specs.ElfCommandError.{ElfCommandError}
+use Rattle.elf_commands.specs.ElfCommandError.TheVariants.{Io, Memory}
 use Rattle.elf_commands.specs.Shrinking.{Finding}
 use Rattle.arwen_cli_peers.specs.Options.{Text}
 use Rattle.arwen_cli_patchelf_lines.specs.Plans.{PlanMeant}

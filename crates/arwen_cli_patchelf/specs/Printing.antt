@@ -9,8 +9,8 @@ use Rattle.elf_image.specs.Image.{Image, image_of, shown}
 use Rattle.elf_format.specs.declared.fault.ElfFault.{ElfFault}
 use Rattle.elf_commands.specs.Failures.{IsNotLoaded}
 use Rattle.elf_commands.specs.Prints.{StopsWriting}
-use Rattle.elf_commands.specs.declared.error.ElfCommandError.{ElfCommandError}
-use Rattle.elf_commands.specs.declared.error.ElfCommandError.TheVariants.{Elf, Io, Memory}
+use Rattle.elf_commands.specs.ElfCommandError.{ElfCommandError}
+use Rattle.elf_commands.specs.ElfCommandError.TheVariants.{Elf, Io, Memory}
 use Rattle.arwen_cli_peers.specs.EditWords.{is_given}
 use Rattle.arwen_cli_peers.specs.Options.{Asked, Text}
 use Rattle.arwen_cli_patchelf.specs.PrintTexts.{print_text}

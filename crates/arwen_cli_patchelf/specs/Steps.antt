@@ -2,7 +2,7 @@
 use Rattle.std.specs.Prelude.{ℕ, ◌≡◌, List, [], ◌∷◌, Option, Some, None}
 use Rattle.elf_commands.specs.ElfStores.{FailsElf}
 use Rattle.elf_commands.specs.ShrinkRuns.{FailsShrink}
-use Rattle.elf_commands.specs.declared.error.ElfCommandError.{ElfCommandError}
+use Rattle.elf_commands.specs.ElfCommandError.{ElfCommandError}
 use Rattle.elf_commands.specs.Shrinking.{Finding}
 use Rattle.arwen_cli_peers.specs.Options.{Text}
 use Rattle.arwen_cli_patchelf.specs.Made.{IsAppliedTo, IsShrunkTo, words_ask}

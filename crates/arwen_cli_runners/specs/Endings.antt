@@ -1,6 +1,6 @@
 -- How lines end.
 use Rattle.std.specs.Prelude.{ℕ, ◌≡◌, ◌⊎◌, List, Option, None, Err, codes, string_bytes, ⊤}
-use Rattle.elf_commands.specs.declared.error.ElfCommandError.{ElfCommandError}
+use Rattle.elf_commands.specs.ElfCommandError.{ElfCommandError}
 use Rattle.arwen_cli_install_names.specs.Line.{ReadsNames, TellsNames}
 use Rattle.arwen_cli_install_names.specs.declared.editing.NamesError.{NamesError}
 use Rattle.arwen_cli_install_names.specs.declared.line.NameLine.{NameLine}

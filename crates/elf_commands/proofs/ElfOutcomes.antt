@@ -24,11 +24,12 @@ use Rattle.elf_commands.specs.ElfStores.{ChangesNothing}
 use Rattle.byte_store.specs.Composed.{made_of}
 use Rattle.byte_store.specs.declared.composed.Difference.{Difference}
 use Rattle.command_words.specs.Rows.{Text}
-use Rattle.elf_commands.specs.ElfEngine.{AreChanged, AreEditsAsked, IsBatchEdited, IsElfEdited, LeavesBatch, LeavesElf, Makes, MayFailAs, ShowsEdits, TellsEachFile, TellsEdit, TellsElfOf, TellsNoImage, TellsRun, bytes_left, elf_refusal}
-use Rattle.elf_commands.specs.ElfErrors.{answer_to_elf, answer_to_elf_fault}
+use Rattle.elf_commands_steps.specs.Images.{AreChanged, TellsNoImage}
+use Rattle.elf_commands.specs.ElfEngine.{AreEditsAsked, IsBatchEdited, IsElfEdited, LeavesBatch, LeavesElf, Makes, MayFailAs, ShowsEdits, TellsEachFile, TellsEdit, TellsElfOf, TellsRun, bytes_left, elf_refusal}
+use Rattle.elf_commands_steps.specs.ElfErrors.{answer_to_elf, answer_to_elf_fault}
 use Rattle.elf_commands.specs.Prints.{PrintMayFail, TellsElf}
-use Rattle.elf_commands.specs.declared.error.ElfCommandError.{ElfCommandError}
-use Rattle.elf_commands.specs.declared.error.ElfCommandError.TheVariants.{Edits, Elf, ElfBatch, Io, Memory}
+use Rattle.elf_commands_steps.specs.declared.error.ElfCommandError.{ElfCommandError}
+use Rattle.elf_commands_steps.specs.declared.error.ElfCommandError.TheVariants.{Edits, Elf, ElfBatch, Io, Memory}
 
 -- what holds of an answer that is there holds of any
 pub if_ok_and : {A E : Type 0} (P : A → Type 0) (r : Result A E) → IsOkAnd r P → IfOk r P
@@ -72,9 +73,6 @@ source_is edits_show hold_parts edits file read made is runs =
 -- ## What they make
 
 -- whether an image is marked, as it was asked
-pub is_marked : (made seen : Image) (asked mark : Bool) → seen ≡ made → asked ≡ seen.changed → asked ≡ mark → made.changed ≡ mark
-is_marked made seen asked mark same is found = ap (λ (i : Image). i.changed) (sym same) ∙ sym is ∙ found
-
 pub made_of_edits : (edits : List Edit) (file : List ℕ) (read made : Image) → image_of file ≡ Ok read → run edits read ≡ Ok made → Makes edits file made
 made_of_edits edits file read made is runs = record { read = read; is_read = is; runs = runs }
 

@@ -11,10 +11,11 @@ use Rattle.elf_commands_steps.specs.Written.{IsNoDifference}
 use Rattle.elf_commands.specs.ElfAsked.{ElfAsked, in_turn, of_symbols, one, printing, several, shrinking}
 use Rattle.elf_edits.specs.Edit.{Edit}
 use Rattle.elf_commands.specs.ElfEngine.{AreEditsAsked, LeavesElf, MayFailAs, TellsEachFile, TellsEdit}
-use Rattle.elf_commands.specs.ElfStores.{FailsElf, IsElfPatched, IsNothing, TellsElfPath}
-use Rattle.elf_commands.specs.ElfErrors.{answer_to_read, answer_to_replaced}
-use Rattle.elf_commands.specs.declared.error.ElfCommandError.{ElfCommandError}
-use Rattle.elf_commands.specs.declared.error.ElfCommandError.TheVariants.{Edits, Elf, ElfBatch, Io, Memory}
+use Rattle.elf_commands_steps.specs.Storing.{IsNothing}
+use Rattle.elf_commands.specs.ElfStores.{FailsElf, IsElfPatched, TellsElfPath}
+use Rattle.elf_commands_steps.specs.ElfErrors.{answer_to_read, answer_to_replaced}
+use Rattle.elf_commands_steps.specs.declared.error.ElfCommandError.{ElfCommandError}
+use Rattle.elf_commands_steps.specs.declared.error.ElfCommandError.TheVariants.{Edits, Elf, ElfBatch, Io, Memory}
 
 -- an error that tells of each file
 pub words_refused : (a : ElfAsked) (old mid : Option (List ℕ)) (e : ElfCommandError) → Stays old mid → TellsEachFile a e → FailsElf a old mid e

@@ -7,7 +7,7 @@ use Rattle.elf_commands_steps.specs.Groups.{GroupEdit, has_symbols}
 use Rattle.elf_commands.specs.ElfAsked.{asked_of_edits, asked_of_words}
 use Rattle.elf_commands.specs.ElfEngine.{IsElfEdited, RunsElf, TellsEdit, TellsRun}
 use Rattle.elf_commands.specs.Meaning.{ElfMeaning}
-use Rattle.elf_commands.specs.declared.error.ElfCommandError.{ElfCommandError}
+use Rattle.elf_commands_steps.specs.declared.error.ElfCommandError.{ElfCommandError}
 
 runs_edits : (meaning : ElfMeaning) (mixed : Bool) (edits : List GroupEdit) (file : List ℕ) (answer : Option (Vec ℕ Global)) (old new : Option (List ℕ)) → RunsElf meaning (asked_of_edits mixed edits) file answer old new
     → IsElfEdited (asked_of_edits mixed edits) file answer

@@ -17,10 +17,11 @@ use Rattle.elf_symbol_edits.specs.Laws.{SymbolEditsKeep}
 use Rattle.elf_symbol_edits.specs.SymbolEdit.{SymbolEdit}
 use Rattle.elf_commands_steps.specs.Groups.{GroupEdit, MakeInTurn, MakesNext, RefuseInTurn, TellsInTurn, has_symbols, plain, symbols}
 use Rattle.elf_commands.specs.ElfAsked.{ElfAsked, asked_of_edits, asked_of_words, asks_edits, asks_in_turn, in_turn, of_symbols, one, printing, several, shrinking}
-use Rattle.elf_commands.specs.ElfEngine.{AreAskedInTurn, AreChanged, AreEditedInTurn, IsElfEdited, LeaveInTurn, LeavesElf, MakesInTurn, TellsEdit, TellsNoImage, elf_refusal}
-use Rattle.elf_commands.specs.ElfErrors.{answer_to_elf, answer_to_elf_batch, answer_to_elf_fault}
+use Rattle.elf_commands_steps.specs.Images.{AreChanged, TellsNoImage}
+use Rattle.elf_commands.specs.ElfEngine.{AreAskedInTurn, AreEditedInTurn, IsElfEdited, LeaveInTurn, LeavesElf, MakesInTurn, TellsEdit, elf_refusal}
+use Rattle.elf_commands_steps.specs.ElfErrors.{answer_to_elf, answer_to_elf_batch, answer_to_elf_fault}
 use Rattle.elf_commands.specs.ElfStores.{IsElfPatched}
-use Rattle.elf_commands.specs.declared.error.ElfCommandError.{ElfCommandError}
+use Rattle.elf_commands_steps.specs.declared.error.ElfCommandError.{ElfCommandError}
 use Rattle.elf_commands.proofs.ElfOutcomes.{run_keeps}
 use Rattle.elf_commands.proofs.ElfStoreLaws.{leaves_of}
 

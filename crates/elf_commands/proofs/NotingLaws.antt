@@ -14,7 +14,7 @@ use Rattle.elf_notes.specs.declared.notes.ElfNotes.{ElfNotes}
 use Rattle.elf_commands.specs.ElfAsked.{ElfAsked, asks_edits, in_turn, of_symbols, one, printing, several, shrinking}
 use Rattle.elf_commands.specs.ElfEngine.{AreEditsAsked, TellsEdit}
 use Rattle.elf_commands.specs.Noting.{TellsImage, TellsNotes, TellsUnmade, TellsWanted, TellsWantedAt}
-use Rattle.elf_commands.specs.declared.error.ElfCommandError.{ElfCommandError}
+use Rattle.elf_commands_steps.specs.declared.error.ElfCommandError.{ElfCommandError}
 use Rattle.elf_commands.proofs.ElfOutcomes.{tells_refused}
 
 -- what is told of the image is told of the file that was read

@@ -24,13 +24,15 @@ use Rattle.elf_commands_steps.specs.Written.{IsImageWritten, IsNoImage}
 use Rattle.elf_apply.specs.declared.error.ElfError.{ElfError}
 use Rattle.elf_apply.specs.declared.error.ElfError.TheVariants as elf
 use Rattle.elf_commands.specs.ElfAsked.{one, shrinking}
-use Rattle.elf_commands.specs.ElfEngine.{AreChanged, IsElfEdited, LeavesElf, MayFailAs, TellsEdit, TellsNoImage}
-use Rattle.elf_commands.specs.ElfErrors.{answer_to_elf, answer_to_replaced}
+use Rattle.elf_commands_steps.specs.Images.{AreChanged, TellsNoImage}
+use Rattle.elf_commands.specs.ElfEngine.{IsElfEdited, LeavesElf, MayFailAs, TellsEdit}
+use Rattle.elf_commands_steps.specs.ElfErrors.{answer_to_elf, answer_to_replaced}
 use Rattle.command_words.specs.Rows.{Text}
-use Rattle.elf_commands.specs.ShrinkRuns.{AreFoundIn, FailsShrink, IsQuiet, IsRemovalTold, IsShrunkBy, IsShrunkImage, RunsShrink, ShrinksStore, Steps, TellsShrink, TellsShrunk, TellsShrunkPath, TellsUnshrunk, TellsUntold}
+use Rattle.elf_commands_steps.specs.ShrunkImages.{IsRemovalTold, IsShrunkImage, Steps, TellsUnshrunk, TellsUntold}
+use Rattle.elf_commands.specs.ShrinkRuns.{AreFoundIn, FailsShrink, IsQuiet, IsShrunkBy, RunsShrink, ShrinksStore, TellsShrink, TellsShrunk, TellsShrunkPath}
 use Rattle.elf_commands_steps.specs.Shrinking.{AreFound, Finding, removal_lines}
-use Rattle.elf_commands.specs.declared.error.ElfCommandError.{ElfCommandError}
-use Rattle.elf_commands.specs.declared.error.ElfCommandError.TheVariants.{Edits, Elf, ElfBatch, Io, Memory}
+use Rattle.elf_commands_steps.specs.declared.error.ElfCommandError.{ElfCommandError}
+use Rattle.elf_commands_steps.specs.declared.error.ElfCommandError.TheVariants.{Edits, Elf, ElfBatch, Io, Memory}
 use Rattle.elf_commands.proofs.ElfOutcomes.{edited_answer, leaves_pieces, made_of_edits, one_refused, source_is, tells_no_image}
 
 -- ## One edit as a batch

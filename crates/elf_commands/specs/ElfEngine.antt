@@ -21,11 +21,11 @@ use Rattle.elf_commands.specs.ElfAsked.{ElfAsked, answered, asks_edits, asks_in_
 use Rattle.elf_commands.specs.ElfWords.{edits_model}
 use Rattle.elf_commands.specs.declared.asked.AskedEdits.{AskedEdits}
 use Rattle.elf_commands.specs.declared.asked.AskedEdits.TheVariants as asked
-use Rattle.elf_commands.specs.ElfErrors.{answer_to_elf, answer_to_elf_batch}
+use Rattle.elf_commands_steps.specs.ElfErrors.{answer_to_elf, answer_to_elf_batch}
 use Rattle.elf_commands.specs.Meaning.{ElfMeaning}
 use Rattle.elf_commands.specs.Prints.{PrintMayFail, Prints, TellsElf}
-use Rattle.elf_commands.specs.declared.error.ElfCommandError.{ElfCommandError}
-use Rattle.elf_commands.specs.declared.error.ElfCommandError.TheVariants.{Edits, Elf, ElfBatch, Io, Memory}
+use Rattle.elf_commands_steps.specs.declared.error.ElfCommandError.{ElfCommandError}
+use Rattle.elf_commands_steps.specs.declared.error.ElfCommandError.TheVariants.{Edits, Elf, ElfBatch, Io, Memory}
 
 -- ---- what is written
 
@@ -58,11 +58,6 @@ pub record IsEditedTo (edits : List Edit) (file new : List ℕ) : Type 0 where
   pub makes : Makes edits file made
   pub written : IsImageWritten made new
   pub shows : made.changed ≡ true → ShowsEdits edits file new made
-
--- new bytes of an image that was changed, and none of one that wasn't
-pub record AreChanged (made : Image) (answer : Option (Vec ℕ Global)) : Type 0 where
-  pub same : made.changed ≡ false → answer ≡ None
-  pub other : made.changed ≡ true → (new : Vec ℕ Global) × (answer ≡ Some new) × IsWrittenOf made new.items
 
 -- ---- edits of both kinds, one after the other
 
@@ -138,10 +133,6 @@ TellsEdit a file (Edits wrong) = a ≡ several (Err wrong)
 TellsEdit a file (Elf e) = TellsElfOf a file e
 TellsEdit a file (ElfBatch e) = TellsBatchOf a file e
 TellsEdit a file e = ⊥
-
--- the error is that of an image that has no bytes
-abbrev pub TellsNoImage : Image → ElfCommandError → Type 0
-TellsNoImage made e = (cause : ElfError) × IsNoImage made cause × (e ≡ answer_to_elf cause)
 
 -- ---- a run over bytes
 

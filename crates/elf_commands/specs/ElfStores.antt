@@ -1,5 +1,5 @@
 -- What commands for ELF files make of the bytes of a store, where they are known.
-use Rattle.std.specs.Prelude.{ℕ, ◌≡◌, ◌≤◌, ◌⊎◌, length, List, Option, Some, false, ⊤}
+use Rattle.std.specs.Prelude.{ℕ, ◌≡◌, ◌⊎◌, List, Option, Some, false, ⊤}
 use Rattle.byte_store.specs.Known.{Stays}
 use Rattle.byte_store.specs.Composed.{made_of, owned_patches}
 use Rattle.byte_store.specs.Fault.{IsLeft}
@@ -9,8 +9,8 @@ use Rattle.elf_commands.specs.ElfAsked.{ElfAsked, printing, shrinking}
 use Rattle.elf_edits.specs.Edit.{Edit}
 use Rattle.elf_image.specs.Image.{Image}
 use Rattle.elf_commands.specs.ElfEngine.{AreEditsAsked, LeavesElf, Makes, TellsEdit}
-use Rattle.elf_commands.specs.declared.error.ElfCommandError.{ElfCommandError}
-use Rattle.elf_commands.specs.declared.error.ElfCommandError.TheVariants.{Io}
+use Rattle.elf_commands_steps.specs.declared.error.ElfCommandError.{ElfCommandError}
+use Rattle.elf_commands_steps.specs.declared.error.ElfCommandError.TheVariants.{Io}
 
 -- known bytes become those that the edits leave that are asked for; those of a command that prints, or asks first what is found, stay
 abbrev pub IsElfPatched : ElfAsked → Option (List ℕ) → Option (List ℕ) → Type 0
@@ -33,12 +33,6 @@ pub record ChangesNothing (a : ElfAsked) (file : List ℕ) : Type 0 where
   pub made : Image
   pub makes : Makes edits file made
   pub same : made.changed ≡ false
-
--- A difference that changes nothing of so many bytes.
-pub record IsNothing (old_length : ℕ) (d : Difference) : Type 0 where
-  pub growth : length d.growth.items ≡ 0
-  pub pieces : length d.pieces.items ≡ 0
-  pub end : old_length ≤ d.new_length
 
 -- what an error leaves and tells: only a write that failed changes bytes, where the command was accepted
 abbrev pub FailsElf : ElfAsked → Option (List ℕ) → Option (List ℕ) → ElfCommandError → Type 0

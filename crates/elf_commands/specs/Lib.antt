@@ -1,10 +1,11 @@
+pub use Rattle.elf_commands_steps.specs.ElfErrors
+pub use Rattle.elf_commands_steps.specs.Failures
 pub use Rattle.elf_commands_steps.specs.Shrinking
+pub use Rattle.elf_commands_steps.specs.declared.error.ElfCommandError
 pub mod ElfAsked
 pub mod ElfEngine
-pub mod ElfErrors
 pub mod ElfStores
 pub mod ElfWords
-pub mod Failures
 pub mod Meaning
 pub mod Moving
 pub mod Noting

@@ -1,6 +1,7 @@
 -- What a command for ELF files asks for, with its texts as bytes.
-use Rattle.std.specs.Prelude.{ℕ, ◌∷◌, [], List, Option, Some, None, Result, Ok, Err, codes, false, map, true}
+use Rattle.std.specs.Prelude.{ℕ, ◌||◌, ◌∷◌, [], Bool, List, Option, Some, None, Result, Ok, Err, codes, false, map, true}
 use Rattle.std.specs.Prelude.{string_bytes}
+use Rattle.std.specs.Str.{bytes_eq}
 use Rattle.elf_edits.specs.Edit.{Edit, AddDebugEntry, AddNeeded, AddRunPath, ClearExecStack, ClearSymbolVersion, DeleteNeeded}
 use Rattle.elf_edits.specs.Edit.{DeleteRunPath, NoDefaultLibrary, RenameDynamicSymbols, ReplaceLibrary, ReplaceNeeded, SetExecStack}
 use Rattle.elf_edits.specs.Edit.{SetInterpreter, SetOsAbi, SetPageSize, SetRunPath, SetSoname, UseRpath}
@@ -113,6 +114,11 @@ elf_lines = edit_line (codes "add-debug-tag") (by_none AddDebugEntry)
     ∷ print_line (codes "print-os-abi") print_os_abi
     ∷ print_line (codes "print-exec-stack") print_exec_stack
     ∷ []
+
+-- a name is that of an edit of symbols or sections
+abbrev pub names_symbols : Text → Bool
+names_symbols name = bytes_eq name (codes "rename-symbols") || bytes_eq name (codes "delete-symbols")
+    || bytes_eq name (codes "rename-sections") || bytes_eq name (codes "delete-sections")
 
 -- ---- what a value of the program stands for
 

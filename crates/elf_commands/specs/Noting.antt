@@ -13,8 +13,8 @@ use Rattle.elf_notes.specs.Notes.{AreNotes}
 use Rattle.elf_notes.specs.declared.notes.ElfNotes.{ElfNotes}
 use Rattle.elf_commands.specs.ElfAsked.{ElfAsked, asks_edits}
 use Rattle.elf_commands.specs.ElfEngine.{AreEditsAsked, elf_refusal}
-use Rattle.elf_commands.specs.declared.error.ElfCommandError.{ElfCommandError}
-use Rattle.elf_commands.specs.declared.error.ElfCommandError.TheVariants.{Memory}
+use Rattle.elf_commands_steps.specs.declared.error.ElfCommandError.{ElfCommandError}
+use Rattle.elf_commands_steps.specs.declared.error.ElfCommandError.TheVariants.{Memory}
 
 -- ---- an image that was read
 

@@ -1,32 +1,24 @@
 -- What a command makes of a file whose run paths shrink, what it tells, and why it makes nothing.
-use Rattle.std.specs.Prelude.{ℕ, ◌≡◌, ◌⊎◌, List, map, Option, Some, Ok, Result, ⊤}
+use Rattle.std.specs.Prelude.{ℕ, ◌≡◌, ◌⊎◌, List, Option, Some, Ok, Result, ⊤}
 use Rattle.std.specs.Io.KnownBytes.{Appends}
 use Rattle.std.specs.declared.alloc.Global.{Global}
 use Rattle.std.specs.declared.vec.Vec.{Vec}
 use Rattle.byte_store.specs.Known.{Stays}
-use Rattle.byte_store.specs.Composed.{IsDifference, made_of, owned_patches}
+use Rattle.byte_store.specs.Composed.{made_of, owned_patches}
 use Rattle.byte_store.specs.Fault.{IsLeft}
 use Rattle.byte_store.specs.declared.writing.Left.{Left}
 use Rattle.byte_store.specs.declared.composed.Difference.{Difference}
 use Rattle.elf_edits.specs.Edit.{Answer, Edit, ShrinkRunPath}
 use Rattle.elf_edits_shrink.specs.Removals.{removed_by}
-use Rattle.elf_edits.specs.Edited.{step}
-use Rattle.elf_edits.specs.Shrunk.{Removal}
-use Rattle.elf_edits_shrink.specs.ShrinkModel.{removal_model}
-use Rattle.elf_apply.specs.Told.{Refuses}
-use Rattle.elf_apply.specs.declared.error.ElfError.{ElfError}
-use Rattle.elf_edits_shrink.specs.declared.removal.Removed.{Removed}
 use Rattle.elf_format.specs.declared.fault.ElfFault.{ElfFault}
 use Rattle.elf_image.specs.Image.{Image, image_of, shown}
-use Rattle.elf_commands_steps.specs.Written.{IsImageWritten, IsNoImage}
 use Rattle.elf_commands.specs.ElfAsked.{elf_asked, one}
-use Rattle.elf_commands.specs.ElfEngine.{AreChanged, IsElfEdited, LeavesElf, RunsElf, TellsEdit, TellsNoImage, TellsRun}
-use Rattle.elf_commands.specs.ElfErrors.{answer_to_elf}
+use Rattle.elf_commands.specs.ElfEngine.{IsElfEdited, LeavesElf, RunsElf, TellsEdit, TellsRun}
 use Rattle.elf_commands.specs.Meaning.{ElfMeaning, shrink_elf}
 use Rattle.command_words.specs.Rows.{Text}
 use Rattle.elf_commands_steps.specs.Shrinking.{AreFound, Finding, removal_lines}
-use Rattle.elf_commands.specs.declared.error.ElfCommandError.{ElfCommandError}
-use Rattle.elf_commands.specs.declared.error.ElfCommandError.TheVariants.{Io, Memory}
+use Rattle.elf_commands_steps.specs.declared.error.ElfCommandError.{ElfCommandError}
+use Rattle.elf_commands_steps.specs.declared.error.ElfCommandError.TheVariants.{Io, Memory}
 
 -- the lines of just the directories that an edit takes out of the run paths of the file that was read
 abbrev pub TellsRemoved : Edit → Result Image ElfFault → Text → Type 0
@@ -35,34 +27,6 @@ TellsRemoved edit read text = (image : Image) × (read ≡ Ok image) × (text �
 -- a writer gets these lines
 abbrev pub GetsRemoved : Edit → Result Image ElfFault → Option (List ℕ) → Option (List ℕ) → Type 0
 GetsRemoved edit read old new = (text : Text) × TellsRemoved edit read text × Appends old new text
-
--- an image with run paths that shrink, and the directories that went
-pub record Steps (edit : Edit) (old new : Image) (removed : Vec Removed Global) : Type 0 where
-  pub makes : step edit old ≡ Ok new
-  pub are : map removal_model removed.items ≡ removed_by edit old
-
--- an image is answered, and a writer gets the lines of directories
-abbrev pub IsRemovalTold : Image → List Removal → Option (Vec ℕ Global) → Option (List ℕ) → Option (List ℕ) → Type 0
-IsRemovalTold made removed answer old new = AreChanged made answer × Appends old new (removal_lines removed)
-
--- an error of that: the writer failed once the answer was there; or there is none, and the writer got nothing
-abbrev pub TellsUntold : {W : Type 0} → Image → W → W → ElfCommandError → Type 0
-TellsUntold made old new (Io e) = (answer : Option (Vec ℕ Global)) × AreChanged made answer
-TellsUntold made old new e = (new ≡ old) × TellsNoImage made e
-
--- what differs from the bytes of a file once an edit of its image took directories out of run paths, and their lines
-pub record IsShrunkImage (edit : Edit) (read : Image) (d : Difference) (text : Text) : Type 0 where
-  pub made : Image
-  pub makes : step edit read ≡ Ok made
-  pub makeable : IsDifference made.source d
-  pub written : IsImageWritten made (made_of made.source d)
-  pub told : text ≡ removal_lines (removed_by edit read)
-
--- an error of that: the edit is refused, or the edited image has no bytes
-abbrev pub TellsUnshrunk : Edit → Image → ElfCommandError → Type 0
-TellsUnshrunk edit read e = (cause : ElfError)
-    × (Refuses cause (step edit read) ⊎ ((made : Image) × (step edit read ≡ Ok made) × IsNoImage made cause))
-    × (e ≡ answer_to_elf cause)
 
 -- ---- over bytes
 

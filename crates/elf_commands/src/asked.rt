@@ -8,9 +8,8 @@ ghost use Rattle.elf_commands.specs.Meaning.{elf_command_model};
 
 use crate::command::ElfCommand;
 use crate::elf_words::parse_elf_edits;
-use crate::error::ElfCommandError;
 use command_words::words_of;
-use elf_commands_steps::{GroupEdit, has_symbols, plain_edits};
+use elf_commands_steps::{ElfCommandError, GroupEdit, has_symbols, plain_edits};
 use elf_edits::ElfEdit;
 use std::alloc::{AllocError, Global};
 

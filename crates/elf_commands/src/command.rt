@@ -1,7 +1,7 @@
 //! What is asked of an ELF file, with its values, and the rows of the commands, as help shows them.
 ghost use Rattle.std.specs.Prelude.{◌≡◌, ◌∷◌, [], IfOk, Some, map, option_map, string_bytes};
 ghost use Rattle.command_words.specs.Rows.{named_of, row_model};
-ghost use Rattle.elf_commands.specs.Meaning.{apply_moving_elf, elf_command_model, elf_lines};
+ghost use Rattle.elf_commands.specs.Meaning.{apply_moving_elf, elf_command_model, elf_lines, names_symbols};
 
 use crate::elf::{
     add_debug_tag, add_needed, add_rpath, apply, clear_execstack, clear_version_symbol,
@@ -87,11 +87,11 @@ pub enum ElfCommand {
 }
 
 impl ElfCommand {
-    ghost use Rattle.std.specs.Prelude.{◌≡◌, Some as some, IfErr, IfOk, map, option_map, string_bytes};
+    ghost use Rattle.std.specs.Prelude.{◌≡◌, IfErr, IfOk, map, option_map, string_bytes, true};
     ghost use Rattle.elf_edits.specs.EditModel.{edit_model};
     ghost use Rattle.elf_commands.specs.ElfAsked.{elf_asked, is_printing};
     ghost use Rattle.elf_commands.specs.ElfWords.{elf_edit_asked, group_edit_asked, symbols_asked};
-    ghost use Rattle.elf_commands.specs.Meaning.{elf_file_of, elf_lines, elf_command_model, reading_of};
+    ghost use Rattle.elf_commands.specs.Meaning.{elf_file_of, elf_lines, elf_command_model, names_symbols, reading_of};
     ghost use Rattle.elf_commands.specs.Moving.{meant_moving};
     ghost use Rattle.elf_commands_steps.specs.Groups.{group_model};
     ghost use Rattle.elf_commands_steps.specs.SymbolTexts.{symbol_texts_model};
@@ -200,6 +200,9 @@ impl ElfCommand {
         ensures err { IfErr result (TellsNoValue (meant_with elf_lines
             name.now (words_given (string_bytes path_to_binary) (map string_bytes words.items)))) }
     {
+        if is_of_symbols(name) {
+            return ElfCommand::with_symbol_words(alloc, name, path_to_binary, words);
+        }
         Ok(Some(match name {
             add_needed::NAME => ElfCommand::AddNeeded(add_needed::Args {
                 path_to_binary,
@@ -223,6 +226,28 @@ impl ElfCommand {
                     rename_symbols: pairs_of(alloc, words.as_slice())?,
                 })
             }
+            apply::NAME => ElfCommand::Apply(apply::Args {
+                path_to_binary,
+                edits: words,
+            }),
+            _ => return Ok(None),
+        }))
+    }
+
+    /// The command of a name of an edit of symbols or sections, which takes the path and any number of words.
+    fn with_symbol_words(
+        alloc: Global,
+        name: &str,
+        path_to_binary: String,
+        words: Vec<String>,
+    ) -> Result<Option<ElfCommand>, ValueError>
+        requires { names_symbols name.now ≡ true }
+        ensures ok { IfOk result (λ command. option_map reading_of command ≡ meant_with elf_lines
+            name.now (words_given (string_bytes path_to_binary) (map string_bytes words.items))) }
+        ensures err { IfErr result (TellsNoValue (meant_with elf_lines
+            name.now (words_given (string_bytes path_to_binary) (map string_bytes words.items)))) }
+    {
+        Ok(Some(match name {
             rename_symbols::NAME => ElfCommand::RenameSymbols(rename_symbols::Args {
                 path_to_binary,
                 rename_symbols: pairs_of(alloc, words.as_slice())?,
@@ -238,10 +263,6 @@ impl ElfCommand {
             delete_sections::NAME => ElfCommand::DeleteSections(delete_sections::Args {
                 path_to_binary,
                 sections: words,
-            }),
-            apply::NAME => ElfCommand::Apply(apply::Args {
-                path_to_binary,
-                edits: words,
             }),
             _ => return Ok(None),
         }))
@@ -420,6 +441,16 @@ impl ElfCommand {
             ElfCommand::PrintExecStack(args) => args.path_to_binary.as_str(),
         }
     }
+}
+
+/// Whether a name is that of an edit of symbols or sections.
+fn is_of_symbols(name: &str) -> bool
+    ensures { result ≡ names_symbols name.now }
+{
+    matches!(
+        name,
+        rename_symbols::NAME | delete_symbols::NAME | rename_sections::NAME | delete_sections::NAME
+    )
 }
 
 /// An edit, by its name and the words behind it, with leave that the dynamic section moves.

@@ -10,14 +10,13 @@ mod in_turn;
 mod noting;
 mod printing;
 mod shrinking;
-mod standard_error;
 
 pub use crate::asked::edits_asked;
 use crate::command::ElfCommand;
-use crate::error::ElfCommandError;
 use command_words::Notes;
 pub use editing::{edit_path, edit_store};
 use editing::{edit_file, edit_telling};
+use elf_commands_steps::ElfCommandError;
 pub use elf_commands_steps::{FileProbe, Probe};
 pub use engine::run_elf;
 use printing::print_file;

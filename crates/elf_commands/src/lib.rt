@@ -6,9 +6,7 @@ mod asked;
 mod command;
 pub mod elf;
 mod elf_words;
-mod error;
 
 pub use command::{ElfCommand, elf_table};
-pub use elf_commands_steps::{GroupEdit, SymbolTexts, files, plain_edits};
+pub use elf_commands_steps::{ElfCommandError, GroupEdit, SymbolTexts, files, plain_edits};
 pub use elf_words::parse_elf_edits;
-pub use error::ElfCommandError;

@@ -4,6 +4,11 @@ pub use Rattle.arwen_elf.specs.Counted
 pub use Rattle.arwen_elf.specs.Reads
 pub use Rattle.arwen_elf.specs.WriterModel
 pub use Rattle.arwen_elf.specs.Written
+pub mod ElfErrors
+pub mod Failures
 pub mod Groups
+pub mod Images
 pub mod Shrinking
+pub mod ShrunkImages
+pub mod Storing
 pub mod SymbolTexts

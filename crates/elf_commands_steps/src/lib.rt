@@ -3,13 +3,25 @@
 //! of a run path, with the lines that tell which of them went.
 #![tactic(auto)]
 
+pub mod error;
 pub mod files;
 pub mod groups;
+pub mod images;
+pub mod loading;
 mod probing;
+pub mod shrinking;
+pub mod standard_error;
+pub mod storing;
 pub mod symbol_texts;
 pub mod texts;
 
+pub use crate::error::ElfCommandError;
 pub use crate::groups::{GroupEdit, apply_in_turn, has_symbols, plain_edits};
+pub use crate::images::{changed_bytes, pieces_and_text, pieces_of};
+pub use crate::loading::load_elf;
 pub use crate::probing::{FileProbe, Probe, answers_of, removal_text};
+pub use crate::shrinking::{Shrunk, pieces_by_answers, shrink_image, tell_removed};
+pub use crate::standard_error::{StandardError, tell};
+pub use crate::storing::make_opened;
 pub use crate::symbol_texts::SymbolTexts;
 pub use crate::texts::{bytes_of, pairs_copied, texts_of};

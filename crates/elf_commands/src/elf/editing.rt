@@ -1,14 +1,11 @@
 //! Edits of the bytes of stores.
-ghost use Rattle.std.specs.Prelude.{◌≡◌, ◌+◌, ◌<◌, ◌≤◌, ◌^◌, All, IfErr, IfOk, IsTrue, OnOk, length, string_bytes};
-ghost use Rattle.byte_store.specs.Causes.{IsNotWritten};
-ghost use Rattle.byte_store.specs.Composed.{IsNotMade, made_of, owned_patches};
-ghost use Rattle.byte_store.specs.Known.{Becomes, HasLength, IsAll, Stays};
-ghost use Rattle.byte_store.specs.Laid.{LiesIn};
+ghost use Rattle.std.specs.Prelude.{IfErr, IfOk, IsTrue, OnOk, length, string_bytes};
+ghost use Rattle.byte_store.specs.Known.{HasLength, IsAll, Stays};
 ghost use Rattle.elf_commands.specs.ElfAsked.{elf_asked};
 ghost use Rattle.elf_commands.specs.ElfEngine.{AreAsked, AreEditsAsked, ElfMayFail};
-ghost use Rattle.elf_commands.specs.ElfStores.{ChangesNothing, FailsElf, IsElfPatched, IsNothing, TellsElfPath};
+ghost use Rattle.elf_commands.specs.ElfStores.{ChangesNothing, FailsElf, IsElfPatched, TellsElfPath};
 ghost use Rattle.elf_commands.specs.ElfWords.{edits_model};
-ghost use Rattle.elf_commands.specs.Failures.{HasCause, HasCauseAt, HasWriteCause};
+ghost use Rattle.elf_commands_steps.specs.Failures.{HasCause, HasCauseAt, HasWriteCause};
 ghost use Rattle.elf_commands.specs.Meaning.{elf_file_of, elf_command_model};
 ghost use Rattle.elf_commands.specs.Noting.{TellsWanted, TellsWantedAt};
 
@@ -16,11 +13,9 @@ use crate::asked::{AskedEdits, asked_by};
 use crate::command::ElfCommand;
 use crate::elf::engine::edited_pieces;
 use crate::elf::in_turn::edit_in_turn;
-use crate::elf::noting::tell;
-use crate::elf::printing::load_elf;
-use crate::error::ElfCommandError;
-use byte_store::{Difference, Left, Opens, ReplaceError, Store, WriteError, make_difference};
+use byte_store::{Opens, Store};
 use command_words::{Notes, RegularFiles};
+use elf_commands_steps::{ElfCommandError, load_elf, make_opened, tell};
 use elf_edits::ElfEdit;
 use std::alloc::Global;
 use std::rt::Files;
@@ -130,51 +125,6 @@ fn edit_loaded<S: Store>(
     let (difference, text) = edited_pieces(alloc, bytes, command, edits, notes)?;
     make_opened(alloc, store, bytes.len() as u64, &difference)?;
     Ok(text)
-}
-
-/// Makes a difference in a store that has so many bytes, as `make_difference` does; one that changes nothing
-/// opens the store for writing too.
-pub(crate) fn make_opened<S: Store>(
-    alloc: Global,
-    store: &mut S,
-    old_length: u64,
-    difference: &Difference,
-) -> Result<(), ReplaceError>
-    requires old { HasLength (S.contents store.old) old_length }
-    requires fits { old_length + length difference.now.growth.items < 2 ^ 64 }
-    requires inside { All (LiesIn (old_length + length difference.now.growth.items))
-        (owned_patches difference.now.pieces.items) }
-    requires end { difference.now.new_length ≤ old_length + length difference.now.growth.items }
-    ensures ok { OnOk result (Becomes (λ source. made_of source difference.now)
-        (S.contents store.old) (S.contents store.new)) }
-    ensures err { IfErr result (IsNotMade S.contents difference.now store.old store.new) }
-    ensures idle { IsNothing old_length difference.now
-        → OnOk result (Stays (S.contents store.old) (S.contents store.new)) }
-    ensures opens { IsNothing old_length difference.now
-        → OnOk result (IsTrue (S.is_writable store.new)) }
-    ensures cause { IfErr result (IsNotWritten S.may_fail_write S.may_take_none
-        (S.failed store.old) (S.failed store.new)) }
-{
-    if !is_nothing(old_length, difference) {
-        return make_difference(alloc, store, old_length, difference);
-    }
-    match store.open_for_writing() {
-        Ok(()) => Ok(()),
-        Err(error) => Err(ReplaceError::Write(WriteError {
-            left: Left::Old,
-            error,
-        })),
-    }
-}
-
-/// Whether a difference changes nothing of so many bytes.
-fn is_nothing(old_length: u64, difference: &Difference) -> bool
-    ensures yes { IsTrue result → IsNothing old_length difference.now }
-    ensures no { IsNothing old_length difference.now → IsTrue result }
-{
-    difference.growth.is_empty()
-        && difference.pieces.is_empty()
-        && old_length <= difference.new_length as u64
 }
 
 /// Edits the bytes of the store at the command's path, as `edit_store` does, and hands the store back with the lines

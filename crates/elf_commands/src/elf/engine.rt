@@ -1,15 +1,15 @@
 //! What is made of a file's bytes, and printed of them.
-ghost use Rattle.std.specs.Prelude.{◌≡◌, None, false, IfOk, IfErr, IsOkAnd, map, string_bytes};
+ghost use Rattle.std.specs.Prelude.{◌≡◌, IfOk, IfErr, map, string_bytes};
 ghost use Rattle.elf_edits_shrink.specs.ShrinkModel.{answer_model};
 ghost use Rattle.elf_commands.specs.ShrinkRuns.{RunsCommand, TellsCommand};
 ghost use Rattle.std.specs.Io.KnownBytes.{Appends};
 ghost use Rattle.byte_store.specs.Composed.{IsDifference, made_of};
-ghost use Rattle.elf_commands_steps.specs.Written.{IsImageWritten, IsNoDifference, IsNoImage};
+ghost use Rattle.elf_commands_steps.specs.Written.{IsNoDifference};
 ghost use Rattle.elf_commands.specs.ElfStores.{ChangesNothing};
 ghost use Rattle.elf_apply.specs.Causes.{FailsPrint};
 ghost use Rattle.elf_image.specs.Image.{image_of, shown};
 ghost use Rattle.elf_commands.specs.ElfAsked.{elf_asked};
-ghost use Rattle.elf_commands.specs.ElfEngine.{AreChanged, AreEditsAsked, IsElfEdited, LeavesElf, RunsElf, TellsEdit, TellsNoImage, TellsRun, bytes_left, elf_refusal};
+ghost use Rattle.elf_commands.specs.ElfEngine.{AreEditsAsked, IsElfEdited, LeavesElf, RunsElf, TellsEdit, TellsRun, bytes_left, elf_refusal};
 ghost use Rattle.elf_commands.specs.ElfWords.{edits_model};
 ghost use Rattle.elf_commands.specs.Meaning.{elf_command_model, elf_file_of};
 ghost use Rattle.elf_commands.specs.Noting.{TellsWanted};
@@ -20,10 +20,10 @@ use crate::command::ElfCommand;
 use crate::elf::in_turn::edited_in_turn;
 use crate::elf::noting::apply_noting;
 use crate::elf::shrinking::run_shrink;
-use crate::error::ElfCommandError;
 use byte_store::Difference;
 use command_words::Notes;
 use elf_commands_steps::files::{ElfBatchError, ElfContainer, ElfError, ProbeAnswer};
+use elf_commands_steps::{ElfCommandError, changed_bytes, pieces_and_text};
 use elf_edits::ElfEdit;
 use elf_edits::laws::{batches_are_their_edits, edits_show};
 use elf_image::laws::read_images_hold_parts;
@@ -103,44 +103,6 @@ pub(crate) fn edited(
     }
 }
 
-/// The bytes of an image; `None` where it is as it was read.
-pub(crate) fn changed_bytes(
-    alloc: Global,
-    elf: ElfContainer<'_>,
-) -> Result<Option<Vec<u8>>, ElfCommandError>
-    ensures ok { IfOk result (AreChanged elf.entry.inner) }
-    ensures err { IfErr result (TellsNoImage elf.entry.inner) }
-{
-    let answer = bytes_if_changed(alloc, &elf);
-    drop(elf);
-    Ok(answer?)
-}
-
-/// The same of an image that is lent.
-fn bytes_if_changed(alloc: Global, elf: &ElfContainer<'_>) -> Result<Option<Vec<u8>>, ElfError>
-    ensures ok { IfOk result (AreChanged elf.now.inner) }
-    ensures err { IfErr result (IsNoImage elf.now.inner) }
-{
-    if !elf.inner.builder().changed() {
-        return Ok(None);
-    }
-    Ok(Some(elf.image_bytes(alloc)?))
-}
-
-/// What of the bytes of a file differs from those of its image.
-pub(crate) fn pieces_of(alloc: Global, elf: ElfContainer<'_>) -> Result<Difference, ElfCommandError>
-    ensures makeable { IfOk result (λ d. IsDifference elf.entry.inner.source d) }
-    ensures bytes { IfOk result (λ d.
-        IsImageWritten elf.entry.inner (made_of elf.entry.inner.source d)) }
-    ensures unchanged { elf.entry.inner.changed ≡ false
-        → IsOkAnd result (IsNoDifference elf.entry.inner.source) }
-    ensures err { IfErr result (TellsNoImage elf.entry.inner) }
-{
-    let pieces = elf.image_pieces(alloc);
-    drop(elf);
-    Ok(pieces?)
-}
-
 /// What of the bytes of a file differs after the edits that a command asks for, and the lines of their notes, of the
 /// file as it is before; no text where they are left out.
 pub(crate) fn edited_pieces(
@@ -172,24 +134,6 @@ pub(crate) fn edited_pieces(
             Err(error)
         }
     }
-}
-
-/// What of the bytes of a file differs from those of its image, and a text.
-fn pieces_and_text(
-    alloc: Global,
-    elf: ElfContainer<'_>,
-    text: String,
-) -> Result<(Difference, String), ElfCommandError>
-    ensures makeable { IfOk result (λ made. IsDifference elf.entry.inner.source made.0) }
-    ensures bytes { IfOk result (λ made.
-        IsImageWritten elf.entry.inner (made_of elf.entry.inner.source made.0)) }
-    ensures unchanged { elf.entry.inner.changed ≡ false
-        → IsOkAnd result (λ made. IsNoDifference elf.entry.inner.source made.0) }
-    ensures same { IfOk result (λ made. string_bytes made.1 ≡ string_bytes text) }
-    ensures err { IfErr result (TellsNoImage elf.entry.inner) }
-{
-    let difference = pieces_of(alloc, elf)?;
-    Ok((difference, text))
 }
 
 /// A refused edit as it is answered to a command. Of several it is told which one is refused.

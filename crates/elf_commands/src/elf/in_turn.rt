@@ -1,21 +1,19 @@
 //! Edits of both kinds, one after the other, in bytes and in stores.
-ghost use Rattle.std.specs.Prelude.{◌≡◌, IfErr, IfOk, OnOk, length, map};
+ghost use Rattle.std.specs.Prelude.{IfErr, IfOk, OnOk, length, map};
 ghost use Rattle.byte_store.specs.Composed.{IsDifference, made_of};
 ghost use Rattle.byte_store.specs.Known.{HasLength, IsAll};
 ghost use Rattle.elf_commands_steps.specs.Groups.{group_model};
 ghost use Rattle.elf_commands.specs.ElfAsked.{elf_asked};
 ghost use Rattle.elf_commands.specs.ElfEngine.{AreAskedInTurn, ElfMayFail, IsElfEdited, LeavesElf, TellsEdit};
 ghost use Rattle.elf_commands.specs.ElfStores.{FailsElf, IsElfPatched};
-ghost use Rattle.elf_commands.specs.Failures.{HasWriteCause};
+ghost use Rattle.elf_commands_steps.specs.Failures.{HasWriteCause};
 ghost use Rattle.elf_commands.specs.Meaning.{elf_command_model};
 
 use crate::command::ElfCommand;
-use crate::elf::editing::make_opened;
-use crate::elf::engine::{changed_bytes, pieces_of, refusal};
-use crate::error::ElfCommandError;
+use crate::elf::engine::refusal;
 use byte_store::{Difference, Store};
 use elf_commands_steps::files::ElfContainer;
-use elf_commands_steps::{GroupEdit, apply_in_turn};
+use elf_commands_steps::{ElfCommandError, GroupEdit, apply_in_turn, changed_bytes, make_opened, pieces_of};
 use elf_edits::laws::edits_show;
 use elf_image::laws::read_images_hold_parts;
 use elf_symbol_edits::laws::symbol_edits_keep;

@@ -11,8 +11,8 @@ ghost use Rattle.elf_notes.specs.declared.notes.ElfNotes.{ElfNotes};
 
 use crate::command::ElfCommand;
 use crate::elf::engine::refusal;
-use crate::error::ElfCommandError;
 use command_words::Notes;
+use elf_commands_steps::ElfCommandError;
 use elf_commands_steps::files::ElfContainer;
 use elf_edits::ElfEdit;
 use elf_notes::{Findings, findings_of, note_lines, notes_of};
@@ -102,11 +102,4 @@ fn lines_for(
 {
     let notes = notes_of(alloc, found, elf.inner.builder())?;
     note_lines(alloc, command.path_to_binary(), &notes)
-}
-
-/// Prints the lines of notes on the standard error, where there are any. It doesn't matter whether that fails.
-pub(crate) fn tell<R: Eprint>(rt: &R, text: &str) {
-    if !text.is_empty() {
-        let _ = rt.eprint(text);
-    }
 }

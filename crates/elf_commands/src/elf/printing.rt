@@ -1,18 +1,18 @@
 //! Prints of the bytes of stores.
-ghost use Rattle.std.specs.Prelude.{◌≡◌, ◌<◌, ◌≤◌, IfErr, IfOk, OnOk, vec_len};
+ghost use Rattle.std.specs.Prelude.{◌≡◌, IfErr, IfOk, OnOk};
 ghost use Rattle.std.specs.Io.KnownBytes.{Appends};
-ghost use Rattle.byte_store.specs.Known.{HasLength, IsAll, Stays};
-ghost use Rattle.elf_commands.specs.Failures.{HasReadCause, HasReadCauseAt, IsNotLoaded};
+ghost use Rattle.byte_store.specs.Known.{Stays};
+ghost use Rattle.elf_commands_steps.specs.Failures.{HasReadCause, HasReadCauseAt};
 ghost use Rattle.elf_commands.specs.Meaning.{elf_file_of, elf_command_model};
 ghost use Rattle.elf_commands.specs.Prints.{PrintMayFail, Prints, PrintsStored, StopsWriting, TellsPrint, TellsStored, printed};
 ghost use Rattle.elf_image.specs.Image.{image_of, shown};
 
 use crate::command::ElfCommand;
 use crate::elf::engine::print_asked;
-use crate::error::ElfCommandError;
-use byte_store::{Opens, ReadError, Store, load_whole};
-use command_words::{MOST_BYTES, RegularFiles};
+use byte_store::{Opens, Store};
+use command_words::RegularFiles;
 use elf_commands_steps::files::{CountedWrite, ElfContainer, ElfError, Sink, write_all_counted};
+use elf_commands_steps::{ElfCommandError, load_elf};
 use std::alloc::{AllocError, Global};
 use std::io;
 use std::rt::Files;
@@ -87,29 +87,6 @@ fn write_text<W: CountedWrite>(text: &[u8], out: &mut W) -> Result<(), ElfError>
         Ok(()) => Ok(()),
         Err(error) => Err(ElfError::Io(error)),
     }
-}
-
-/// The bytes of a store, whole: at most 4 GiB, or as many as the store says that it has, where these are
-/// more. A store that goes on behind that is a fault.
-pub(crate) fn load_elf<S: Store>(alloc: Global, store: &mut S) -> Result<Vec<u8>, ReadError>
-    ensures read { IfOk result (λ bytes. IsAll (S.contents store.old) bytes.items) }
-    ensures length { IfOk result (λ bytes. HasLength (S.contents store.new) (vec_len bytes)) }
-    ensures kept { Stays (S.contents store.old) (S.contents store.new) }
-    ensures grows { S.failed store.old ≤ S.failed store.new }
-    ensures cause { IfErr result (IsNotLoaded S.may_fail_read (S.contents store.old)
-        (S.failed store.old) (S.failed store.new)) }
-{
-    let most = most_of(store.length()?);
-    load_whole(alloc, store, most)
-}
-
-/// How many bytes are read of a store that says it has so many.
-fn most_of(told: u64) -> usize
-    ensures bound { result < usize.MAX }
-    ensures reach { told < usize.MAX → told ≤ result }
-{
-    let told = usize::try_from(told).unwrap_or(usize::MAX);
-    told.max(MOST_BYTES).min(usize::MAX - 1)
 }
 
 /// Prints what a command asks of the bytes of the store at its path, as `print_store` does.

@@ -1,59 +1,29 @@
 //! Run paths that shrink, in bytes and in stores.
-ghost use Rattle.std.specs.Prelude.{◌≡◌, false, true, IfErr, IfOk, OnOk, length, map, string_bytes};
-ghost use Rattle.byte_store.specs.Composed.{IsDifference, made_of};
+ghost use Rattle.std.specs.Prelude.{IfErr, IfOk, OnOk, length, map, string_bytes};
+ghost use Rattle.byte_store.specs.Composed.{IsDifference};
 ghost use Rattle.byte_store.specs.Known.{HasLength, IsAll};
 ghost use Rattle.elf_edits_shrink.specs.ShrinkModel.{answer_model};
 ghost use Rattle.elf_edits.specs.Edit.{ShrinkRunPath};
-ghost use Rattle.elf_apply.specs.Told.{Refuses};
-ghost use Rattle.elf_commands_steps.specs.Written.{IsImageWritten};
-ghost use Rattle.elf_edits_shrink.specs.ShrinkModel.{removal_model};
-ghost use Rattle.elf_edits.specs.Edited.{step};
-ghost use Rattle.elf_commands_steps.specs.Shrinking.{removal_lines};
 ghost use Rattle.elf_commands.specs.ElfAsked.{shrinking};
-ghost use Rattle.elf_commands.specs.ElfEngine.{MayFailAs, TellsNoImage};
-ghost use Rattle.elf_commands.specs.Failures.{HasShrinkCause, HasShrinkCauseAt, HasTellCause};
-ghost use Rattle.elf_commands.specs.ShrinkRuns.{FailsShrink, IsQuiet, IsRemovalTold, IsShrunkBy, IsShrunkImage, RunsShrink, ShrinksStore, Steps, TellsShrink, TellsShrunk, TellsShrunkPath, TellsUnshrunk, TellsUntold};
+ghost use Rattle.elf_commands.specs.ElfEngine.{MayFailAs};
+ghost use Rattle.elf_commands_steps.specs.Failures.{HasShrinkCause, HasShrinkCauseAt, HasTellCause};
+ghost use Rattle.elf_commands.specs.ShrinkRuns.{FailsShrink, IsQuiet, IsShrunkBy, RunsShrink, ShrinksStore, TellsShrink, TellsShrunk, TellsShrunkPath};
 
-use crate::elf::editing::make_opened;
-use crate::elf::engine::{changed_bytes, pieces_of};
-use crate::elf::printing::load_elf;
 use crate::elf::shrink_rpath::Args;
-use crate::elf::standard_error::StandardError;
-use crate::error::ElfCommandError;
-use byte_store::{Difference, Opens, Store};
+use byte_store::{Opens, Store};
 use command_words::RegularFiles;
 use elf_commands_steps::files::{
-    CountedWrite, ElfContainer, ElfError, ProbeAnswer, Removed, Sink, write_all_counted,
+    CountedWrite, ElfContainer, ProbeAnswer, Sink, write_all_counted,
 };
-use elf_commands_steps::{FileProbe, Probe, answers_of, removal_text, texts_of};
+use elf_commands_steps::{
+    ElfCommandError, FileProbe, Probe, Shrunk, StandardError, answers_of, load_elf, make_opened,
+    pieces_by_answers, shrink_image, tell_removed,
+};
 use elf_edits::laws::{batches_are_their_edits, edits_show};
 use elf_image::laws::read_images_hold_parts;
 use std::alloc::Global;
 use std::io::Write;
 use std::rt::Files;
-
-/// What of a file's bytes differs once its run paths have shrunk, and the lines that tell what went.
-#[derive(Drop)]
-struct Shrunk {
-    difference: Difference,
-    text: String,
-}
-
-/// Shrinks the run paths of an image, and answers the directories that went.
-fn shrink_image(
-    alloc: Global,
-    elf: &mut ElfContainer<'_>,
-    prefixes: &[String],
-    probe: &[ProbeAnswer<'_>],
-) -> Result<Vec<Removed>, ElfError>
-    ensures ok { IfOk result (Steps (ShrinkRunPath (map string_bytes prefixes.now)
-        (map answer_model probe.now)) elf.old.inner elf.new.inner) }
-    ensures err { IfErr result (λ e. Refuses e (step (ShrinkRunPath (map string_bytes prefixes.now)
-        (map answer_model probe.now)) elf.old.inner)) }
-{
-    let prefixes = texts_of(alloc, prefixes)?;
-    elf.shrink_rpath(alloc, prefixes.as_slice(), probe)
-}
 
 /// The bytes of a file after `shrink-rpath`, or `None` where it stays as it was. What was found for the
 /// pairs of `Writer::elf_shrink_questions` is handed in. Once the new bytes are there, the lines of the
@@ -89,24 +59,6 @@ pub(crate) fn run_shrink<W: Write>(
     }
 }
 
-/// The bytes of an image, or `None` where it is as it was read. Once they are there, the lines of the directories
-/// that went go to `out`, in one write.
-fn tell_removed<W: Write>(
-    alloc: Global,
-    elf: ElfContainer<'_>,
-    removed: Vec<Removed>,
-    out: &mut W,
-) -> Result<Option<Vec<u8>>, ElfCommandError>
-    ensures told { IfOk result (λ new. IsRemovalTold elf.entry.inner (map removal_model removed.items)
-        new (W.contents out.old) (W.contents out.new)) }
-    ensures err { IfErr result (TellsUntold elf.entry.inner out.old out.new) }
-{
-    let new = changed_bytes(alloc, elf)?;
-    let text = removal_text(alloc, removed)?;
-    out.write_all(text.as_bytes())?;
-    Ok(new)
-}
-
 /// What of a file's bytes differs after `shrink-rpath`, by what is found.
 fn shrunk_pieces<P: Probe>(
     alloc: Global,
@@ -131,49 +83,6 @@ fn shrunk_pieces<P: Probe>(
             Err(ElfCommandError::from(error))
         }
     }
-}
-
-/// What of the bytes of a file that was read differs once the run paths of its image have shrunk by these answers.
-fn pieces_by_answers(
-    alloc: Global,
-    mut elf: ElfContainer<'_>,
-    prefixes: &[String],
-    answers: Vec<ProbeAnswer<'static>>,
-) -> Result<Shrunk, ElfCommandError>
-    ensures shrunk { IfOk result (λ made. IsShrunkImage (ShrinkRunPath
-        (map string_bytes prefixes.now) (map answer_model answers.entry.items)) elf.entry.inner
-        made.difference (string_bytes made.text)) }
-    ensures err { IfErr result (TellsUnshrunk (ShrinkRunPath
-        (map string_bytes prefixes.now) (map answer_model answers.entry.items)) elf.entry.inner) }
-{
-    let removed = shrink_image(alloc, &mut elf, prefixes, answers.as_slice());
-    drop(answers);
-    match removed {
-        Ok(removed) => shrunk_of(alloc, elf, removed),
-        Err(error) => {
-            drop(elf);
-            Err(ElfCommandError::from(error))
-        }
-    }
-}
-
-/// What of the bytes of a file differs from those of an image with shrunk run paths, and what tells which
-/// directories went.
-fn shrunk_of(
-    alloc: Global,
-    elf: ElfContainer<'_>,
-    removed: Vec<Removed>,
-) -> Result<Shrunk, ElfCommandError>
-    ensures makeable { IfOk result (λ made. IsDifference elf.entry.inner.source made.difference) }
-    ensures bytes { IfOk result (λ made.
-        IsImageWritten elf.entry.inner (made_of elf.entry.inner.source made.difference)) }
-    ensures told { IfOk result (λ made.
-        string_bytes made.text ≡ removal_lines (map removal_model removed.items)) }
-    ensures err { IfErr result (TellsNoImage elf.entry.inner) }
-{
-    let difference = pieces_of(alloc, elf)?;
-    let text = removal_text(alloc, removed)?;
-    Ok(Shrunk { difference, text })
 }
 
 /// Shrinks the run paths of the bytes of a store in their place, which are read whole, as `edit_store` edits

@@ -5,7 +5,7 @@ use Rattle.elf_apply.specs.Told.{Refuses}
 use Rattle.elf_edits_shrink.specs.ShrinkModel.{answer_model}
 use Rattle.elf_edits.specs.Edit.{Edit, ShrinkRunPath}
 use Rattle.elf_edits.specs.Edited.{step}
-use Rattle.elf_commands.specs.ShrinkRuns.{Steps}
+use Rattle.elf_commands_steps.specs.ShrunkImages.{Steps}
 use Rattle.elf_commands.proofs.ShrinkLaws.{quiet_shrink, runs_shrink, tells_shrink, tells_unshrunk}
 use Rattle.elf_commands.proofs.elf.shrinking.run_shrink.Goals as goal
 

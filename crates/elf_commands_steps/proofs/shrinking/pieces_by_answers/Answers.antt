@@ -6,9 +6,9 @@ use Rattle.elf_edits_shrink.specs.ShrinkModel.{answer_model}
 use Rattle.elf_edits.specs.Edit.{ShrinkRunPath}
 use Rattle.elf_edits.specs.Edited.{step}
 use Rattle.elf_edits_shrink.specs.declared.probe.ProbeAnswer.{ProbeAnswer}
-use Rattle.elf_commands.specs.ShrinkRuns.{Steps}
+use Rattle.elf_commands_steps.specs.ShrunkImages.{Steps}
 use Rattle.elf_commands_steps.specs.Shrinking.{removal_lines}
-use Rattle.elf_commands.proofs.elf.shrinking.pieces_by_answers.Goals as goal
+use Rattle.elf_commands_steps.proofs.shrinking.pieces_by_answers.Goals as goal
 
 all_three : {A E : Type 0} (P Q R : A → Type 0) (r : Result A E) → IfOk r P → IfOk r Q → IfOk r R → IfOk r (λ x. P x × Q x × R x)
 all_three P Q R (Ok x) p q r = (p, q, r)

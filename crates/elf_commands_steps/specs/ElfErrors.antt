@@ -8,8 +8,8 @@ use Rattle.byte_store.specs.declared.difference.ReplaceError.{ReplaceError}
 use Rattle.byte_store.specs.declared.difference.ReplaceError.TheVariants as replace
 use Rattle.command_words.specs.declared.edits.EditsError.{EditsError}
 use Rattle.command_words.specs.declared.edits.EditsError.TheVariants as edits
-use Rattle.elf_commands.specs.declared.error.ElfCommandError.{ElfCommandError}
-use Rattle.elf_commands.specs.declared.error.ElfCommandError.TheVariants.{Edits, Elf, ElfBatch, Io, Memory}
+use Rattle.elf_commands_steps.specs.declared.error.ElfCommandError.{ElfCommandError}
+use Rattle.elf_commands_steps.specs.declared.error.ElfCommandError.TheVariants.{Edits, Elf, ElfBatch, Io, Memory}
 
 -- of a file that is not read, written or printed, and of a refused edit
 abbrev pub answer_to_elf : ElfError → ElfCommandError

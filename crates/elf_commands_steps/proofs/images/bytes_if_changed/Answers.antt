@@ -1,6 +1,6 @@
 use Rattle.std.proofs.Common.{true, refl}
-use Rattle.elf_commands.proofs.ElfOutcomes.{is_marked}
-use Rattle.elf_commands.proofs.elf.engine.bytes_if_changed.Goals as goal
+use Rattle.elf_commands_steps.proofs.Marks.{is_marked}
+use Rattle.elf_commands_steps.proofs.images.bytes_if_changed.Goals as goal
 
 pub returns-clause-ok : goal.returns-clause-ok
 returns-clause-ok c =

@@ -1,12 +1,12 @@
-//! The standard error, as a writer of text.
+//! The standard error: as a writer of text, and told lines.
 use std::io;
 use std::io::{ErrorKind, Write};
 
 /// What prints to the standard error.
 #[derive(Drop)]
-pub(crate) struct StandardError<'a, R> {
+pub struct StandardError<'a, R> {
     /// The runtime.
-    pub(crate) to: &'a R,
+    pub to: &'a R,
 }
 
 impl<R: Eprint> Write for StandardError<'_, R> {
@@ -22,5 +22,12 @@ impl<R: Eprint> Write for StandardError<'_, R> {
 
     fn flush(&mut self) -> io::Result<()> {
         Ok(())
+    }
+}
+
+/// Prints the lines of notes on the standard error, where there are any. It doesn't matter whether that fails.
+pub fn tell<R: Eprint>(rt: &R, text: &str) {
+    if !text.is_empty() {
+        let _ = rt.eprint(text);
     }
 }

@@ -5,8 +5,8 @@ use Rattle.byte_store.specs.Causes.{EndsBy, IsNotWhole}
 use Rattle.byte_store.specs.Counts.{RisesBy}
 use Rattle.byte_store.specs.declared.reading.ReadError.{ReadError}
 use Rattle.byte_store.specs.declared.reading.ReadError.TheVariants as read
-use Rattle.elf_commands.specs.declared.error.ElfCommandError.{ElfCommandError}
-use Rattle.elf_commands.specs.declared.error.ElfCommandError.TheVariants.{Io}
+use Rattle.elf_commands_steps.specs.declared.error.ElfCommandError.{ElfCommandError}
+use Rattle.elf_commands_steps.specs.declared.error.ElfCommandError.TheVariants.{Io}
 
 -- as many bytes as are read of a store that says so
 abbrev pub most_read : ℕ
