@@ -1,5 +1,5 @@
 -- What a user should know of edits of an image.
-use Rattle.std.specs.Prelude.{ℕ, ◌≡◌, ◌==◌, ◌&&◌, ◌||◌, List, [], ◌∷◌, Bool, true, false, not, drop, map, filter, is_none, take, bit_and, nat_eq, unwrap_or}
+use Rattle.std.specs.Prelude.{ℕ, ◌≡◌, ◌==◌, ◌&&◌, ◌||◌, ◌++◌, List, [], ◌∷◌, Bool, true, false, not, drop, map, filter, is_none, take, bit_and, nat_eq, unwrap_or}
 use Rattle.std.specs.List.{flat_map, list_any, starts_with}
 use Rattle.elf_edits.specs.Batch.{left_by, run}
 use Rattle.elf_edits.specs.Edit.{AddNeeded, AddRunPath, ClearSymbolVersion, DeleteNeeded, Edit, RenameDynamicSymbols, ReplaceLibrary, ReplaceNeeded, SetRunPath}
@@ -32,6 +32,10 @@ entries_of image = unwrap_or image.entries []
 abbrev pub needed_of : Image → List Name
 needed_of image = needed_names (entries_of image)
 
+-- the libraries of which versions are needed (GNU symbol versioning, .gnu.version_r)
+abbrev pub recorded_of : Image → List Name
+recorded_of image = map (λ n. n.file) image.needs
+
 -- the libraries of which versions are needed in the file that is written (GNU symbol versioning, .gnu.version_r): a record goes
 -- with the last of its versions, and a version with the last symbol that had it
 abbrev pub versioned_of : Image → List Name
@@ -39,22 +43,32 @@ versioned_of image = map (λ n. n.file) (written_needs (image_at_read image) ima
 
 -- ## Names in edits
 
--- the names that an edit looks for among needed libraries
-abbrev pub asked_by : Edit → List Name
-asked_by (DeleteNeeded names) = names
-asked_by (ReplaceNeeded pairs) = map (λ pair. pair.0) pairs
-asked_by (ReplaceLibrary pairs) = map (λ pair. pair.0) pairs
-asked_by _ = []
+-- the names that an edit looks for among the libraries that entries need
+abbrev pub entries_asked_by : Edit → List Name
+entries_asked_by (DeleteNeeded names) = names
+entries_asked_by (ReplaceNeeded pairs) = map (λ pair. pair.0) pairs
+entries_asked_by _ = []
 
--- the names that it may put among them
+-- the names that it looks for both among these and among the libraries of needed versions
+abbrev pub libraries_asked_by : Edit → List Name
+libraries_asked_by (ReplaceLibrary pairs) = map (λ pair. pair.0) pairs
+libraries_asked_by _ = []
+
+-- the names that it may put among the libraries that entries need
 abbrev pub put_by : Edit → List Name
 put_by (AddNeeded names) = names
 put_by (ReplaceNeeded pairs) = map (λ pair. pair.1) pairs
 put_by (ReplaceLibrary pairs) = map (λ pair. pair.1) pairs
 put_by _ = []
 
+abbrev pub entries_asked : List Edit → List Name
+entries_asked edits = flat_map entries_asked_by edits
+
+abbrev pub libraries_asked : List Edit → List Name
+libraries_asked edits = flat_map libraries_asked_by edits
+
 abbrev pub asked : List Edit → List Name
-asked edits = flat_map asked_by edits
+asked edits = entries_asked edits ++ libraries_asked edits
 
 abbrev pub put : List Edit → List Name
 put edits = flat_map put_by edits
@@ -97,16 +111,20 @@ sets_run_path _ = false
 
 -- ## What edits find
 
--- the libraries that were needed, and that an edit removes or renames
+-- the libraries that entries needed, or that an edit put there, and that an edit removes or renames
 abbrev pub dropped : List Edit → Image → List Name
-dropped edits image = filter (is_among (needed_of image)) (asked edits)
+dropped edits image = filter (is_among (needed_of image ++ put edits)) (asked edits)
 
--- a name that no entry has, and that no edit puts there
-abbrev pub is_unmatched : List Edit → Image → Name → Bool
-is_unmatched edits image name = not (is_among (needed_of image) name) && not (is_among (put edits) name)
+-- a name that isn't known, and that no edit puts there
+abbrev pub is_unmatched : List Name → List Name → Name → Bool
+is_unmatched known put name = not (is_among known name) && not (is_among put name)
 
+-- Of what is looked for among entries the names that none of them has; of what is looked for among needed versions too, those that
+-- no record of them has either.
 abbrev pub unmatched : List Edit → Image → List Name
-unmatched edits image = filter (is_unmatched edits image) (asked edits)
+unmatched edits image =
+    filter (is_unmatched (needed_of image) (put edits)) (entries_asked edits)
+    ++ filter (is_unmatched (needed_of image ++ recorded_of image) (put edits)) (libraries_asked edits)
 
 -- a name that no dynamic symbol behind the first has, and that no edit gives one
 abbrev pub is_symbol_unmatched : List Edit → Image → Name → Bool

@@ -1,12 +1,15 @@
 //! What edits of an ELF file look for in it, and find.
-ghost use Rattle.std.specs.Prelude.{◌≡◌, ◌&&◌, ◌||◌, not, IfOk, filter, map};
+ghost use Rattle.std.specs.Prelude.{◌≡◌, ◌++◌, ◌&&◌, ◌||◌, IfOk, filter, map};
 ghost use Rattle.std.specs.List.{list_any};
 ghost use Rattle.elf_edits.specs.EditModel.{edit_model};
 ghost use Rattle.elf_edits.specs.Texts.{is_among as among};
 ghost use Rattle.elf_image.specs.ImageModel.{entry_model};
-ghost use Rattle.elf_notes.specs.Notes.{AreFindings, entries_of as entries_shown, has_no_names as lacks_names, has_no_pairs as lacks_pairs, is_loader_name as names_loader, loads_itself as is_self_loading, says_loader as tells_loader, says_pie as tells_pie, sets_run_path as gives_run_path, unmatched_symbols};
+ghost use Rattle.elf_notes.specs.Notes.{AreFindings, asked, entries_asked, entries_of as entries_shown, has_no_names as lacks_names, has_no_pairs as lacks_pairs, is_loader_name as names_loader, is_unmatched, libraries_asked, loads_itself as is_self_loading, recorded_of, says_loader as tells_loader, says_pie as tells_pie, sets_run_path as gives_run_path, unmatched_symbols};
 
-use crate::names::{asked_in, needed_of, put_in, symbols_asked_in, symbols_put_in};
+use crate::names::{
+    entries_asked_in, joined, libraries_asked_in, needed_of, put_in, recorded_in, symbols_asked_in,
+    symbols_put_in,
+};
 use crate::sets::{names_in, set_of, take_out};
 use crate::symbols::unmatched_symbols_of;
 use elf_edits::ElfEdit;
@@ -20,10 +23,11 @@ const DF_1_PIE: u64 = 0x0800_0000;
 /// What edits look for in a file, and find.
 #[derive(Drop)]
 pub struct Findings<'e> {
-    /// The libraries that were needed, and that an edit removes or renames, in the order of the edits and with repeats.
+    /// The libraries that entries needed, or that an edit put there, and that an edit removes or renames: those that are looked
+    /// for among entries alone, then those of `replace-library`, each in the order of the edits and with repeats.
     pub dropped: Vec<&'e [u8]>,
-    /// The names of libraries that edits look for, and that no entry has and no edit puts there, in order and with
-    /// repeats.
+    /// The names of libraries that edits look for, and that no entry has and no edit puts there, in the same order and with
+    /// repeats; of `replace-library` those that no record of needed versions has either.
     pub unmatched: Vec<&'e [u8]>,
     /// The names that edits look for among dynamic symbols, and that none behind the first has and no edit gives one, in
     /// order and with repeats.
@@ -47,10 +51,9 @@ pub fn findings_of<'e>(
     ensures { IfOk result (AreFindings (map edit_model edits.entry.now) image.now) }
 {
     let needed = needed_of(alloc, entries_of(image))?;
-    let asked = asked_in(alloc, edits)?;
     let put = put_in(alloc, edits)?;
-    let dropped = needed_among(alloc, &asked, &needed)?;
-    let unmatched = unmatched_of(alloc, &asked, &needed, &put)?;
+    let dropped = dropped_by(alloc, edits, &needed, &put)?;
+    let unmatched = unmatched_in(alloc, image, edits, &needed, &put)?;
     let unmatched_symbols = unmatched_symbols_in(alloc, image, edits)?;
     Ok(Findings {
         dropped,
@@ -61,6 +64,62 @@ pub fn findings_of<'e>(
         is_own_loader: gives_itself_a_run_path(image, edits),
         lacks_list: image.dynamic_data().is_none(),
     })
+}
+
+/// The libraries that were needed, or are put there, and that edits remove or rename.
+fn dropped_by<'e>(
+    alloc: Global,
+    edits: &'e [ElfEdit],
+    needed: &[&[u8]],
+    put: &[&[u8]],
+) -> Result<Vec<&'e [u8]>, AllocError>
+    ensures { IfOk result (λ names. map (λ n. n.now) names.items
+        ≡ filter (among (map (λ n. n.now) needed.now ++ map (λ n. n.now) put.now))
+        (asked (map edit_model edits.entry.now))) }
+{
+    let of_entries = entries_asked_in(alloc, edits)?;
+    let of_libraries = libraries_asked_in(alloc, edits)?;
+    let looked_for = joined(alloc, &of_entries, &of_libraries)?;
+    let known = joined(alloc, needed, put)?;
+    needed_among(alloc, &looked_for, &known)
+}
+
+/// The names of libraries that edits look for, and that nothing has and no edit puts there.
+fn unmatched_in<'e>(
+    alloc: Global,
+    image: &Builder<'_>,
+    edits: &'e [ElfEdit],
+    needed: &[&[u8]],
+    put: &[&[u8]],
+) -> Result<Vec<&'e [u8]>, AllocError>
+    ensures { IfOk result (λ names. map (λ n. n.now) names.items
+        ≡ filter (is_unmatched (map (λ n. n.now) needed.now) (map (λ n. n.now) put.now))
+        (entries_asked (map edit_model edits.entry.now))
+        ++ filter (is_unmatched (map (λ n. n.now) needed.now ++ recorded_of image.now)
+        (map (λ n. n.now) put.now)) (libraries_asked (map edit_model edits.entry.now))) }
+{
+    let of_entries = entries_asked_in(alloc, edits)?;
+    let no_entries = unmatched_of(alloc, &of_entries, needed, put)?;
+    let no_libraries = unmatched_libraries_in(alloc, image, edits, needed, put)?;
+    joined(alloc, &no_entries, &no_libraries)
+}
+
+/// The names that `replace-library` looks for, and that neither an entry nor a record of needed versions has and no edit puts there.
+fn unmatched_libraries_in<'e>(
+    alloc: Global,
+    image: &Builder<'_>,
+    edits: &'e [ElfEdit],
+    needed: &[&[u8]],
+    put: &[&[u8]],
+) -> Result<Vec<&'e [u8]>, AllocError>
+    ensures { IfOk result (λ names. map (λ n. n.now) names.items
+        ≡ filter (is_unmatched (map (λ n. n.now) needed.now ++ recorded_of image.now)
+        (map (λ n. n.now) put.now)) (libraries_asked (map edit_model edits.entry.now))) }
+{
+    let of_libraries = libraries_asked_in(alloc, edits)?;
+    let recorded = recorded_in(alloc, &image.versions().needs)?;
+    let known = joined(alloc, needed, &recorded)?;
+    unmatched_of(alloc, &of_libraries, &known, put)
 }
 
 /// The names that edits look for among dynamic symbols, and that none behind the first has and no edit gives one.
@@ -112,18 +171,18 @@ fn needed_among<'a>(
 fn unmatched_of<'a>(
     alloc: Global,
     asked: &[&'a [u8]],
-    needed: &[&[u8]],
+    known: &[&[u8]],
     put: &[&[u8]],
 ) -> Result<Vec<&'a [u8]>, AllocError>
-    ensures { IfOk result (λ names. map (λ n. n.now) names.items ≡ filter
-        (λ name. not (among (map (λ n. n.now) needed.now) name)
-        && not (among (map (λ n. n.now) put.now) name)) (map (λ n. n.now) asked.now)) }
+    ensures { IfOk result (λ names. map (λ n. n.now) names.items
+        ≡ filter (is_unmatched (map (λ n. n.now) known.now) (map (λ n. n.now) put.now))
+        (map (λ n. n.now) asked.now)) }
 {
     if asked.is_empty() {
         return Ok(Vec::new(alloc));
     }
     let mut missing = set_of(alloc, asked)?;
-    take_out(&mut missing, needed);
+    take_out(&mut missing, known);
     take_out(&mut missing, put);
     names_in(alloc, asked, &missing)
 }

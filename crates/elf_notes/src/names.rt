@@ -3,12 +3,12 @@ ghost use Rattle.std.specs.Prelude.{◌≡◌, ◌++◌, IfOk, OnOk, filter, map
 ghost use Rattle.std.specs.List.{flat_map};
 ghost use Rattle.elf_edits.specs.EditModel.{edit_model, pairs_model, texts_model};
 ghost use Rattle.elf_edits.specs.Entries.{has_tag as has_this_tag, needed_names, text_if};
-ghost use Rattle.elf_image.specs.ImageModel.{entry_model};
-ghost use Rattle.elf_notes.specs.Notes.{asked, asked_by, put, put_by, symbols_asked, symbols_asked_by, symbols_put, symbols_put_by};
+ghost use Rattle.elf_image.specs.ImageModel.{entry_model, needs_model};
+ghost use Rattle.elf_notes.specs.Notes.{entries_asked, entries_asked_by, libraries_asked, libraries_asked_by, put, put_by, symbols_asked, symbols_asked_by, symbols_put, symbols_put_by};
 
 use elf_edits::ElfEdit;
 use elf_format::constants::DT_NEEDED;
-use elf_image::Dynamic;
+use elf_image::{Dynamic, VersionNeed};
 use std::alloc::{AllocError, Global};
 
 /// The libraries that entries need, in order.
@@ -38,32 +38,91 @@ fn push_needed<'e>(names: &mut Vec<&'e [u8]>, entry: &'e Dynamic<'_>) -> Result<
     }
 }
 
-/// The names that edits look for among needed libraries, in order.
-pub(crate) fn asked_in<'e>(alloc: Global, edits: &'e [ElfEdit]) -> Result<Vec<&'e [u8]>, AllocError>
-    ensures { IfOk result (λ names.
-        map (λ n. n.now) names.items ≡ asked (map edit_model edits.entry.now)) }
+/// The libraries of which versions are needed, in order.
+pub(crate) fn recorded_in<'e>(
+    alloc: Global,
+    needs: &'e [VersionNeed<'_>],
+) -> Result<Vec<&'e [u8]>, AllocError>
+    ensures { IfOk result (λ names. map (λ n. n.now) names.items
+        ≡ map (λ n. n.file) (map needs_model needs.entry.now)) }
 {
     let mut names = Vec::new(alloc);
-    for edit in edits {
-        push_asked(&mut names, edit)?;
+    for need in needs {
+        names.push(need.file.as_slice())?;
     }
     Ok(names)
 }
 
-/// Puts the names that an edit looks for behind others.
-fn push_asked<'e>(names: &mut Vec<&'e [u8]>, edit: &'e ElfEdit) -> Result<(), AllocError>
+/// The names of two lists, those of the second behind the others.
+pub(crate) fn joined<'e>(
+    alloc: Global,
+    first: &[&'e [u8]],
+    second: &[&'e [u8]],
+) -> Result<Vec<&'e [u8]>, AllocError>
+    ensures { IfOk result (λ names. map (λ n. n.now) names.items
+        ≡ map (λ n. n.now) first.now ++ map (λ n. n.now) second.now) }
+{
+    let mut names = Vec::from_slice(alloc, first)?;
+    for name in second {
+        names.push(*name)?;
+    }
+    Ok(names)
+}
+
+/// The names that edits look for among the libraries that entries need, in order.
+pub(crate) fn entries_asked_in<'e>(
+    alloc: Global,
+    edits: &'e [ElfEdit],
+) -> Result<Vec<&'e [u8]>, AllocError>
+    ensures { IfOk result (λ names.
+        map (λ n. n.now) names.items ≡ entries_asked (map edit_model edits.entry.now)) }
+{
+    let mut names = Vec::new(alloc);
+    for edit in edits {
+        push_entries_asked(&mut names, edit)?;
+    }
+    Ok(names)
+}
+
+/// Puts the names that an edit looks for among these behind others.
+fn push_entries_asked<'e>(names: &mut Vec<&'e [u8]>, edit: &'e ElfEdit) -> Result<(), AllocError>
     ensures { OnOk result (map (λ n. n.now) names.new.items
-        ≡ map (λ n. n.now) names.old.items ++ asked_by (edit_model edit.entry.now)) }
+        ≡ map (λ n. n.now) names.old.items ++ entries_asked_by (edit_model edit.entry.now)) }
 {
     match edit {
         ElfEdit::RemoveNeeded(texts) => push_texts(names, texts.as_slice()),
-        ElfEdit::ReplaceLibrary(pairs) => push_old(names, pairs.as_slice()),
         ElfEdit::ReplaceNeeded(pairs) => push_old(names, pairs.as_slice()),
         _ => Ok(()),
     }
 }
 
-/// The names that edits may put among needed libraries, in order.
+/// The names that edits look for both among these and among the libraries of needed versions, in order.
+pub(crate) fn libraries_asked_in<'e>(
+    alloc: Global,
+    edits: &'e [ElfEdit],
+) -> Result<Vec<&'e [u8]>, AllocError>
+    ensures { IfOk result (λ names.
+        map (λ n. n.now) names.items ≡ libraries_asked (map edit_model edits.entry.now)) }
+{
+    let mut names = Vec::new(alloc);
+    for edit in edits {
+        push_libraries_asked(&mut names, edit)?;
+    }
+    Ok(names)
+}
+
+/// Puts the names that an edit looks for there behind others.
+fn push_libraries_asked<'e>(names: &mut Vec<&'e [u8]>, edit: &'e ElfEdit) -> Result<(), AllocError>
+    ensures { OnOk result (map (λ n. n.now) names.new.items
+        ≡ map (λ n. n.now) names.old.items ++ libraries_asked_by (edit_model edit.entry.now)) }
+{
+    match edit {
+        ElfEdit::ReplaceLibrary(pairs) => push_old(names, pairs.as_slice()),
+        _ => Ok(()),
+    }
+}
+
+/// The names that edits may put among the libraries that entries need, in order.
 pub(crate) fn put_in<'e>(alloc: Global, edits: &'e [ElfEdit]) -> Result<Vec<&'e [u8]>, AllocError>
     ensures { IfOk result (λ names.
         map (λ n. n.now) names.items ≡ put (map edit_model edits.entry.now)) }

@@ -1,28 +1,31 @@
 -- Each of what they find.
-use Rattle.std.proofs.Common.{◌≡◌, ◌∙◌, ap, not, filter, map, List, Bor}
-use Rattle.std.specs.Prelude.{◌&&◌, is_none}
+use Rattle.std.proofs.Common.{◌≡◌, ◌∙◌, ◌++◌, ap, filter, map, List, Bor}
+use Rattle.std.specs.Prelude.{is_none}
+use Rattle.elf_edits.specs.Edit.{Edit}
 use Rattle.elf_edits.specs.EditModel.{edit_model}
 use Rattle.elf_edits.specs.Entries.{needed_names}
 use Rattle.elf_edits.specs.Texts.{is_among}
 use Rattle.elf_image.specs.ImageModel.{entry_model}
-use Rattle.elf_notes.specs.Notes.{Name, asked, needed_of, put}
+use Rattle.elf_notes.specs.Notes.{Name, asked, entries_asked, is_unmatched, libraries_asked, needed_of, put, recorded_of}
 use Rattle.elf_notes.proofs.NameSteps.{none_made}
 use Rattle.elf_notes.proofs.findings.findings_of.Goals as goal
 
 pub returns : goal.returns
 returns c =
     let named : List (Bor Name) → List Name = map (λ n. n.now) in
-    let needed_is : named c.deref-2.result.now ≡ needed_of c.args.image.now = ap named c.deref-2.ensures.value ∙ c.in_ok-needed.ensures ∙ ap needed_names c.entries_of.ensures in
-    let asked_is : named c.deref.result.now ≡ asked (map edit_model c.args.edits.now) = ap named c.deref.ensures.value ∙ c.in_ok-asked.ensures in
-    let needed_too : named c.deref-4.result.now ≡ needed_of c.args.image.now = ap named c.deref-4.ensures.value ∙ c.in_ok-needed.ensures ∙ ap needed_names c.entries_of.ensures in
-    let asked_too : named c.deref-3.result.now ≡ asked (map edit_model c.args.edits.now) = ap named c.deref-3.ensures.value ∙ c.in_ok-asked.ensures in
-    let put_is : named c.deref-5.result.now ≡ put (map edit_model c.args.edits.now) = ap named c.deref-5.ensures.value ∙ c.in_ok-put.ensures in
+    let edits : List Edit = map edit_model c.args.edits.now in
+    let needed : List Name = needed_of c.args.image.now in
+    let recorded : List Name = recorded_of c.args.image.now in
+    let needed_is : named c.deref.result.now ≡ needed = ap named c.deref.ensures.value ∙ c.in_ok-needed.ensures ∙ ap needed_names c.entries_of.ensures in
+    let put_is : named c.deref-2.result.now ≡ put edits = ap named c.deref-2.ensures.value ∙ c.in_ok-put.ensures in
+    let needed_too : named c.deref-3.result.now ≡ needed = ap named c.deref-3.ensures.value ∙ c.in_ok-needed.ensures ∙ ap needed_names c.entries_of.ensures in
+    let put_too : named c.deref-4.result.now ≡ put edits = ap named c.deref-4.ensures.value ∙ c.in_ok-put.ensures in
+    let unmatched_by : List Name → List Name → List Name = λ known putting. filter (is_unmatched known putting) (entries_asked edits) ++ filter (is_unmatched (known ++ recorded) putting) (libraries_asked edits) in
     record {
-      dropped = c.in_ok-dropped.ensures ∙ ap (λ l. filter (is_among l) (named c.deref.result.now)) needed_is ∙ ap (filter (is_among (needed_of c.args.image.now))) asked_is;
-      unmatched = c.in_ok-unmatched.ensures
-          ∙ ap (λ l. filter (λ name. not (is_among l name) && not (is_among (named c.deref-5.result.now) name)) (named c.deref-3.result.now)) needed_too
-          ∙ ap (λ l. filter (λ name. not (is_among (needed_of c.args.image.now) name) && not (is_among l name)) (named c.deref-3.result.now)) put_is
-          ∙ ap (filter (λ name. not (is_among (needed_of c.args.image.now) name) && not (is_among (put (map edit_model c.args.edits.now)) name))) asked_too;
+      dropped = c.in_ok-dropped.ensures
+          ∙ ap (λ l. filter (is_among (l ++ named c.deref-2.result.now)) (asked edits)) needed_is
+          ∙ ap (λ l. filter (is_among (needed ++ l)) (asked edits)) put_is;
+      unmatched = c.in_ok-unmatched.ensures ∙ ap (λ l. unmatched_by l (named c.deref-4.result.now)) needed_too ∙ ap (unmatched_by needed) put_too;
       unmatched_symbols = c.in_ok-unmatched_symbols.ensures;
       no_names = c.has_no_names.ensures;
       no_pairs = c.has_no_pairs.ensures;

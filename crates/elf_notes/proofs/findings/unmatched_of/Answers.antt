@@ -10,7 +10,7 @@ use Rattle.elf_notes.proofs.findings.unmatched_of.Goals as goal
 
 pub returns : goal.returns
 returns c =
-    let needed : Name → Bool = is_among (map (λ n. n.now) c.args.needed.now) in
+    let known : Name → Bool = is_among (map (λ n. n.now) c.args.known.now) in
     let put : Name → Bool = is_among (map (λ n. n.now) c.args.put.now) in
-    IfOk-weaker c.names_in.result _ _ (λ found is. is ∙ two_left_out (keys c.take_out-2.new.set) needed put (map (λ n. n.now) c.args.asked.now) (λ name.
-    c.take_out-2.ensures name ∙ ap (λ b. b && not (put name)) (c.take_out.ensures name ∙ ap (λ b. b && not (needed name)) (c.in_ok-missing.ensures name)))) c.names_in.ensures
+    IfOk-weaker c.names_in.result _ _ (λ found is. is ∙ two_left_out (keys c.take_out-2.new.set) known put (map (λ n. n.now) c.args.asked.now) (λ name.
+    c.take_out-2.ensures name ∙ ap (λ b. b && not (put name)) (c.take_out.ensures name ∙ ap (λ b. b && not (known name)) (c.in_ok-missing.ensures name)))) c.names_in.ensures

@@ -1,8 +1,0 @@
-use Rattle.std.proofs.Common.{◌≡◌, ◌++◌, drop, map}
-use Rattle.elf_edits.specs.EditModel.{edit_model}
-use Rattle.elf_notes.specs.Notes.{asked}
-use Rattle.elf_notes.proofs.names.asked_in.Given as goal
-
--- the names so far, with those of the edits that are left
-abbrev pub invariant-loop-edit : goal.invariant-loop-edit
-invariant-loop-edit l = map (λ n. n.now) l.names.items ++ asked (map edit_model (drop l.edit-index l.edits)) ≡ asked (map edit_model l.edits)
