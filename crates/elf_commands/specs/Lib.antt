@@ -1,5 +1,6 @@
 pub use Rattle.elf_commands_steps.specs.ElfErrors
 pub use Rattle.elf_commands_steps.specs.Failures
+pub use Rattle.elf_commands_steps.specs.Groups
 pub use Rattle.elf_commands_steps.specs.Shrinking
 pub use Rattle.elf_commands_steps.specs.declared.error.ElfCommandError
 pub mod ElfAsked

@@ -15,7 +15,7 @@ use std::alloc::{AllocError, Global};
 
 /// The edits that a command asks for.
 #[derive(Drop)]
-pub(crate) enum AskedEdits {
+pub enum AskedEdits {
     /// Those of one batch.
     Batch(Vec<ElfEdit>),
     /// Some, one after the other, of which one at least is of symbols or sections.
@@ -25,7 +25,7 @@ pub(crate) enum AskedEdits {
 }
 
 /// The edits that a command asks for. Errors: `Edits` where the words of `apply` are no list of edits; `Memory`.
-pub(crate) fn asked_by(alloc: Global, command: &ElfCommand) -> Result<AskedEdits, ElfCommandError>
+pub fn asked_by(alloc: Global, command: &ElfCommand) -> Result<AskedEdits, ElfCommandError>
     ensures ok { IfOk result (AreAsked (elf_asked (elf_command_model command.now))) }
     ensures err { IfErr result (TellsEachFile (elf_asked (elf_command_model command.now))) }
 {

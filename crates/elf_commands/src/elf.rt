@@ -11,7 +11,7 @@ mod noting;
 mod printing;
 mod shrinking;
 
-pub use crate::asked::edits_asked;
+pub use crate::asked::{AskedEdits, asked_by, edits_asked};
 use crate::command::ElfCommand;
 use command_words::Notes;
 pub use editing::{edit_path, edit_store};

@@ -8,5 +8,7 @@ pub mod elf;
 mod elf_words;
 
 pub use command::{ElfCommand, elf_table};
-pub use elf_commands_steps::{ElfCommandError, GroupEdit, SymbolTexts, files, plain_edits};
+pub use elf_commands_steps::{
+    ElfCommandError, GroupEdit, SymbolTexts, apply_in_turn, files, plain_edits,
+};
 pub use elf_words::parse_elf_edits;

@@ -45,6 +45,9 @@ more_finds_line = codes "names that its GNU hash table left out can be found now
 abbrev pub old_numbers_line : Words
 old_numbers_line = codes "relocations that can't be read name symbols by their old numbers, which may be others now"
 
+abbrev pub old_place_line : Words
+old_place_line = codes "it loads itself, and looks for its dynamic section at the old place, from which that moved"
+
 -- what edits found
 abbrev pub finding_lines : Words → Findings → Words
 finding_lines file found =
@@ -57,7 +60,9 @@ finding_lines file found =
 
 -- what holds after them
 abbrev pub left_lines : Words → ElfNotes → Words
-left_lines file notes = line_if notes.finds_more file more_finds_line ++ line_if notes.keeps_numbers file old_numbers_line
+left_lines file notes =
+    line_if notes.finds_more file more_finds_line ++ line_if notes.keeps_numbers file old_numbers_line
+    ++ line_if notes.seeks_old_place file old_place_line
 
 abbrev pub lines_of : Words → ElfNotes → Words
 lines_of file notes =

@@ -1,6 +1,7 @@
 -- What a user should know of edits of an image.
-use Rattle.std.specs.Prelude.{ℕ, ◌≡◌, ◌==◌, ◌&&◌, ◌||◌, ◌++◌, List, [], ◌∷◌, Bool, true, false, not, drop, map, filter, is_none, take, bit_and, nat_eq, unwrap_or}
+use Rattle.std.specs.Prelude.{ℕ, ◌≡◌, ◌==◌, ◌&&◌, ◌||◌, ◌⊎◌, ◌++◌, List, [], ◌∷◌, Bool, Option, Some, true, false, not, drop, map, filter, is_none, take, bit_and, nat_eq, unwrap_or}
 use Rattle.std.specs.List.{flat_map, list_any, starts_with}
+use Rattle.std.specs.Option.{option_map}
 use Rattle.elf_edits.specs.Batch.{left_by, run}
 use Rattle.elf_edits.specs.Edit.{AddNeeded, AddRunPath, ClearSymbolVersion, DeleteNeeded, Edit, RenameDynamicSymbols, ReplaceLibrary, ReplaceNeeded, SetRunPath}
 use Rattle.elf_edits.specs.Entries.{needed_names}
@@ -10,14 +11,18 @@ use Rattle.elf_format.specs.Dynamic.{Entry, Integer, Text}
 use Rattle.elf_format.specs.Image.{Image, ImageSection}
 use Rattle.elf_format.specs.Options.{is_one_of}
 use Rattle.elf_format.specs.Views.{NamedSymbol}
-use Rattle.elf_format.specs.declared.constants.TheConstants.{DT_FLAGS_1, DT_SONAME, ET_DYN, SHT_GNU_HASH, SHT_REL, SHT_RELA}
+use Rattle.elf_format.specs.declared.constants.TheConstants.{DT_FLAGS_1, DT_SONAME, ET_DYN, PT_DYNAMIC, SHT_GNU_HASH, SHT_REL, SHT_RELA}
+use Rattle.elf_format.specs.File.{segment_of_type}
 use Rattle.elf_format.specs.Form.{fixed_field}
 use Rattle.elf_format.specs.declared.form.Form.{Form}
+use Rattle.elf_format.specs.declared.records.SegmentHeader.{SegmentHeader}
 use Rattle.elf_hashes.specs.Found.{is_found}
 use Rattle.elf_image.specs.Kept.{image_at_read}
 use Rattle.elf_image.specs.Names.{are_names_changed}
 use Rattle.elf_image.specs.Renumbering.{is_opaque}
 use Rattle.elf_layout_plan.specs.Needs.{written_needs}
+use Rattle.elf_layout_plan.specs.Plan.{IsOverlapping, IsPlan, IsTooLarge, Layout, resized}
+use Rattle.elf_layout_plan.specs.Refusals.{do_sizes_of_image_fit}
 use Rattle.elf_notes.specs.declared.findings.Findings.{Findings}
 use Rattle.elf_notes.specs.declared.notes.ElfNotes.{ElfNotes}
 
@@ -175,6 +180,39 @@ is_unread s = is_one_of (SHT_REL ∷ SHT_RELA ∷ []) s.sh_type && is_opaque s.k
 abbrev pub is_hashed_anew : Image → Bool
 is_hashed_anew edited = are_names_changed (image_at_read edited) edited
 
+-- ## Files that look for their dynamic section where it stood
+
+-- where the dynamic section stands in memory (gABI, Dynamic Section)
+abbrev pub dynamic_address : List SegmentHeader → Option ℕ
+dynamic_address segments = option_map (λ p. p.p_vaddr) (segment_of_type PT_DYNAMIC segments)
+
+abbrev pub are_apart : Option ℕ → Option ℕ → Bool
+are_apart (Some a) (Some b) = not (a == b)
+are_apart _ _ = false
+
+-- a plan gives it another address
+abbrev pub is_dynamic_moved : Image → Layout → Bool
+is_dynamic_moved edited plan = are_apart (dynamic_address plan.segments) (dynamic_address edited.segments)
+
+-- A file that loads itself finds its own dynamic section by `_DYNAMIC`, at the address that the link editor gave it; the loader of
+-- any other file is told by the program headers. The section moves only with leave.
+abbrev pub may_seek_old_place : Image → Bool
+may_seek_old_place edited = loads_itself edited && edited.moves_dynamic
+
+-- there is no plan, so that nothing is written
+abbrev pub IsUnplanned : Image → Type 0
+IsUnplanned edited =
+    (do_sizes_of_image_fit edited ≡ false) ⊎ (IsTooLarge (resized edited) ⊎ IsOverlapping (resized edited))
+
+-- the edited image has a plan that moves its dynamic section, or leaves it
+abbrev pub IsPlannedTo : Image → Bool → Type 0
+IsPlannedTo edited moves = (plan : Layout) × IsPlan (resized edited) plan × (is_dynamic_moved edited plan ≡ moves)
+
+-- It is told just where the section moves, of a file that loads itself. An image has no more than one plan.
+abbrev pub TellsOldPlace : Image → Bool → Type 0
+TellsOldPlace edited true = (may_seek_old_place edited ≡ true) × IsPlannedTo edited true
+TellsOldPlace edited false = (may_seek_old_place edited ≡ false) ⊎ (IsPlannedTo edited false ⊎ IsUnplanned edited)
+
 -- ## All of them
 
 -- What edits look for in an image, and find.
@@ -192,6 +230,7 @@ pub record AreLeft (edited : Image) (notes : ElfNotes) : Type 0 where
   pub old_needs : map (λ n. n.now) notes.old_needs.items ≡ old_needs (map (λ n. n.now) notes.found.dropped.items) edited
   pub new_finds : notes.finds_more ≡ (is_hashed_anew edited && list_any (leaves_out edited.form edited.dynamic_symbols) edited.sections)
   pub old_numbers : notes.keeps_numbers ≡ (is_hashed_anew edited && list_any is_unread edited.sections)
+  pub old_place : TellsOldPlace edited notes.seeks_old_place
 
 -- Notes of edits of an image: of what they find in it, and of the image after them.
 pub record AreNotes (edits : List Edit) (image : Image) (notes : ElfNotes) : Type 0 where

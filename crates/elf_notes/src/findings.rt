@@ -258,7 +258,7 @@ fn is_of_run_path(edit: &ElfEdit) -> bool
 }
 
 /// Whether a file is a static PIE, or a loader.
-fn loads_itself(image: &Builder<'_>) -> bool
+pub(crate) fn loads_itself(image: &Builder<'_>) -> bool
     ensures { result ≡ is_self_loading image.now }
 {
     image.header().e_type == ET_DYN

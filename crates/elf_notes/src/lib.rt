@@ -5,6 +5,7 @@ pub mod findings;
 mod lines;
 mod names;
 pub mod notes;
+mod old_place;
 mod sets;
 mod symbols;
 

@@ -71,7 +71,10 @@ fn put_left(
     put_if(alloc, text, notes.finds_more, file, finds_more)?;
     let keeps_numbers =
         "relocations that can't be read name symbols by their old numbers, which may be others now";
-    put_if(alloc, text, notes.keeps_numbers, file, keeps_numbers)
+    put_if(alloc, text, notes.keeps_numbers, file, keeps_numbers)?;
+    let old_place =
+        "it loads itself, and looks for its dynamic section at the old place, from which that moved";
+    put_if(alloc, text, notes.seeks_old_place, file, old_place)
 }
 
 /// Puts a line behind others, where something holds.

@@ -14,6 +14,7 @@ ghost use Rattle.elf_notes.specs.Notes.{AreLeft, is_hashed_anew as are_tables_ma
 
 use crate::findings::{Findings, entries_of};
 use crate::names::needed_of;
+use crate::old_place::seeks_old_place;
 use crate::sets::{is_in, set_of, take_out};
 use elf_format::constants::{SHT_GNU_HASH, SHT_REL, SHT_RELA};
 use elf_format::numbers::word_at;
@@ -36,10 +37,13 @@ pub struct ElfNotes<'a> {
     pub finds_more: bool,
     /// Whether relocations that can't be read keep the numbers of dynamic symbols that may get others.
     pub keeps_numbers: bool,
+    /// Whether the file loads itself and its dynamic section moves, so that it looks for the section at the old place.
+    pub seeks_old_place: bool,
 }
 
 /// What a user should know of edits that were made, by what they found and the image after them. Where a library was
-/// dropped and the edits changed dynamic symbols, the image's source is read again. Error: `AllocError`.
+/// dropped and the edits changed dynamic symbols, the image's source is read again; where the dynamic section of a file that loads
+/// itself may move, the image is laid out. Error: `AllocError`.
 pub fn notes_of<'a>(
     alloc: Global,
     found: Findings<'a>,
@@ -49,12 +53,14 @@ pub fn notes_of<'a>(
     ensures left { IfOk result (AreLeft edited.entry.now) }
 {
     let old_needs = old_needs_of(alloc, edited, &found.dropped)?;
+    let seeks_old_place = seeks_old_place(alloc, edited)?;
     let is_hashed_anew = is_hashed_anew(edited);
     Ok(ElfNotes {
         found,
         old_needs,
         finds_more: is_hashed_anew && leave_out(edited),
         keeps_numbers: is_hashed_anew && are_unread(edited.sections()),
+        seeks_old_place,
     })
 }
 

@@ -14,8 +14,8 @@ returns c =
     let of_entries : named c.deref.result.now ≡ entries_asked edits = ap named c.deref.ensures.value ∙ c.in_ok-of_entries.ensures in
     let of_libraries : named c.deref-2.result.now ≡ libraries_asked edits = ap named c.deref-2.ensures.value ∙ c.in_ok-of_libraries.ensures in
     let all : named c.deref-3.result.now ≡ asked edits =
-        ap named c.deref-3.ensures.value ∙ c.in_ok-looked_for.ensures
-        ∙ ap (λ l. l ++ named c.deref-2.result.now) of_entries ∙ ap (λ l. entries_asked edits ++ l) of_libraries in
+    ap named c.deref-3.ensures.value ∙ c.in_ok-looked_for.ensures
+    ∙ ap (λ l. l ++ named c.deref-2.result.now) of_entries ∙ ap (λ l. entries_asked edits ++ l) of_libraries in
     let known : named c.deref-4.result.now ≡ named c.args.needed.now ++ named c.args.put.now = ap named c.deref-4.ensures.value ∙ c.in_ok-known.ensures in
     IfOk-weaker c.needed_among.result _ _ (λ names is.
     is ∙ ap (λ l. filter (is_among l) (named c.deref-3.result.now)) known ∙ ap (filter (is_among (named c.args.needed.now ++ named c.args.put.now))) all) c.needed_among.ensures
