@@ -123,7 +123,8 @@ fn edited_elf(
 
 /// The command that makes the edits that words name.
 fn elf_command(alloc: Global, words: Vec<String>, leave: bool) -> ElfCommand
-    ensures { elf_asked (elf_command_model result) ≡ asked_with leave (map string_bytes words.items) }
+    ensures { elf_asked (elf_command_model result)
+        ≡ asked_with leave (map string_bytes words.items) }
 {
     let args = elf::apply::Args {
         path_to_binary: String::new(alloc),

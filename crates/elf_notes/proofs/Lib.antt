@@ -1,2 +1,3 @@
 mod NameSteps
+mod PlaceSteps
 mod SymbolSteps
