@@ -1,3 +1,2 @@
 mod NameSteps
-mod PlaceSteps
 mod SymbolSteps

@@ -130,6 +130,13 @@ none_made f None false is = is
 none_made f (Some a) true is = is
 none_made f (Some a) false is = refl
 
+-- three texts, one behind another
+pub three_more : (text a b last x y z : List ℕ) → a ≡ text ++ x → b ≡ a ++ y → last ≡ b ++ z → last ≡ text ++ (x ++ y ++ z)
+three_more text a b last x y z first second third =
+    third
+    ∙ ap (λ l. l ++ z) (second ∙ ap (λ l. l ++ y) first ∙ append_assoc text x y)
+    ∙ append_assoc text (x ++ y) z
+
 -- six texts, one behind another
 pub six_more : (text a b last : List ℕ) → (x y f g h i : List ℕ) → a ≡ text ++ x → b ≡ a ++ y → last ≡ b ++ f ++ g ++ h ++ i
     → last ≡ text ++ (x ++ y ++ f ++ g ++ h ++ i)

@@ -74,7 +74,8 @@ fn put_left(
     put_if(alloc, text, notes.keeps_numbers, file, keeps_numbers)?;
     let old_place =
         "it loads itself, and looks for its dynamic section at the old place, from which that moved";
-    put_if(alloc, text, notes.seeks_old_place, file, old_place)
+    put_if(alloc, text, notes.seeks_old_place, file, old_place)?;
+    Ok(())
 }
 
 /// Puts a line behind others, where something holds.
