@@ -1,5 +1,5 @@
 -- What is answered of an edited image: its bytes, or why there are none.
-use Rattle.std.specs.Prelude.{◌≡◌, Option, Some, None, false, true}
+use Rattle.std.specs.Prelude.{ℕ, ◌≡◌, Option, Some, None, false, true}
 use Rattle.std.specs.declared.alloc.Global.{Global}
 use Rattle.std.specs.declared.vec.Vec.{Vec}
 use Rattle.elf_apply.specs.declared.error.ElfError.{ElfError}
