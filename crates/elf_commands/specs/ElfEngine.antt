@@ -3,6 +3,7 @@ use Rattle.std.specs.Prelude.{ℕ, ◌≡◌, ◌⊎◌, List, [], ◌∷◌, Op
 use Rattle.std.specs.declared.alloc.Global.{Global}
 use Rattle.std.specs.declared.vec.Vec.{Vec}
 use Rattle.elf_apply.specs.Told.{RefusesAt}
+use Rattle.elf_commands_steps.specs.Images.{AreChanged}
 use Rattle.elf_commands_steps.specs.Written.{IsImageWritten, IsNoImage}
 use Rattle.elf_apply.specs.declared.batch.ElfBatchError.{ElfBatchError}
 use Rattle.elf_apply.specs.declared.error.ElfError.{ElfError}
