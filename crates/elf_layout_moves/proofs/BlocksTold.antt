@@ -31,7 +31,7 @@ module _ (r : Resized) (added : ℕ) (P : Block → Type 0) (fixed : (start size
   edges [] = tt
   edges (p ∷ ps) = (load _, (fixed _ _, (fixed _ _, edges ps)))
 
-  each_block : Each P (blocks_with r added)
+  pub each_block : Each P (blocks_with r added)
   unfolding blocks_with
   each_block =
       let header = range 0 (file_header_size r.read.form) in

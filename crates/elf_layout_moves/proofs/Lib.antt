@@ -1,5 +1,10 @@
 pub mod BlocksTold
 pub mod ForCallers
+pub mod GrowthCauses
+pub mod GrowthLaws
+pub mod GrowthLists
+pub mod GrowthMoves
+pub mod GrowthWalk
 pub mod ImageSteps
 pub mod ImagesWithSizes
 pub mod Marking

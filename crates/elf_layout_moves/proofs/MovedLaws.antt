@@ -130,12 +130,12 @@ module _ (r : Resized) (added : ℕ) where
 
 -- ## The same sections in another order
 
-all_of : (test : ℕ → Bool) (xs : List ℕ) → ((p : ℕ) → is_one_of xs p ≡ true → test p ≡ true) → list_all test xs ≡ true
+pub all_of : (test : ℕ → Bool) (xs : List ℕ) → ((p : ℕ) → is_one_of xs p ≡ true → test p ≡ true) → list_all test xs ≡ true
 all_of test [] each = refl
 all_of test (x ∷ xs) each = and_from (test x) (list_all test xs) (each x (or_left (x == x) (is_one_of xs x) (eq-eqb x x refl)))
     (all_of test xs (λ p is. each p (or_right (x == p) (is_one_of xs p) is)))
 
-one_of : (test : ℕ → Bool) (xs : List ℕ) (p : ℕ) → list_all test xs ≡ true → is_one_of xs p ≡ true → test p ≡ true
+pub one_of : (test : ℕ → Bool) (xs : List ℕ) (p : ℕ) → list_all test xs ≡ true → is_one_of xs p ≡ true → test p ≡ true
 one_of test [] p all is = cc is
 one_of test (x ∷ xs) p all is =
     let parts = and_parts (test x) (list_all test xs) all in

@@ -43,6 +43,21 @@ earlier_back a b isnt = elim (one_is_earlier a b) [
   | inr back ↦ back
 ]
 
+-- the later one of two starts no earlier
+pub starts_no_later : (a b : Block) → is_earlier a b ≡ true → a.start ≤ b.start
+starts_no_later a b h = elim (comes_means a.start a.size b.start b.size (nat_le (rank a) (rank b)) h) [
+  | inl less ↦ omega (arith, less)
+  | inr same ↦ omega (arith, same.0)
+]
+
+-- and where they start together it is no smaller
+pub sizes_no_less : (a b : Block) → is_earlier a b ≡ true → a.start ≡ b.start → a.size ≤ b.size
+sizes_no_less a b h start = elim (comes_means a.start a.size b.start b.size (nat_le (rank a) (rank b)) h) [
+  | inl less ↦ absurd (omega (arith, less, start))
+  | inr (same, inl less) ↦ omega (arith, less)
+  | inr (same, inr also) ↦ omega (arith, also.0)
+]
+
 -- two of which each is the earlier one start together, and are alike in size and rank
 pub alike : (a b : Block) → is_earlier a b ≡ true → is_earlier b a ≡ true → (a.start ≡ b.start) × (a.size ≡ b.size) × (rank a ≡ rank b)
 alike a b h k =
@@ -68,15 +83,15 @@ rises_from (b ∷ bs) ordered = (
   rises_from bs (λ i j x y less at_i at_j. ordered (suc i) (suc j) x y (omega (arith, less)) at_i at_j),
 )
 
-put_here : (b c : Block) (cs : List Block) → is_earlier b c ≡ true → put_in b (c ∷ cs) ≡ b ∷ c ∷ cs
+pub put_here : (b c : Block) (cs : List Block) → is_earlier b c ≡ true → put_in b (c ∷ cs) ≡ b ∷ c ∷ cs
 unfolding put_in
 put_here b c cs is = rw is refl
 
-put_on : (b c : Block) (cs : List Block) → is_earlier b c ≡ false → put_in b (c ∷ cs) ≡ c ∷ put_in b cs
+pub put_on : (b c : Block) (cs : List Block) → is_earlier b c ≡ false → put_in b (c ∷ cs) ≡ c ∷ put_in b cs
 unfolding put_in
 put_on b c cs isnt = rw isnt refl
 
-put_each : (P : Block → Type 0) (b : Block) (cs : List Block) → P b → Each P cs → Each P (put_in b cs)
+pub put_each : (P : Block → Type 0) (b : Block) (cs : List Block) → P b → Each P cs → Each P (put_in b cs)
 unfolding put_in
 put_each P b [] here all = (here, tt)
 put_each P b (c ∷ cs) here (first, all) = elim (cases_Bool (is_earlier b c)) [
@@ -84,7 +99,7 @@ put_each P b (c ∷ cs) here (first, all) = elim (cases_Bool (is_earlier b c)) [
   | inr isnt ↦ rw (put_on b c cs isnt) (first, put_each P b cs here all)
 ]
 
-put_rises : (b : Block) (cs : List Block) → Rises cs → Rises (put_in b cs)
+pub put_rises : (b : Block) (cs : List Block) → Rises cs → Rises (put_in b cs)
 unfolding put_in
 put_rises b [] up = (tt, tt)
 put_rises b (c ∷ cs) (first, up) = elim (cases_Bool (is_earlier b c)) [
@@ -104,12 +119,12 @@ put_sum f b (c ∷ cs) = elim (cases_Bool (is_earlier b c)) [
       omega (arith, before, after, put_sum f b cs)
 ]
 
-in_order_rises : (bs : List Block) → Rises (in_order bs)
+pub in_order_rises : (bs : List Block) → Rises (in_order bs)
 unfolding in_order
 in_order_rises [] = tt
 in_order_rises (b ∷ bs) = put_rises b (in_order bs) (in_order_rises bs)
 
-in_order_each : (P : Block → Type 0) (bs : List Block) → Each P bs → Each P (in_order bs)
+pub in_order_each : (P : Block → Type 0) (bs : List Block) → Each P bs → Each P (in_order bs)
 unfolding in_order
 in_order_each P [] all = tt
 in_order_each P (b ∷ bs) (first, all) = put_each P b (in_order bs) first (in_order_each P bs all)

@@ -2,3 +2,4 @@ pub mod BlockSteps
 pub mod ImageBlocks
 pub mod Inner
 pub mod Seen
+pub mod Growth

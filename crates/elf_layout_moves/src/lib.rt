@@ -3,6 +3,7 @@
 
 mod block_moves;
 pub mod blocks;
+pub mod laws;
 pub mod marks;
 pub mod moving;
 mod old_order;

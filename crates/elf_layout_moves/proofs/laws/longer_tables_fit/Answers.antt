@@ -1,0 +1,5 @@
+use Rattle.elf_layout_moves.proofs.GrowthLaws.{longer_tables_fit}
+use Rattle.elf_layout_moves.proofs.laws.longer_tables_fit.Goals as goal
+
+pub returns : goal.returns
+returns c = longer_tables_fit
