@@ -54,7 +54,7 @@ module _ (r : Resized) where
   abbrev pub back : List Block
   back = edges ++ sections
 
-  others_are : other_blocks r ≡ front ++ back
+  pub others_are : other_blocks r ≡ front ++ back
   others_are = append_assoc front edges sections
 
   shape : (fs es ss : List Block) (t : Block) → ((fs ++ t ∷ []) ++ es) ++ ss ≡ fs ++ t ∷ (es ++ ss)
@@ -101,30 +101,12 @@ module _ (r : Resized) where
 
 -- ## The laws
 
-module _ (r : Resized) (fewer more : ℕ) (g : IsGrowth r fewer more) where
+module _ (r : Resized) (fewer more : ℕ) where
   -- a block that a table swallows that stands in a loaded segment, or in none
-  abbrev swallowed_at : Option SegmentHeader → Block → Bool
+  abbrev pub swallowed_at : Option SegmentHeader → Block → Bool
   swallowed_at o b = is_some_and (λ start. nat_le (start + table_size_with r fewer) b.start && nat_lt b.start (start + table_size_with r more)) (option_map (stands r) o)
 
-  pub readily_some : (p : SegmentHeader) → table_load r ≡ Some p → Each (λ b. swallowed_at (Some p) b ≡ true → b.priority ≡ 2) (front r ++ back r)
-  readily_some p load =
-      let test : Block → Bool = λ b. not (swallowed_at (Some p) b) || b.priority == 2 in
-      let all : list_all test (front r ++ back r) ≡ true =
-      sym (ap (λ (o : Option SegmentHeader). list_all (λ b. not (swallowed_at o b) || b.priority == 2) (other_blocks r)) load ∙ ap (list_all test) (others_are r)) ∙ g.readily in
-      each-more (λ b. test b ≡ true) (λ b. swallowed_at (Some p) b ≡ true → b.priority ≡ 2) (λ b passes is. eqb-true b.priority 2 (second (swallowed_at (Some p) b) (b.priority == 2) passes is))
-      (front r ++ back r) (all-at test (front r ++ back r) all)
-    where
-      second : (s t : Bool) → (not s || t) ≡ true → s ≡ true → t ≡ true
-      second true t h is = h
-      second false t h is = absurd (false≢true is)
-
-  pub free_some : (p : SegmentHeader) → table_load r ≡ Some p → is_stuck (front r ++ table_block r p fewer ∷ back r) ≡ false
-  free_some p load = ap is_stuck (sym (blocks_some r p fewer load)) ∙ g.free
-
-  abbrev below_some : (p : SegmentHeader) → table_load r ≡ Some p → Each (λ b. b.priority ≤ 2) (front r ++ back r)
-  below_some p load = each-more IsUsual (λ b. b.priority ≤ 2) (λ b u. u.below) (front r ++ back r) (others_usual r p load)
-
-  swallow_some : (p : SegmentHeader) (position : ℕ) → table_load r ≡ Some p → does_swallow r fewer more position ≡ list_any (λ b. is_block_of position b && swallowed_at (Some p) b) (front r ++ back r)
+  pub swallow_some : (p : SegmentHeader) (position : ℕ) → table_load r ≡ Some p → does_swallow r fewer more position ≡ list_any (λ b. is_block_of position b && swallowed_at (Some p) b) (front r ++ back r)
   swallow_some p position load =
       ap (λ (o : Option SegmentHeader). list_any (λ b. is_block_of position b && swallowed_at o b) (other_blocks r)) load
       ∙ ap (list_any (λ b. is_block_of position b && swallowed_at (Some p) b)) (others_are r)
@@ -137,11 +119,30 @@ module _ (r : Resized) (fewer more : ℕ) (g : IsGrowth r fewer more) where
   swallow_none position load =
       ap (λ (o : Option SegmentHeader). list_any (λ b. is_block_of position b && swallowed_at o b) (other_blocks r)) load ∙ none_swallowed position (other_blocks r)
 
+module _ (r : Resized) (fewer more : ℕ) (g : IsGrowth r fewer more) where
+  pub readily_some : (p : SegmentHeader) → table_load r ≡ Some p → Each (λ b. swallowed_at r fewer more (Some p) b ≡ true → b.priority ≡ 2) (front r ++ back r)
+  readily_some p load =
+      let test : Block → Bool = λ b. not (swallowed_at r fewer more (Some p) b) || b.priority == 2 in
+      let all : list_all test (front r ++ back r) ≡ true =
+      sym (ap (λ (o : Option SegmentHeader). list_all (λ b. not (swallowed_at r fewer more o b) || b.priority == 2) (other_blocks r)) load ∙ ap (list_all test) (others_are r)) ∙ g.readily in
+      each-more (λ b. test b ≡ true) (λ b. swallowed_at r fewer more (Some p) b ≡ true → b.priority ≡ 2) (λ b passes is. eqb-true b.priority 2 (second (swallowed_at r fewer more (Some p) b) (b.priority == 2) passes is))
+      (front r ++ back r) (all-at test (front r ++ back r) all)
+    where
+      second : (s t : Bool) → (not s || t) ≡ true → s ≡ true → t ≡ true
+      second true t h is = h
+      second false t h is = absurd (false≢true is)
+
+  pub free_some : (p : SegmentHeader) → table_load r ≡ Some p → is_stuck (front r ++ table_block r p fewer ∷ back r) ≡ false
+  free_some p load = ap is_stuck (sym (blocks_some r p fewer load)) ∙ g.free
+
+  abbrev below_some : (p : SegmentHeader) → table_load r ≡ Some p → Each (λ b. b.priority ≤ 2) (front r ++ back r)
+  below_some p load = each-more IsUsual (λ b. b.priority ≤ 2) (λ b u. u.below) (front r ++ back r) (others_usual r p load)
+
   moving : (position : ℕ) (o : Option SegmentHeader) → table_load r ≡ o
       → is_one_of (moving_sections (blocks_with r more)) position ≡ (is_one_of (moving_sections (blocks_with r fewer)) position || does_swallow r fewer more position)
   moving position None load =
       ap (λ (bs : List Block). is_one_of (moving_sections bs) position) (blocks_none r more load ∙ sym (blocks_none r fewer load))
-      ∙ sym (ap (λ (t : Bool). is_one_of (moving_sections (blocks_with r fewer)) position || t) (swallow_none position load) ∙ or_false (is_one_of (moving_sections (blocks_with r fewer)) position))
+      ∙ sym (ap (λ (t : Bool). is_one_of (moving_sections (blocks_with r fewer)) position || t) (swallow_none r fewer more position load) ∙ or_false (is_one_of (moving_sections (blocks_with r fewer)) position))
   moving position (Some p) load =
       let p_of : Block → Bool = is_block_of position in
       let longs : List Block = front r ++ table_block r p more ∷ back r in
@@ -150,7 +151,7 @@ module _ (r : Resized) (fewer more : ℕ) (g : IsGrowth r fewer more) where
       ∙ section-of position (movers longs)
       ∙ movers_grow (front r) (back r) (front_fixed r) (stands r p) (table_size_with r fewer) (table_size_with r more) g.some (sizes_grow r fewer more g.longer)
       (below_some p load) (free_some p load) (readily_some p load) p_of refl refl
-      ∙ ap (λ (t : Bool). list_any p_of (movers shorts) || t) (sym (swallow_some p position load))
+      ∙ ap (λ (t : Bool). list_any p_of (movers shorts) || t) (sym (swallow_some r fewer more p position load))
       ∙ ap (λ (t : Bool). t || does_swallow r fewer more position) (sym (ap (λ (bs : List Block). is_one_of (moving_sections bs) position) (blocks_some r p fewer load) ∙ section-of position (movers shorts)))
 
   fitting : (o : Option SegmentHeader) → table_load r ≡ o → is_stuck (blocks_with r more) ≡ false
@@ -175,7 +176,7 @@ module _ (r : Resized) (fewer more : ℕ) (g : IsGrowth r fewer more) where
       both_on moved also causes apart all None load =
           let blocks : blocks_with r fewer ≡ blocks_with r more = blocks_none r fewer load ∙ sym (blocks_none r more load) in
           let same : (q : ℕ) → is_one_of also q ≡ is_one_of moved q =
-          λ q. all q ∙ ap (λ (t : Bool). is_one_of moved q || t) (swallow_none q load) ∙ or_false (is_one_of moved q) in (
+          λ q. all q ∙ ap (λ (t : Bool). is_one_of moved q || t) (swallow_none r fewer more q load) ∙ or_false (is_one_of moved q) in (
             same_causes (blocks_with r more) also moved same (subst (λ (bs : List Block). have_causes bs moved ≡ true) blocks causes),
             same_apart (blocks_with r more) also moved same (subst (λ (bs : List Block). stay_apart moved bs ≡ true) blocks apart),
           )
@@ -185,8 +186,8 @@ module _ (r : Resized) (fewer more : ℕ) (g : IsGrowth r fewer more) where
           let long : ℕ = table_size_with r more in
           let grows : size ≤ long = sizes_grow r fewer more g.longer in
           let first = short_first (front r) (back r) (front_fixed r) start size long g.some grows (below_some p load) (free_some p load) in
-          let told : (q : ℕ) → is_one_of also q ≡ (is_one_of moved q || list_any (λ b. is_block_of q b && swallowed_at (Some p) b) (front r ++ back r)) =
-          λ q. all q ∙ ap (λ (t : Bool). is_one_of moved q || t) (swallow_some p q load) in
+          let told : (q : ℕ) → is_one_of also q ≡ (is_one_of moved q || list_any (λ b. is_block_of q b && swallowed_at r fewer more (Some p) b) (front r ++ back r)) =
+          λ q. all q ∙ ap (λ (t : Bool). is_one_of moved q || t) (swallow_some r fewer more p q load) in
           let shorts = blocks_some r p fewer load in
           let longs = sym (blocks_some r p more load) in (
             subst (λ (bs : List Block). have_causes bs also ≡ true) longs

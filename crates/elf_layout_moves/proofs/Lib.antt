@@ -7,6 +7,8 @@ pub mod GrowthMoves
 pub mod GrowthWalk
 pub mod ImageSteps
 pub mod ImagesWithSizes
+pub mod LimitLaws
+pub mod LimitSteps
 pub mod Marking
 pub mod MovedLaws
 pub mod MoverLaws
@@ -16,5 +18,6 @@ pub mod OrderSteps
 pub mod RangeLaws
 pub mod RangeSteps
 pub mod SameMarks
+pub mod SomeOrder
 pub mod SomeTwo
 pub mod TwoPlaces

@@ -27,7 +27,7 @@ use Rattle.elf_image.proofs.ForCallers.KeptSections.{length-kept}
 -- ## The blocks
 
 -- a block of an image of so many sections
-record IsImageBlock (count : ℕ) (b : Block) : Type 0 where
+pub record IsImageBlock (count : ℕ) (b : Block) : Type 0 where
   pub whole : IsWhole b
   pub within : (position : ℕ) → b.section ≡ Some position → position < count
 
@@ -83,7 +83,7 @@ module _ (r : Resized) (added : ℕ) where
   abbrev count : ℕ
   count = length r.image.sections
 
-  image_blocks : All (IsImageBlock count) (blocks_with r added)
+  pub image_blocks : All (IsImageBlock count) (blocks_with r added)
   unfolding blocks_with
   image_blocks =
       let header = range 0 (file_header_size r.read.form) in
@@ -104,7 +104,7 @@ module _ (r : Resized) (added : ℕ) where
   no_block_by position (Some q) past within = ne_eqb q position (λ same. omega (arith, same, past, within q refl))
 
   -- no block is that of a section past the last one
-  no_block : (position : ℕ) (b : Block) → count ≤ position → IsImageBlock count b → is_block_of position b ≡ false
+  pub no_block : (position : ℕ) (b : Block) → count ≤ position → IsImageBlock count b → is_block_of position b ≡ false
   no_block position b past is = no_block_by position b.section past is.within
 
   no_cause : (position : ℕ) → count ≤ position → has_cause (blocks_with r added) position ≡ false

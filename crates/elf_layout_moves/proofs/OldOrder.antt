@@ -74,11 +74,11 @@ same_if_both true b f g = sym (f refl)
 same_if_both false true f g = absurd (both_ways false refl (g refl))
 same_if_both false false f g = refl
 
-any-map : {X : Type 0} (f : X → ℕ) (position : ℕ) (xs : List X) → is_one_of (map f xs) position ≡ list_any (λ x. f x == position) xs
+pub any-map : {X : Type 0} (f : X → ℕ) (position : ℕ) (xs : List X) → is_one_of (map f xs) position ≡ list_any (λ x. f x == position) xs
 any-map f position [] = refl
 any-map f position (x ∷ xs) = ap (λ (b : Bool). f x == position || b) (any-map f position xs)
 
-own_position : (o : Option ImageSection) (position : ℕ) → (key_at o position).2 ≡ position
+pub own_position : (o : Option ImageSection) (position : ℕ) → (key_at o position).2 ≡ position
 own_position None position = refl
 own_position (Some s) position = refl
 
@@ -130,7 +130,7 @@ module _ (r : Resized) (numbered : AreNumbered r.image) (sized : length r.sizes 
       subst (λ (o : Option ImageSection). IsKeyOf r (key_at o p)) (sym at)
       (record { section = z; at = there; is = ap (λ (n : ℕ). let t : Three = (s.sh_addr, s.sh_size, n) in t) (sym same) })
 
-  key_of_section : (p : ℕ) → p < length r.image.sections → IsKeyOf r (old_key r.image p)
+  pub key_of_section : (p : ℕ) → p < length r.image.sections → IsKeyOf r (old_key r.image p)
   key_of_section p within =
       elim (slice_get_cases r.image.sections p).1 [
         | inl found ↦ key_there p found.0 found.2
@@ -141,7 +141,7 @@ module _ (r : Resized) (numbered : AreNumbered r.image) (sized : length r.sizes 
   keys_of_all [] all = tt
   keys_of_all (p ∷ moved) (within, all) = (key_of_section p within, keys_of_all moved all)
 
-  in_order : (keys : List Three) → AllByRecursion (IsKeyOf r) keys → IsStrictlySortedBy by_three keys → are_in_old_order (sections_at r (map (λ (k : Three). k.2) keys)) ≡ true
+  pub in_order : (keys : List Three) → AllByRecursion (IsKeyOf r) keys → IsStrictlySortedBy by_three keys → are_in_old_order (sections_at r (map (λ (k : Three). k.2) keys)) ≡ true
   unfolding are_in_old_order IsStrictlySortedBy
   in_order [] all sorted = refl
   in_order (k ∷ []) (a, all) sorted = ap (λ (o : Option SizedSection). are_in_old_order (cons_option o [])) a.at

@@ -3,3 +3,4 @@ pub mod ImageBlocks
 pub mod Inner
 pub mod Seen
 pub mod Growth
+pub mod Limits

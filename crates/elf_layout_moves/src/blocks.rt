@@ -1,5 +1,5 @@
 //! The blocks of memory that an image takes.
-ghost use Rattle.std.specs.Prelude.{◌≡◌, ◌&&◌, ◌+◌, ◌*◌, ◌^◌, ◌<◌, ◌≤◌, ◌∷◌, ◌++◌, [], IfOk, IsTrue, OnOk, ◌==◌, None, Some, false, true, filter, length, slice_get, map, slice_index};
+ghost use Rattle.std.specs.Prelude.{ℕ, ◌≡◌, ◌&&◌, ◌+◌, ◌*◌, ◌^◌, ◌<◌, ◌≤◌, ◌∷◌, ◌++◌, [], IfOk, IsTrue, OnOk, ◌==◌, None, Some, false, true, filter, length, slice_get, map, slice_index};
 ghost use Rattle.std.specs.List.{flat_map, list_any};
 ghost use Rattle.elf_format.specs.File.{is_loaded, loads_of};
 ghost use Rattle.elf_format.specs.Image.{ImageSection};
@@ -9,8 +9,9 @@ ghost use Rattle.elf_format.specs.Ranges.{lies_in, range};
 ghost use Rattle.elf_format.specs.Records.{segment_header_size};
 ghost use Rattle.elf_image.specs.ImageModel.{section_model, segment_model};
 ghost use Rattle.elf_image.specs.Kept.{dynamic_strings_number, interpreter_number};
-ghost use Rattle.elf_layout_plan.specs.Memory.{blocks_with, edge_blocks, fixed_block, header_blocks, loaded_over, takes_memory};
+ghost use Rattle.elf_layout_plan.specs.Memory.{blocks_with, edge_blocks, fixed_block, header_blocks, loaded_over, table_size_with, takes_memory};
 ghost use Rattle.elf_layout_moves.specs.ImageBlocks.{AreNumbered, address_of, is_movable_type, is_section_stray, made_block, priority_with, section_blocks_from};
+ghost use Rattle.elf_layout_moves.specs.Limits.{end_with};
 
 use crate::resizing::Resizing;
 use elf_format::constants::{
@@ -125,8 +126,9 @@ fn is_loaded_part(p: &Segment<'_>, start: u64, size: u128) -> bool
 // The address of a range of the file, by the first loaded segment whose file part has all of it.
 fn address_in(segments: &[Segment<'_>], start: u64, size: u128) -> Option<u128>
     requires { size < 2 ^ 80 }
-    ensures { result ≡ address_of start
+    ensures value { result ≡ address_of start
         (loaded_over (range start size) (map segment_model segments.now)) }
+    ensures near { (address : ℕ) → result ≡ Some address → address < 2 ^ 66 }
 {
     for p in segments {
         if is_loaded_part(p, start, size) {
@@ -157,11 +159,32 @@ fn table_size_at_read(read: &Builder<'_>) -> u128
 
 // How many bytes it has with so many entries more than the image has segments.
 fn table_size(image: &Builder<'_>, added: usize) -> u128
-    ensures { result
+    ensures value { result
         ≡ (length image.now.segments + added) * segment_header_size image.now.form }
+    ensures small { result < 2 ^ 79 }
 {
     let count = image.segments().len() as u128 + added as u128;
     count * image.form().segment_header_size() as u128
+}
+
+/// Whether a program header table of so many entries more than an image has segments is empty.
+pub fn has_empty_table(r: &Resizing<'_, '_>, added: usize) -> bool
+    ensures { result ≡ (table_size_with r.now added == 0) }
+{
+    table_size(r.image, added) == 0
+}
+
+/// Where the program header table ends in memory with so many entries more than the image has segments: an address; 0 where no
+/// loaded segment had all of it.
+pub fn table_end(r: &Resizing<'_, '_>, added: usize) -> u128
+    ensures value { result ≡ end_with r.now added }
+    ensures near { result < 2 ^ 80 }
+{
+    let start = r.read.header().e_phoff;
+    match address_in(r.read.segments(), start, table_size_at_read(r.read)) {
+        Some(start) => start + table_size(r.image, added),
+        None => 0,
+    }
 }
 
 // Puts the file header and the program header table behind other blocks, each where a loaded segment had all of it at read.

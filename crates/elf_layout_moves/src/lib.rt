@@ -4,6 +4,7 @@
 mod block_moves;
 pub mod blocks;
 pub mod laws;
+pub mod limits;
 pub mod marks;
 pub mod moving;
 mod old_order;
