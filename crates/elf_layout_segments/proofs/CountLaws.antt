@@ -109,7 +109,7 @@ module _ {X : Type 0} (picks : X → Bool) (f : X → ℕ) (p : ℕ → Bool) wh
 below_wider : (a b : ℕ) → a ≤ b → (x : ℕ) → nat_lt x a ≡ true → nat_lt x b ≡ true
 below_wider a b h x less = lt-ltb x b (omega (arith, h, ltb-true x a less))
 
-not_below : (a x : ℕ) → not (nat_lt x a) ≡ nat_le a x
+pub not_below : (a x : ℕ) → not (nat_lt x a) ≡ nat_le a x
 not_below a x = elim (cases_lt x a) [
   | inl less ↦ ap not (lt-ltb x a less) ∙ sym (lt-leb a x less)
   | inr more ↦ ap not (le-ltb x a more) ∙ sym (le-leb a x more)

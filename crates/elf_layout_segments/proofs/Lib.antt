@@ -1,9 +1,13 @@
 pub mod CountLaws
 pub mod SplitSteps
 pub mod KeyLaws
+pub mod LeastSteps
 pub mod AnchorSearchSteps
 pub mod NoteLaws
 pub mod Positions
 pub mod RoundSteps
 pub mod SectionSteps
 pub mod ForCallers
+pub mod ForecastSteps
+pub mod FlagSteps
+pub mod ForecastLaws

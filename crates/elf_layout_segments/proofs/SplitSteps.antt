@@ -237,7 +237,7 @@ any_move-is r moved marks are h (s ∷ ns) all =
     ap (λ b. b || do_any_move marks (map (λ (s : KeptSection). s.position) ns)) (marked-is r moved marks are h s (All-head (IsThere r) s ns all))
     ∙ ap (λ b. is_moved moved s || b) (any_move-is r moved marks are h ns (All-tail (IsThere r) s ns all))
 
-any_stay-is : (r : Resized) (moved : List ℕ) (marks : List Bool) → AreSized r → AreMarks r moved marks → (ns : List KeptSection) → All (IsThere r) ns
+pub any_stay-is : (r : Resized) (moved : List ℕ) (marks : List Bool) → AreSized r → AreMarks r moved marks → (ns : List KeptSection) → All (IsThere r) ns
     → do_any_stay marks (map (λ (s : KeptSection). s.position) ns) ≡ list_any (λ s. not (is_moved moved s)) ns
 any_stay-is r moved marks are h [] all = refl
 any_stay-is r moved marks are h (s ∷ ns) all =
@@ -311,7 +311,7 @@ module _ (r : Resized) (moved : List ℕ) (marks : List Bool) (are : AreSized r)
   parted-is p (Notes ns) there =
       ap (λ b. b && is_some_in starts.staying (file_part p)) (notes_move p ns there) ∙ ap (λ b. list_any (is_moved moved) ns && b) (notes_stay p ns there)
 
-count_by-map : {A B : Type 0} → (f : A → B) (q : B → Bool) (xs : List A) → length (filter q (map f xs)) ≡ length (filter (λ x. q (f x)) xs)
+pub count_by-map : {A B : Type 0} → (f : A → B) (q : B → Bool) (xs : List A) → length (filter q (map f xs)) ≡ length (filter (λ x. q (f x)) xs)
 count_by-map f q [] = refl
 count_by-map {A} f q (x ∷ xs) = by_test (q (f x)) (count_by-map f q xs)
   where

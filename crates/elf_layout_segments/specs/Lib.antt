@@ -7,3 +7,5 @@ pub mod Keys
 pub mod AnchorSearch
 pub mod AnchorLists
 pub mod Sections
+pub mod Leasts
+pub mod Forecasts

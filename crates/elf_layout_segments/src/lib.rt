@@ -5,7 +5,9 @@
 mod anchor_search;
 pub mod anchors;
 mod file_ranges;
+mod forecasts;
 mod keys;
+mod leasts;
 pub mod reading;
 pub mod rising;
 pub mod rounds;

@@ -1,10 +1,13 @@
-ghost use Rattle.std.specs.Prelude.{◌≡◌, IfErr, IfOk, IsTrue};
-ghost use Rattle.elf_layout_plan.specs.Rounds.{are_chosen, do_move, headers_needed as needed};
+ghost use Rattle.std.specs.Prelude.{◌≡◌, IfErr, IfOk, IsTrue, OnOk};
+ghost use Rattle.elf_layout_plan.specs.Rounds.{are_chosen, do_move};
 ghost use Rattle.elf_layout_moves.specs.Inner.{IsStuckAt};
+ghost use Rattle.elf_layout_moves.specs.Limits.{Covers};
 ghost use Rattle.elf_layout_segments.specs.AnchorPositions.{AreAnchors, IsEnded, IsNoEnd};
+ghost use Rattle.elf_layout_segments.specs.Forecasts.{IsForecast};
 
-use crate::anchors::{AnchorAt, headers_needed};
-use elf_layout_moves::marks::marks_of;
+use crate::anchors::AnchorAt;
+use crate::forecasts::{Forecast, forecast_from};
+use elf_layout_moves::blocks::table_end;
 use elf_layout_moves::moving::find_moved;
 use elf_layout_moves::resizing::Resizing;
 use elf_layout_plan::LayoutFault;
@@ -21,32 +24,35 @@ pub struct Rounds {
     pub looked: usize,
 }
 
-// The sections that move in a round, and how many program headers more they need.
-#[derive(Drop)]
-struct Round {
-    moved: Vec<usize>,
-    needed: usize,
-}
-
-// One round, which looks with `looked` program headers more.
-fn look(
+// Makes a forecast anew where the one that is known doesn't tell of so many program headers more.
+fn renew(
     alloc: Global,
     r: &Resizing<'_, '_>,
     anchors: &[AnchorAt],
+    known: &mut Forecast,
     looked: usize,
-) -> Result<Round, LayoutFault>
-    requires { AreAnchors r.now anchors.now }
-    ensures moved { IfOk result (λ round. IsTrue (do_move r.now looked round.moved.items)) }
-    ensures chosen { IfOk result (λ round. IsTrue (are_chosen r.now looked round.moved.items)) }
-    ensures needed { IfOk result (λ round. round.needed ≡ needed r.now round.moved.items) }
+) -> Result<(), LayoutFault>
+    requires anchors { AreAnchors r.now anchors.now }
+    requires known { IsForecast r.now known.old }
+    ensures is { OnOk result (IsForecast r.now known.new) }
+    ensures covers { OnOk result (Covers r.now known.new.from known.new.bound looked) }
+    ensures fault { IfErr result (IsStuckAt r.now looked) }
+{
+    if !known.covers(looked, table_end(r, looked)) {
+        *known = forecast_from(alloc, r, anchors, looked)?;
+    }
+    Ok(())
+}
+
+// The sections that move in the last round, which looks with `looked` program headers more.
+fn last_moved(alloc: Global, r: &Resizing<'_, '_>, looked: usize) -> Result<Vec<usize>, LayoutFault>
+    ensures moved { IfOk result (λ moved. IsTrue (do_move r.now looked moved.items)) }
+    ensures chosen { IfOk result (λ moved. IsTrue (are_chosen r.now looked moved.items)) }
     ensures fault { IfErr result (IsStuckAt r.now looked) }
 {
     // The read tells the proof that the sizes are those of the image.
     let _sizes = r.sizes;
-    let moved = find_moved(alloc, r, looked)?;
-    let marks = marks_of(alloc, r, &moved)?;
-    let needed = headers_needed(alloc, r, anchors, &moved, &marks)?;
-    Ok(Round { moved, needed })
+    find_moved(alloc, r, looked)
 }
 
 /// Looks in rounds for the sections that move: each with as many program headers more as those of the round before it need.
@@ -61,18 +67,21 @@ pub fn look_in_rounds(
 {
     // The read tells the proof how many there can be, and so that no more rounds than fit a usize are counted.
     let _headers = anchors.len();
+    let mut known = forecast_from(alloc, r, anchors, 0)?;
     let mut looked = 0;
     let mut count = 1;
     loop {
-        let round = look(alloc, r, anchors, looked)?;
-        if round.needed <= looked {
+        renew(alloc, r, anchors, &mut known, looked)?;
+        let needed = known.needed(table_end(r, looked));
+        if needed <= looked as u128 {
+            let moved = last_moved(alloc, r, looked)?;
             return Ok(Rounds {
-                moved: round.moved,
+                moved,
                 count,
                 looked,
             });
         }
-        looked = round.needed;
+        looked = needed as usize;
         count += 1;
     }
 }

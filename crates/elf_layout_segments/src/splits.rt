@@ -41,7 +41,7 @@ pub(crate) fn count_split(starts: &Starts, anchors: &[AnchorAt]) -> usize
 }
 
 // What a loaded segment lets a program do with a section.
-fn flags_for(section: &Section<'_>) -> u32
+pub(crate) fn flags_for(section: &Section<'_>) -> u32
     ensures { result ≡ needed_flags (section_model section.now) }
 {
     if section.sh_type == SHT_NOTE {

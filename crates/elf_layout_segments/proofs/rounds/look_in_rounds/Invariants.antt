@@ -1,10 +1,14 @@
 use Rattle.std.proofs.Common.{◌-◌}
 use Rattle.elf_layout_plan.specs.Plan.{most_added}
+use Rattle.elf_layout_segments.specs.Forecasts.{IsForecast}
 use Rattle.elf_layout_segments.proofs.RoundSteps.{AreSoFar}
 use Rattle.elf_layout_segments.proofs.rounds.look_in_rounds.Given as goal
 
-abbrev pub invariant-loop-round : goal.invariant-loop-round
-invariant-loop-round l = AreSoFar l.r l.looked l.count
+abbrev pub invariant-loop-known : goal.invariant-loop-known
+invariant-loop-known l = record {
+  so : AreSoFar l.r l.looked l.count;
+  known : IsForecast l.r l.known;
+}
 
-abbrev pub decreases-loop-round : goal.decreases-loop-round
-decreases-loop-round l = most_added l.r.image - l.looked
+abbrev pub decreases-loop-known : goal.decreases-loop-known
+decreases-loop-known l = most_added l.r.image - l.looked
