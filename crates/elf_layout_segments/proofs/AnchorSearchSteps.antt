@@ -1,6 +1,6 @@
 -- What a program header goes by, anchor_position by the numbers of sections, is its anchor.
 use Rattle.std.proofs.Common.{◌≡◌, ℕ, zero, suc, ◌+◌, ◌<◌, Bool, true, false, ◌&&◌, ◌||◌, cond, List, ◌∷◌, map, length, get_or, refl, sym, ap, ◌∙◌, subst, Option, Some, None, Ok, Err, All, option_map, arith, []}
-use Rattle.std.specs.Prelude.{count_by, filter, find, if◌then◌else◌, nat_le, position, slice_index, ◌==◌}
+use Rattle.std.specs.Prelude.{count_by, filter, find, if◌then◌else◌, nat_le, slice_index, ◌==◌}
 use Rattle.std.specs.List.{list_all, slice_get}
 use Rattle.std.proofs.lemmas.Bool.{and_parts, eq-eqb, leb-true, ne_eqb, true≢false}
 use Rattle.std.proofs.lemmas.List.{length-map}

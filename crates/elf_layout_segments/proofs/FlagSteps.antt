@@ -1,21 +1,21 @@
 -- Limits of sections tell how many sets of flags are needed.
-use Rattle.std.proofs.Common.{◌≡◌, ◌≢◌, ◌⊎◌, ℕ, zero, suc, ◌+◌, ◌<◌, ◌≤◌, List, [], ◌∷◌, ◌++◌, Bool, true, false, not, ◌&&◌, ◌||◌, cond, Some, None, Option, get_or, length, map, min, refl, sym, ap, ◌∙◌, subst, inl, inr, arith}
+use Rattle.std.proofs.Common.{◌≡◌, ◌≢◌, ℕ, zero, suc, ◌+◌, ◌<◌, ◌≤◌, List, [], ◌∷◌, Bool, true, false, not, ◌&&◌, ◌||◌, cond, Some, None, Option, length, map, min, refl, sym, ap, ◌∙◌, subst, inl, inr, arith}
 use Rattle.std.specs.Prelude.{count_by, filter, if◌then◌else◌, nat_le, nat_lt, slice_get, ◌==◌}
-use Rattle.std.specs.List.{cons_option, filter_map, list_any}
-use Rattle.std.proofs.lemmas.Bool.{and_from, and_left, and_parts, cases_eq, cases_lt, eq-eqb, eqb-true, false≢true, lt-leb, ne_eqb, le-leb, le-ltb, lt-ltb}
+use Rattle.std.specs.List.{cons_option, list_any}
+use Rattle.std.proofs.lemmas.Bool.{and_from, and_parts, cases_eq, cases_lt, eq-eqb, eqb-true, false≢true, lt-leb, ne_eqb, le-leb}
 use Rattle.std.proofs.lemmas.List.Folds.{list_any-append}
-use Rattle.std.proofs.lemmas.Option.{get_or_from_slice_get, same_Some, slice_get-get_or, slice_get_cases, slice_get_within}
+use Rattle.std.proofs.lemmas.Option.{slice_get-get_or, slice_get_cases, slice_get_within}
 use Rattle.elf_format.specs.Image.{ImageSection, counted}
 use Rattle.elf_format.specs.Options.{is_one_of}
 use Rattle.elf_format.specs.Places.{is_set}
-use Rattle.elf_format.specs.declared.constants.TheConstants.{PF_X, SHF_EXECINSTR, SHF_WRITE, SHT_NOTE}
+use Rattle.elf_format.specs.declared.constants.TheConstants.{SHF_EXECINSTR, SHF_WRITE, SHT_NOTE}
 use Rattle.elf_format.proofs.ForCallers.Lengths.{length-counted, slice_index-counted}
 use Rattle.elf_layout_plan.specs.Memory.{Resized, SizedSection, sized_sections}
 use Rattle.elf_layout_plan.specs.Rounds.{added_flags, each_once, flags_for, sections_at}
 use Rattle.elf_layout_plan.proofs.ForCallers.ApartLists.{Each, any-at, any-from, each-filter, each-more}
 use Rattle.elf_layout_moves.specs.Limits.{limit_at}
 use Rattle.elf_layout_moves.specs.declared.limits.TheConstants.{NEVER}
-use Rattle.elf_layout_segments.specs.Forecasts.{AreFlagsLimits, IsFlagsLimit, count_up_to, does_flagged_move, needs_flags}
+use Rattle.elf_layout_segments.specs.Forecasts.{AreFlagsLimits, IsFlagsLimit, does_flagged_move, needs_flags}
 use Rattle.elf_layout_segments.specs.Sections.{AreSized}
 use Rattle.elf_layout_segments.proofs.CountLaws.{count-cons}
 use Rattle.elf_layout_segments.proofs.ForecastSteps.{up_to}

@@ -1,5 +1,5 @@
 -- A forecast tells how many program headers more are needed.
-use Rattle.std.proofs.Common.{◌≡◌, Bool, ℕ, ◌+◌, ◌-◌, ◌<◌, ◌≤◌, List, length, map, refl, sym, ap, ◌∙◌, arith, true}
+use Rattle.std.proofs.Common.{◌≡◌, Bool, ℕ, ◌+◌, ◌-◌, ◌<◌, List, length, map, sym, ap, ◌∙◌, true}
 use Rattle.std.specs.Prelude.{IsPermutation, count_by, nat_lt}
 use Rattle.elf_layout_plan.specs.Anchors.{anchor_of, is_split}
 use Rattle.elf_layout_plan.specs.Memory.{Resized}

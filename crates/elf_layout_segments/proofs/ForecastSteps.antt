@@ -1,13 +1,13 @@
 -- Limits of sections tell which program headers are split.
-use Rattle.std.proofs.Common.{◌≡◌, ◌≢◌, ℕ, zero, suc, ◌+◌, ◌-◌, ◌<◌, ◌≤◌, List, [], ◌∷◌, ◌++◌, Bool, true, false, not, ◌&&◌, ◌||◌, cond, Some, None, Option, drop, get_or, length, map, max, take, refl, sym, ap, ◌∙◌, subst, inl, inr, arith}
+use Rattle.std.proofs.Common.{◌≡◌, ℕ, zero, suc, ◌+◌, ◌-◌, ◌<◌, ◌≤◌, List, [], ◌∷◌, ◌++◌, Bool, true, false, not, ◌&&◌, ◌||◌, cond, Some, drop, get_or, length, map, max, take, refl, sym, ap, ◌∙◌, subst, inl, inr, arith}
 use Rattle.std.specs.Prelude.{count_by, filter, nat_le, nat_lt, slice_get, IsPermutation}
-use Rattle.std.specs.List.{AllWithin, filter_map, list_any}
-use Rattle.std.proofs.lemmas.Bool.{and_from, and_parts, cases_lt, false≢true, le-leb, lt-leb, le-ltb, lt-ltb, leb-true, ltb-true, or_cases}
-use Rattle.std.proofs.lemmas.List.{drop-map, get_or-drop, get_or-map, get_or-take, get_or_past, length-append, length-map, map-append, take-map, take_more}
+use Rattle.std.specs.List.{AllWithin, list_any}
+use Rattle.std.proofs.lemmas.Bool.{and_from, and_parts, cases_lt, false≢true, le-leb, lt-leb, le-ltb, lt-ltb, leb-true, ltb-true}
+use Rattle.std.proofs.lemmas.List.{drop-map, get_or-map, get_or_past, length-append, length-map, map-append, take-map, take_more}
 use Rattle.std.proofs.lemmas.List.Elements.{filter_agree, filter_map-append}
 use Rattle.std.proofs.lemmas.List.Sorted.{list_any-IsPermutation}
 use Rattle.std.proofs.lemmas.List.Sums.{length-filter}
-use Rattle.std.proofs.lemmas.Option.{get_or_from_slice_get, slice_get-get_or, slice_get_within}
+use Rattle.std.proofs.lemmas.Option.{get_or_from_slice_get, slice_get_within}
 use Rattle.elf_format.specs.Image.{counted}
 use Rattle.elf_format.specs.Options.{is_one_of}
 use Rattle.elf_format.specs.Placement.{file_part}
@@ -29,7 +29,7 @@ use Rattle.elf_layout_segments.specs.declared.sections.SectionAt.{SectionAt}
 use Rattle.elf_layout_segments.specs.AnchorPositions.{AnchorPosition, anchor_model, anchor_position, itself, notes, section, table}
 use Rattle.elf_layout_segments.specs.Forecasts.{AreJoins, AreSplitLimits, AreStretchesIn, IsStretchIn, count_up_to, does_one_move, does_one_stay, limited_at, part_of, parts_of, splits_with}
 use Rattle.elf_layout_segments.specs.InOrder.{is_in}
-use Rattle.elf_layout_segments.specs.Leasts.{AreLeastIn, IsLeast, numbers_at, reaches}
+use Rattle.elf_layout_segments.specs.Leasts.{AreLeastIn, numbers_at, reaches}
 use Rattle.elf_layout_segments.specs.Sections.{AreSized, begins_in, has_bytes_at, indexed_sections, positions_in}
 use Rattle.elf_layout_segments.specs.SplitCounts.{is_marked}
 use Rattle.elf_layout_segments.proofs.CountLaws.{any-picked, any_agree, count-cons, not_below}

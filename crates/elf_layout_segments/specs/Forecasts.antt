@@ -1,5 +1,5 @@
 -- How many program headers more sections that move need, by where the program header table ends.
-use Rattle.std.specs.Prelude.{[], ◌∷◌, Option, drop, max, take, ℕ, ◌+◌, ◌-◌, ◌<◌, ◌≤◌, ◌≡◌, List, length, map, Bool, true, false, IsTrue, Some, None, count_by, filter, nat_le, nat_lt, ◌&&◌, ◌==◌, slice_get}
+use Rattle.std.specs.Prelude.{[], ◌∷◌, Option, drop, max, take, ℕ, ◌+◌, ◌-◌, ◌<◌, ◌≤◌, ◌≡◌, List, length, map, Bool, false, IsTrue, Some, None, count_by, filter, nat_le, nat_lt, ◌&&◌, ◌==◌, slice_get}
 use Rattle.std.specs.List.{filter_map, list_any}
 use Rattle.elf_format.specs.Image.{ImageSection, counted}
 use Rattle.elf_format.specs.declared.range.Range.{Range}
@@ -11,7 +11,6 @@ use Rattle.elf_layout_segments.specs.declared.forecasts.Forecast.{Forecast}
 use Rattle.elf_layout_segments.specs.declared.forecasts.Limited.{Limited}
 use Rattle.elf_layout_segments.specs.declared.leasts.Stretch.{Stretch}
 use Rattle.elf_layout_segments.specs.declared.sections.SectionAt.{SectionAt}
-use Rattle.elf_layout_segments.specs.Asked.{below}
 use Rattle.elf_layout_segments.specs.AnchorPositions.{AnchorPosition, itself, notes, section, table}
 use Rattle.elf_layout_segments.specs.InOrder.{is_in}
 use Rattle.elf_layout_segments.specs.Sections.{begins_in, has_bytes_at}

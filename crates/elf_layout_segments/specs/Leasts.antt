@@ -1,5 +1,5 @@
 -- The least numbers of stretches of a list.
-use Rattle.std.specs.Prelude.{ℕ, ◌+◌, ◌-◌, ◌<◌, ◌≤◌, ◌≡◌, ◌||◌, List, Bool, Some, length, take, drop, nat_le, slice_get}
+use Rattle.std.specs.Prelude.{ℕ, ◌-◌, ◌<◌, ◌≤◌, ◌≡◌, List, Bool, Some, length, take, drop, nat_le, slice_get}
 use Rattle.std.specs.List.{list_any}
 use Rattle.elf_layout_moves.specs.declared.limits.TheConstants.{NEVER}
 use Rattle.elf_layout_segments.specs.declared.leasts.Stretch.{Stretch}

@@ -1,4 +1,3 @@
-use Rattle.std.proofs.Common.{take}
 use Rattle.elf_layout_segments.proofs.ForecastSteps.{AreJoinsBelow}
 use Rattle.elf_layout_segments.proofs.forecasts.all_move.Given as goal
 

@@ -1,5 +1,5 @@
-use Rattle.std.proofs.Common.{◌≡◌, ◌+◌, ◌∙◌, ℕ, List, Some, ap, arith, false, get_or, length, map, min, subst, sym, true}
-use Rattle.std.specs.Prelude.{slice_get, ◌==◌}
+use Rattle.std.proofs.Common.{◌≡◌, ◌+◌, ◌∙◌, ℕ, List, Some, ap, arith, map, min, subst, sym}
+use Rattle.std.specs.Prelude.{slice_get}
 use Rattle.std.proofs.lemmas.Bool.{eq-eqb, ne_eqb}
 use Rattle.std.proofs.lemmas.List.{length-map}
 use Rattle.std.proofs.lemmas.Option.{slice_get-get_or}
@@ -7,7 +7,6 @@ use Rattle.elf_format.specs.Image.{ImageSection}
 use Rattle.elf_image.specs.ImageModel.{section_model}
 use Rattle.elf_layout_plan.specs.Rounds.{flags_for}
 use Rattle.elf_layout_plan.proofs.ForCallers.ApartLists.{at-map}
-use Rattle.elf_layout_moves.specs.Limits.{limit_at}
 use Rattle.elf_layout_segments.proofs.FlagSteps.{IsFlagsLimitBelow, all_flagged, flagged_next, flagged_passed, needs_here, none_flagged}
 use Rattle.elf_layout_segments.proofs.forecasts.flags_limit.Goals as goal
 use Rattle.elf_layout_segments.proofs.forecasts.flags_limit.Goals.{then-flags_for-flags, else-flags_for-flags}

@@ -1,4 +1,4 @@
-use Rattle.std.proofs.Common.{◌∙◌, List, rules, subst, sym}
+use Rattle.std.proofs.Common.{List, rules, subst, sym}
 use Rattle.std.specs.Prelude.{IsPermutation}
 use Rattle.std.specs.List.Sorted.{IsNonDecreasingBy}
 use Rattle.std.proofs.lemmas.List.Sorted.{IsNonDecreasingBy-from_sort_by_key}

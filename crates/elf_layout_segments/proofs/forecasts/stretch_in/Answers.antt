@@ -1,6 +1,5 @@
-use Rattle.std.proofs.Common.{◌≡◌, ◌∙◌, ℕ, List, ap, arith, length, rules, subst, sym, true, false}
+use Rattle.std.proofs.Common.{ℕ, List, rules}
 use Rattle.std.specs.Prelude.{nat_lt}
-use Rattle.std.specs.List.Sorted.{IsNonDecreasingBy}
 use Rattle.std.proofs.lemmas.List.Sorted.{IsPartitionPoint-from_clause, IsPartitionedBy-ltb}
 use Rattle.elf_format.specs.Ranges.{end_of}
 use Rattle.elf_layout_segments.specs.declared.forecasts.Limited.{Limited}

@@ -1,4 +1,4 @@
-use Rattle.std.proofs.Common.{◌≡◌, ◌+◌, ◌++◌, ◌∷◌, ◌∙◌, [], ℕ, List, ap, get_or, map, refl, sym, take}
+use Rattle.std.proofs.Common.{◌+◌, ◌++◌, ◌∙◌, ℕ, List, ap, get_or, map, refl, take}
 use Rattle.std.proofs.lemmas.List.{append-nil}
 use Rattle.elf_format.specs.declared.range.Range.{Range}
 use Rattle.elf_layout_segments.specs.declared.anchors.AnchorAt.{AnchorAt}

@@ -1,4 +1,4 @@
-use Rattle.std.proofs.Common.{◌≡◌, ℕ, List, length}
+use Rattle.std.proofs.Common.{ℕ, List}
 use Rattle.elf_layout_segments.specs.Leasts.{AreLeastBelow, AreLeastOf}
 use Rattle.elf_layout_segments.proofs.LeastSteps.{AreAnswered}
 use Rattle.elf_layout_segments.proofs.leasts.answer.Given as goal

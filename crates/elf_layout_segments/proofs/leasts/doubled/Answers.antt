@@ -1,4 +1,4 @@
-use Rattle.elf_layout_segments.proofs.LeastSteps.{all_doubled, next_doubled, none_doubled}
+use Rattle.elf_layout_segments.proofs.LeastSteps.{next_doubled}
 use Rattle.elf_layout_segments.proofs.leasts.doubled.Goals as goal
 
 pub loop-place-preserved : goal.loop-place-preserved

@@ -1,4 +1,4 @@
-use Rattle.std.proofs.Common.{◌≤◌, ℕ, List, length}
+use Rattle.std.proofs.Common.{ℕ, List}
 use Rattle.elf_layout_segments.specs.Leasts.{AreLeastOf}
 use Rattle.elf_layout_segments.proofs.LeastSteps.{AreDoubled}
 use Rattle.elf_layout_segments.proofs.leasts.doubled.Given as goal

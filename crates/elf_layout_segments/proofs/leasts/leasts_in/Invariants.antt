@@ -1,4 +1,4 @@
-use Rattle.std.proofs.Common.{◌≡◌, ◌-◌, ◌+◌, ◌<◌, ℕ, List, length}
+use Rattle.std.proofs.Common.{◌-◌, ◌+◌, ◌<◌, length}
 use Rattle.elf_layout_segments.specs.Leasts.{AreLeastBelow, AreLeastOf}
 use Rattle.elf_layout_segments.proofs.leasts.leasts_in.Given as goal
 
