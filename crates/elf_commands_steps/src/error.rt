@@ -3,9 +3,9 @@ ghost use Rattle.std.specs.Prelude.{◌≡◌};
 ghost use Rattle.elf_commands_steps.specs.ElfErrors.{answer_to_elf, answer_to_elf_batch, answer_to_read, answer_to_replaced, answer_to_words};
 ghost use Rattle.elf_commands_steps.specs.declared.error.ElfCommandError.TheVariants.{Io, Memory};
 
+use crate::files::{ElfBatchError, ElfError};
 use byte_store::{ReadError, ReplaceError};
 use command_words::{EditFault, EditsError};
-use crate::files::{ElfBatchError, ElfError};
 use std::alloc::{AllocError, AllocFailed};
 use std::io;
 use thiserror::Error;

@@ -152,7 +152,7 @@ module _ (r : Resized) (are : AreSized r) (limits moved : List ℕ) (end : ℕ)
   needs_at : (f q : ℕ) → has_flags f (slice_get (sized_sections r) q) ≡ needs_flags r.image.sections f q
   unfolding needs_flags
   needs_at f q = elim (slice_get_cases r.image.sections q).1 [
-      | inl (s, within, at, same) ↦
+    | inl (s, within, at, same) ↦
         ap (has_flags f) (sized-there r are q s at) ∙ sym (ap (λ (o : Option ImageSection). elim o [ Some t ↦ flags_for t == f | None ↦ false ]) at)
     | inr (past, none) ↦ ap (has_flags f) (slice_get_past (sized_sections r) q (omega (arith, past, length-sized r are)))
         ∙ sym (ap (λ (o : Option ImageSection). elim o [ Some t ↦ flags_for t == f | None ↦ false ]) none)

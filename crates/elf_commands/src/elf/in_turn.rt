@@ -13,7 +13,9 @@ use crate::command::ElfCommand;
 use crate::elf::engine::refusal;
 use byte_store::{Difference, Store};
 use elf_commands_steps::files::ElfContainer;
-use elf_commands_steps::{ElfCommandError, GroupEdit, apply_in_turn, changed_bytes, make_opened, pieces_of};
+use elf_commands_steps::{
+    ElfCommandError, GroupEdit, apply_in_turn, changed_bytes, make_opened, pieces_of,
+};
 use elf_edits::laws::edits_show;
 use elf_image::laws::read_images_hold_parts;
 use elf_symbol_edits::laws::symbol_edits_keep;

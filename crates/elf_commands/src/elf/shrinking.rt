@@ -12,9 +12,7 @@ ghost use Rattle.elf_commands.specs.ShrinkRuns.{FailsShrink, IsQuiet, IsShrunkBy
 use crate::elf::shrink_rpath::Args;
 use byte_store::{Opens, Store};
 use command_words::RegularFiles;
-use elf_commands_steps::files::{
-    CountedWrite, ElfContainer, ProbeAnswer, Sink, write_all_counted,
-};
+use elf_commands_steps::files::{CountedWrite, ElfContainer, ProbeAnswer, Sink, write_all_counted};
 use elf_commands_steps::{
     ElfCommandError, FileProbe, Probe, Shrunk, StandardError, answers_of, load_elf, make_opened,
     pieces_by_answers, shrink_image, tell_removed,
