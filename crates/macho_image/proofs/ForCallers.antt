@@ -6,6 +6,8 @@ pub use Rattle.macho_image.proofs.FileLaws.{concat-commands_of, form_of-same, fo
 pub use Rattle.macho_image.proofs.FormLaws.{file_passes}
 pub use Rattle.macho_image.proofs.FatLaws.{fat_found, fat_only, table_passes}
 pub use Rattle.macho_image.proofs.ContentLaws.{first_content_is}
+-- a file that begins as an accepted one
+pub use Rattle.macho_image.proofs.LongerLaws.{accepts, commands_end-longer, commands_within, least_length}
 -- where the header and the area of commands lie
 pub use Rattle.macho_image.proofs.FileLaws.{header_size-least, length-area_of}
 -- commands end to end are an area without a fault, and are cut from it again

@@ -10,6 +10,7 @@ pub mod FormLaws
 pub mod ForCallers
 pub mod LaidLaws
 pub mod ListingLaws
+pub mod LongerLaws
 pub mod MeaningLaws
 pub mod PickedLaws
 pub mod PlaceLaws

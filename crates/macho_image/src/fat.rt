@@ -96,8 +96,8 @@ fn table_end(count: usize) -> usize
     FAT_HEADER_SIZE + FAT_ARCH_SIZE * count
 }
 
-// The first `count` records of a table, or `Memory`.
-fn read_table(alloc: Global, count: usize, bytes: &[u8]) -> Result<Vec<FatArch>, AllocError>
+/// The first `count` records of a table, which stand in these bytes end to end. Error: `AllocError`.
+pub fn read_table(alloc: Global, count: usize, bytes: &[u8]) -> Result<Vec<FatArch>, AllocError>
     requires { FAT_ARCH_SIZE * count ≤ length bytes.now }
     ensures { IfOk result (λ archs. archs.items ≡ table count bytes.now) }
 {
