@@ -11,7 +11,7 @@ use Rattle.macho_signatures.specs.declared.fault.SignatureFault.{SignatureFault}
 use Rattle.macho_signatures.specs.declared.fault.SignatureFault.TheVariants.{Memory, NoDirectory, Outside}
 use Rattle.macho_signatures.specs.declared.signature.Signature.{Signature}
 use Rattle.macho_signatures.specs.Blobs.{AreBlobs, blobs_fault, blobs_of, header_fault, or_else, signature_bytes}
-use Rattle.macho_signatures.specs.Signature.{ArePlaced, Tells, blob_directory, blob_fault, contents_fault, directories_of, directory_blobs, first_fault, has_main, is_directory, is_message, is_signed, signature_fault}
+use Rattle.macho_signatures.specs.Signature.{ArePlaced, Tells, blob_directory, blob_fault, bytes_fault, contents_fault, directories_of, directory_blobs, first_fault, has_main, is_directory, is_message, is_signed, signature_fault}
 use Rattle.macho_signatures.proofs.PlaceLaws.{are_placed, or_else_none}
 
 -- blobs of which each lies in the signature
@@ -60,14 +60,8 @@ fault_within : (start size : ℕ) (bytes : List ℕ) → start + size ≤ length
 unfolding signature_fault
 fault_within start size bytes within = rw (le-ltb (length bytes) (start + size) within) refl
 
-pub fault_super : (start size : ℕ) (bytes s : List ℕ) (e : SignatureFault) → start + size ≤ length bytes → s ≡ signature_bytes start size bytes → or_else (header_fault s) (blobs_fault s) ≡ Some e → signature_fault start size bytes ≡ Some e
-fault_super start size bytes s e within is fault =
-    let P : List ℕ → Type 0 = λ x. or_else (header_fault x) (blobs_fault x) ≡ Some e in
-    let here = subst P is fault in
-    fault_within start size bytes within ∙ rw here refl
-
-fault_contents : (start size : ℕ) (bytes : List ℕ) → start + size ≤ length bytes → or_else (header_fault (signature_bytes start size bytes)) (blobs_fault (signature_bytes start size bytes)) ≡ None → signature_fault start size bytes ≡ contents_fault start (signature_bytes start size bytes)
-fault_contents start size bytes within pass = fault_within start size bytes within ∙ rw pass refl
+pub fault_within_bytes : (start size : ℕ) (bytes s : List ℕ) → start + size ≤ length bytes → s ≡ signature_bytes start size bytes → signature_fault start size bytes ≡ bytes_fault start s
+fault_within_bytes start size bytes s within is = fault_within start size bytes within ∙ ap (bytes_fault start) (sym is)
 
 length-signature_bytes : (start size : ℕ) (bytes : List ℕ) → start + size ≤ length bytes → start + length (signature_bytes start size bytes) ≤ length bytes
 length-signature_bytes start size bytes within =
@@ -83,21 +77,31 @@ placed_directories start len s blobs ds room are all pass made =
     let first = or_else_none (first_fault (blob_fault start s) (directory_blobs s)) (if has_main s then None else Some NoDirectory) pass in
     subst Q (sym made) (are_placed start len s (blobs_of s) room (subst P all are) first.0)
 
+-- what is answered to the bytes of a signature
+abbrev pub AnswersBytes : ℕ → List ℕ → Result Signature SignatureFault → Type 0
+AnswersBytes start s r =
+    MatchResult r
+    (λ found. (bytes_fault start s ≡ None) × Tells start s found × ((len : ℕ) → start + length s ≤ len → ArePlaced start len found.directories.items))
+    (λ e. e ≢ Memory → bytes_fault start s ≡ Some e)
+
+pub answers_bytes : (start : ℕ) (s : List ℕ) (blobs : List Blob) (r : Result Signature SignatureFault) → or_else (header_fault s) (blobs_fault s) ≡ None → AreBlobs s blobs → blobs ≡ blobs_of s → MatchResult r (λ found. (contents_fault start s ≡ None) × Tells start s found) (λ e. e ≢ Memory → contents_fault start s ≡ Some e) → AnswersBytes start s r
+answers_bytes start s blobs (Ok found) pass are all told =
+    (rw pass told.0, told.1, λ len room. placed_directories start len s blobs found.directories.items room are all told.0 told.1.directories)
+answers_bytes start s blobs (Err e) pass are all told = λ other. rw pass (told other)
+
+pub super_fault : (start : ℕ) (s : List ℕ) (e : SignatureFault) → or_else (header_fault s) (blobs_fault s) ≡ Some e → bytes_fault start s ≡ Some e
+super_fault start s e fault = rw fault refl
+
+-- and to the file
 abbrev pub Answers : ℕ → ℕ → List ℕ → Result Signature SignatureFault → Type 0
 Answers start size bytes r =
     MatchResult r
     (λ found. (signature_fault start size bytes ≡ None) × Tells start (signature_bytes start size bytes) found × ArePlaced start (length bytes) found.directories.items)
     (λ e. e ≢ Memory → signature_fault start size bytes ≡ Some e)
 
-answers_here : (start size : ℕ) (bytes : List ℕ) (blobs : List Blob) (r : Result Signature SignatureFault) → start + size ≤ length bytes → or_else (header_fault (signature_bytes start size bytes)) (blobs_fault (signature_bytes start size bytes)) ≡ None → AreBlobs (signature_bytes start size bytes) blobs → blobs ≡ blobs_of (signature_bytes start size bytes) → MatchResult r (λ found. (contents_fault start (signature_bytes start size bytes) ≡ None) × Tells start (signature_bytes start size bytes) found) (λ e. e ≢ Memory → contents_fault start (signature_bytes start size bytes) ≡ Some e) → Answers start size bytes r
-answers_here start size bytes blobs (Ok found) within pass are all told =
-    (fault_contents start size bytes within pass ∙ told.0, told.1, placed_directories start (length bytes) (signature_bytes start size bytes) blobs found.directories.items (length-signature_bytes start size bytes within) are all told.0 told.1.directories)
-answers_here start size bytes blobs (Err e) within pass are all told = λ other. fault_contents start size bytes within pass ∙ told other
-
-pub answers : (start size : ℕ) (bytes s : List ℕ) (blobs : List Blob) (r : Result Signature SignatureFault) → start + size ≤ length bytes → s ≡ signature_bytes start size bytes → or_else (header_fault s) (blobs_fault s) ≡ None → AreBlobs s blobs → blobs ≡ blobs_of s → MatchResult r (λ found. (contents_fault start s ≡ None) × Tells start s found) (λ e. e ≢ Memory → contents_fault start s ≡ Some e) → Answers start size bytes r
-answers start size bytes s blobs r within is pass are all told =
-    let P : List ℕ → Type 0 = λ x. or_else (header_fault x) (blobs_fault x) ≡ None in
-    let Q : List ℕ → Type 0 = λ x. AreBlobs x blobs in
-    let R : List ℕ → Type 0 = λ x. blobs ≡ blobs_of x in
-    let S : List ℕ → Type 0 = λ x. MatchResult r (λ found. (contents_fault start x ≡ None) × Tells start x found) (λ e. e ≢ Memory → contents_fault start x ≡ Some e) in
-    answers_here start size bytes blobs r within (subst P is pass) (subst Q is are) (subst R is all) (subst S is told)
+pub answers : (start size : ℕ) (bytes s : List ℕ) (r : Result Signature SignatureFault) → start + size ≤ length bytes → s ≡ signature_bytes start size bytes → AnswersBytes start s r → Answers start size bytes r
+answers start size bytes s (Ok found) within is told =
+    let P : List ℕ → Type 0 = λ x. Tells start x found in
+    let long = length-signature_bytes start size bytes within in
+    (fault_within_bytes start size bytes s within is ∙ told.0, subst P is told.1, told.2 (length bytes) (omega (arith, long, ap length is)))
+answers start size bytes s (Err e) within is told = λ other. fault_within_bytes start size bytes s within is ∙ told other

@@ -52,12 +52,16 @@ contents_fault start signature =
     or_else (first_fault (blob_fault start signature) (directory_blobs signature))
     (if has_main signature then None else Some NoDirectory)
 
+-- the checks of a signature's bytes, which begin at this place of the file
+abbrev pub bytes_fault : ℕ → List ℕ → Option SignatureFault
+bytes_fault start signature = or_else (or_else (header_fault signature) (blobs_fault signature)) (contents_fault start signature)
+
 -- the checks of a signature
 unfoldable pub signature_fault : ℕ → ℕ → List ℕ → Option SignatureFault
 signature_fault dataoff datasize bytes =
     let signature = signature_bytes dataoff datasize bytes in
     if nat_lt (length bytes) (dataoff + datasize) then Some Outside
-    else or_else (or_else (header_fault signature) (blobs_fault signature)) (contents_fault dataoff signature)
+    else bytes_fault dataoff signature
 
 -- the directories of a signature, in the order of its index
 unfoldable pub directories_of : ℕ → List ℕ → List Directory

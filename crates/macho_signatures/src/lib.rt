@@ -19,4 +19,4 @@ pub use crate::directory::{Directory, HashKind};
 pub use crate::fault::SignatureFault;
 pub use crate::pages::{PageHash, UnfitPage};
 pub use crate::renewal::{ByteRange, Slot, lay_slots};
-pub use crate::signature::{Signature, read_signature};
+pub use crate::signature::{Signature, read_signature, read_signature_bytes};

@@ -1,8 +1,8 @@
 //! Signatures: the code directories of a file, and whether an identity signed.
-ghost use Rattle.std.specs.Prelude.{◌≡◌, ◌≢◌, ◌+◌, ◌<◌, ◌≤◌, ◌^◌, ◌==◌, All, IfOk, MatchResult, None, Some, filter, length, map, not};
+ghost use Rattle.std.specs.Prelude.{ℕ, ◌≡◌, ◌≢◌, ◌+◌, ◌<◌, ◌≤◌, ◌^◌, ◌==◌, All, IfOk, MatchResult, None, Some, filter, length, map, not};
 ghost use Rattle.std.specs.List.{list_any};
 ghost use Rattle.macho_signatures.specs.Blobs.{AreBlobs, blobs_fault, blobs_of, header_fault, or_else, signature_bytes};
-ghost use Rattle.macho_signatures.specs.Signature.{ArePlaced, Tells, blob_directory, blob_fault, blob_bytes, contents_fault, first_fault, is_directory, is_message, signature_fault};
+ghost use Rattle.macho_signatures.specs.Signature.{ArePlaced, Tells, blob_directory, blob_fault, blob_bytes, bytes_fault, contents_fault, first_fault, is_directory, is_message, signature_fault};
 ghost use Rattle.macho_signatures.specs.declared.fault.SignatureFault.TheVariants.{Memory, Outside};
 
 use crate::blobs::{BLOB_HEADER, Blob, read_blobs};
@@ -175,6 +175,28 @@ fn read_contents(
     })
 }
 
+/// The code signature in these bytes, which are those from `dataoff` on of a thin file, or of a slice, that
+/// `LC_CODE_SIGNATURE` names. It is placed in a file of any length in which they end.
+///
+/// # Errors
+///
+/// Those of `read_signature` but `Outside`, in their order.
+pub fn read_signature_bytes(
+    alloc: Global,
+    signature: &[u8],
+    dataoff: u32,
+) -> Result<Signature, SignatureFault>
+    ensures { MatchResult result
+        (λ found. (bytes_fault dataoff signature.now ≡ None)
+        × Tells dataoff signature.now found
+        × ((len : ℕ) → dataoff + length signature.now ≤ len
+        → ArePlaced dataoff len found.directories.items))
+        (λ e. e ≢ Memory → bytes_fault dataoff signature.now ≡ Some e) }
+{
+    let blobs = read_blobs(alloc, signature)?;
+    read_contents(alloc, signature, dataoff, &blobs)
+}
+
 /// The code signature of a thin file, or of a slice, in the `datasize` bytes from `dataoff` on, as `LC_CODE_SIGNATURE` names
 /// them (loader.h, `linkedit_data_command`; cs_blobs.h, `CS_SuperBlob`).
 ///
@@ -203,6 +225,5 @@ pub fn read_signature(
         (λ e. e ≢ Memory → signature_fault dataoff datasize bytes.now ≡ Some e) }
 {
     let signature = signature_bytes(bytes, dataoff, datasize)?;
-    let blobs = read_blobs(alloc, signature)?;
-    read_contents(alloc, signature, dataoff, &blobs)
+    read_signature_bytes(alloc, signature, dataoff)
 }
