@@ -1,6 +1,7 @@
 pub mod CheckLaws
 pub mod DifferenceLaws
 pub mod FitLaws
+pub mod FrontLaws
 pub mod LaidParts
 pub mod PartLaws
 pub mod PartSteps

@@ -1,6 +1,7 @@
 pub mod Check
 pub mod Fault
 pub mod File
+pub mod Front
 pub mod Laws
 pub mod Place
 pub mod Shown

@@ -29,13 +29,13 @@ pub struct Place {
     pub datasize: u32,
 }
 
-// What is found of a signature in a thin file.
-#[derive(Clone, Copy)]
-pub(crate) struct Found {
-    // Where it lies, if there is one.
-    pub(crate) place: Option<Place>,
-    // Where the load commands end.
-    pub(crate) commands_end: usize,
+/// What is found of a signature in a thin file.
+#[derive(Clone, Copy, Debug, PartialEq, Eq)]
+pub struct Found {
+    /// Where it lies, if there is one.
+    pub place: Option<Place>,
+    /// Where the load commands end.
+    pub commands_end: usize,
 }
 
 // The commands that tell of a signature.
@@ -97,8 +97,13 @@ fn found_in(alloc: Global, macho: &MachO<'_>) -> Result<Found, SigningFault>
     })
 }
 
-/// What is found of a signature in the bytes of a thin file.
-pub(crate) fn find_place(alloc: Global, bytes: &[u8]) -> Result<Found, SigningFault>
+/// What the load commands of a thin file tell of a signature. Its first bytes are enough, where they are a thin file by
+/// themselves.
+///
+/// # Errors
+///
+/// Those of `read_thin` up to `BadCommand`, in their order.
+pub fn find_place(alloc: Global, bytes: &[u8]) -> Result<Found, SigningFault>
     ensures { MatchResult result
         (λ found. (file_fault bytes.now ≡ None)
         × (signature_place bytes.now ≡ Ok found.place)

@@ -60,13 +60,13 @@ fn read_place(
     Ok(read_signature(alloc, bytes, place.dataoff, place.datasize)?)
 }
 
-// The slots of a thin file that are made anew, and whether its signature is left since an identity signed.
+/// The slots of a thin file that are made anew, and whether its signature is left since an identity signed.
 #[derive(Drop)]
-pub(crate) struct ThinSlots {
-    // The slots, by their places in the thin file.
-    pub(crate) slots: Vec<Slot>,
-    // Whether a signature is left.
-    pub(crate) is_left: bool,
+pub struct ThinSlots {
+    /// The slots, by their places in the thin file.
+    pub slots: Vec<Slot>,
+    /// Whether a signature is left.
+    pub is_left: bool,
 }
 
 /// The slots of the chosen pages, in each directory of an ad-hoc signature, with the hashes of these bytes.
