@@ -12,7 +12,7 @@ use Rattle.macho_image.specs.Fat.{has_fat_magic}
 use Rattle.macho_image.specs.File.{IsFile}
 use Rattle.macho_image.specs.Form.{commands_end, ctx_of, header_size}
 use Rattle.macho_image.specs.Image.{with_area}
-use Rattle.macho_image.proofs.ForCallers.{form_of-same, found, header_size-least, only}
+use Rattle.macho_image.proofs.ForCallers.{accepts, commands_end-longer, found, header_size-least, least_length}
 use Rattle.macho_edits.specs.Call.{Call}
 use Rattle.macho_edits.specs.Held.{held_at_read, is_edited_by}
 use Rattle.macho_edits.specs.State.{Refusal, State, available, edited_by, end_of, first_state, fitted_state, laid_bytes, step}
@@ -31,30 +31,6 @@ use Rattle.macho_commands_signing.specs.Loading.{IsThinFront}
 use Rattle.macho_commands.specs.Loading.{FrontDecides, with_rest}
 
 -- ---- a file that begins as an accepted one
-
-longer_file : (front rest : List ℕ) (ctx : Ctx) (commands : List (List ℕ)) → length (front ++ rest) < 2 ^ 32 → IsFile front ctx commands → IsFile (front ++ rest) ctx commands
-longer_file front rest ctx commands short is =
-    let least : 28 ≤ header_size ctx.container = header_size-least ctx.container in
-    let room : header_size ctx.container + length (concat commands) ≤ length front = is.room in
-    let behind : length (drop (header_size ctx.container) front) ≡ length front - header_size ctx.container = length-drop (header_size ctx.container) front in
-    let dropped : drop (header_size ctx.container) (front ++ rest) ≡ drop (header_size ctx.container) front ++ rest = drop-append-le (header_size ctx.container) front rest (omega arith) in
-    record {
-      short = short;
-      magic = form_of-same (front ++ rest) front (λ order. number_at-append_left order 4 0 front rest (omega arith)) ∙ is.magic;
-      room = omega (arith, length-append front rest);
-      count = number_at-append_left ctx.le 4 16 front rest (omega arith) ∙ is.count;
-      size = number_at-append_left ctx.le 4 20 front rest (omega arith) ∙ is.size;
-      stand = ap (take (length (concat commands))) dropped ∙ take-append-le (length (concat commands)) (drop (header_size ctx.container) front) rest (omega arith) ∙ is.stand;
-      each = is.each;
-    }
-
--- it is accepted, and has the same form and the same commands
-pub accepts : (front rest : List ℕ) → length (front ++ rest) < 2 ^ 32 → file_fault front ≡ None → (file_fault (front ++ rest) ≡ None) × (ctx_of (front ++ rest) ≡ ctx_of front) × (commands_of (front ++ rest) ≡ commands_of front)
-accepts front rest short ok = only (front ++ rest) (ctx_of front) (commands_of front) (longer_file front rest (ctx_of front) (commands_of front) short (found front ok))
-
--- how long an accepted file is at least
-pub least_length : (front : List ℕ) → file_fault front ≡ None → (28 ≤ header_size (ctx_of front).container) × (header_size (ctx_of front).container + length (concat (commands_of front)) ≤ length front)
-least_length front ok = (header_size-least (ctx_of front).container, (found front ok).room)
 
 -- the least of a greater bound, where something below the first was found
 least_longer : (n m : ℕ) (xs : List ℕ) → n ≤ m → least n xs < n → least m xs ≡ least n xs
@@ -149,9 +125,7 @@ pub first_longer : (front rest : List ℕ) → length (front ++ rest) < 2 ^ 32 �
 unfolding first_state
 first_longer front rest short ok =
     let same = accepts front rest short ok in
-    let ends : commands_end (ctx_of front) (front ++ rest) ≡ commands_end (ctx_of front) front =
-    let least = least_length front ok in
-    ap (λ (n : ℕ). header_size (ctx_of front).container + n) (number_at-append_left (ctx_of front).le 4 20 front rest (omega (arith, least.0, least.1))) in
+    let ends : commands_end (ctx_of front) (front ++ rest) ≡ commands_end (ctx_of front) front = commands_end-longer front rest ok in
     rw (same.1, same.2, ends) refl
 
 -- a state as it is read ends in the front

@@ -4,6 +4,8 @@ pub mod LoadedLaws
 pub mod Outcomes
 pub mod SlicedLaws
 pub mod SlicedRuns
+pub mod RenewedLaws
+pub mod RenewedRuns
 pub mod StoreLaws
 pub mod SigningLaws
 pub mod FittingLaws

@@ -63,7 +63,7 @@ length-fronts_on (front ∷ fronts) file inside =
     let here = All-head (LiesIn (length file)) front fronts inside in
     length-put_at front.offset front.bytes.items (fronts_on fronts file) (omega (arith, rest, here)) ∙ rest
 
-made_is : (pages : Pages) (o : Outcome) (edited : List ℕ) (slots : List Slot) → o ≡ bytes edited → signing_fault pages edited ≡ None → slots ≡ signed_slots pages edited → sign_on pages o ≡ bytes (laid slots edited)
+pub made_is : (pages : Pages) (o : Outcome) (edited : List ℕ) (slots : List Slot) → o ≡ bytes edited → signing_fault pages edited ≡ None → slots ≡ signed_slots pages edited → sign_on pages o ≡ bytes (laid slots edited)
 made_is pages o edited slots is none made =
     ap (sign_on pages) is ∙ ap (λ f. signed_or f (laid (signed_slots pages edited) edited)) none
     ∙ ap (λ (l : List Slot). bytes (laid l edited)) (sym made)

@@ -9,7 +9,7 @@ use Rattle.byte_store.proofs.LaidLaws.{laid-append as laid-both, length-laid, ta
 use Rattle.byte_store.specs.Known.{put_at}
 use Rattle.byte_store.specs.Laid.{LiesIn, Patch, laid}
 use Rattle.byte_store.specs.Shown.{shifted}
-use Rattle.macho_commands.proofs.FrontLaws.{accepts, first_fits, first_longer, found_longer, laid_made, longer_answer, longer_state, signed_longer, state_longer, step_fits, stepped, thin_container, thin_step}
+use Rattle.macho_commands.proofs.FrontLaws.{first_fits, first_longer, found_longer, laid_made, longer_answer, longer_state, signed_longer, state_longer, step_fits, stepped, thin_container, thin_step}
 use Rattle.macho_commands.proofs.LoadedLaws.{laid-append, put_at-append, short_joined}
 use Rattle.macho_commands.specs.Engine.{AreAsked, Asked, Outcome, ShowsEdited, Tells, outcome_of, written}
 use Rattle.macho_commands.specs.Engine.Asked.{one, several}
@@ -34,7 +34,7 @@ use Rattle.macho_commands_signing.specs.Slices.{AreRising, HasSlices}
 use Rattle.macho_edits.specs.Call.{Call}
 use Rattle.macho_edits.specs.Held.{is_edited_by}
 use Rattle.macho_edits.specs.State.{Refusal, State, first_state, laid_bytes, step}
-use Rattle.macho_image.proofs.ForCallers.{table_passes}
+use Rattle.macho_image.proofs.ForCallers.{accepts, table_passes}
 use Rattle.macho_image.specs.Checks.{file_fault}
 use Rattle.macho_image.specs.Fat.{AreSlices, archs_of, nfat_arch_of, slice_of, table_end}
 use Rattle.macho_image.specs.declared.fat.FatArch.{FatArch}
@@ -49,7 +49,7 @@ put_at-behind before at part bytes =
     ap (λ (n : ℕ). drop n (before ++ bytes)) place ∙ drop-append-add before bytes (at + length part) in
     rw (front, rest) (append_assoc before (take at bytes) (part ++ drop (at + length part) bytes))
 
-laid_mid : (patches : List Patch) (before here behind : List ℕ) → All (LiesIn (length here)) patches → laid (map (shifted (length before)) patches) (before ++ (here ++ behind)) ≡ before ++ (laid patches here ++ behind)
+pub laid_mid : (patches : List Patch) (before here behind : List ℕ) → All (LiesIn (length here)) patches → laid (map (shifted (length before)) patches) (before ++ (here ++ behind)) ≡ before ++ (laid patches here ++ behind)
 laid_mid [] before here behind inside = refl
 laid_mid (patch ∷ patches) before here behind inside =
     let lies = All-head (LiesIn (length here)) patch patches inside in
@@ -98,7 +98,7 @@ AreParts calls file (p ∷ parts) = IsPart calls file p × AreParts calls file p
 abbrev pub arch_in : Part → FatArch
 arch_in p = p.arch
 
-abbrev slice_in : Part → Slice
+abbrev pub slice_in : Part → Slice
 slice_in p = record { arch = p.arch; state = p.state }
 
 abbrev pub patches_in : List Part → List Patch
@@ -120,7 +120,7 @@ apart_after a start size [] low rising = tt
 apart_after a start size (p ∷ parts) low rising =
     (inl (omega (arith, rising.0)), apart_after a (p.arch.offset + p.arch.size) size parts (omega (arith, rising.0)) rising.2)
 
-lie_in : (calls : List Call) (file : List ℕ) (start size : ℕ) (parts : List Part) → AreRising start size (map arch_in parts) → AreParts calls file parts → AreLaid size (map slice_in parts)
+pub lie_in : (calls : List Call) (file : List ℕ) (start size : ℕ) (parts : List Part) → AreRising start size (map arch_in parts) → AreParts calls file parts → AreLaid size (map slice_in parts)
 lie_in calls file start size [] rising are = tt
 lie_in calls file start size (p ∷ parts) rising are = (
   record { inside = rising_within (p.arch.offset + p.arch.size) size (map arch_in parts) rising.2; long = are.0.long },
@@ -131,11 +131,11 @@ lie_in calls file start size (p ∷ parts) rising are = (
 )
 
 -- slices that bytes have as the file has them
-abbrev SameSlices : List ℕ → List ℕ → List Part → Type 0
+abbrev pub SameSlices : List ℕ → List ℕ → List Part → Type 0
 SameSlices file bytes [] = ⊤
 SameSlices file bytes (p ∷ parts) = (slice_of bytes p.arch ≡ slice_of file p.arch) × SameSlices file bytes parts
 
-same_first : (file : List ℕ) (parts : List Part) → SameSlices file file parts
+pub same_first : (file : List ℕ) (parts : List Part) → SameSlices file file parts
 same_first file [] = tt
 same_first file (p ∷ parts) = (refl, same_first file parts)
 
@@ -147,7 +147,7 @@ same_after at start size part file bytes (p ∷ parts) low room rising same = (
 )
 
 -- their bytes, over those of the file
-over_in : (calls : List Call) (file bytes : List ℕ) (start size : ℕ) (parts : List Part) → length bytes ≡ size → AreRising start size (map arch_in parts) → SameSlices file bytes parts → AreParts calls file parts → bytes_laid_over (map slice_in parts) bytes ≡ laid (patches_in parts) bytes
+pub over_in : (calls : List Call) (file bytes : List ℕ) (start size : ℕ) (parts : List Part) → length bytes ≡ size → AreRising start size (map arch_in parts) → SameSlices file bytes parts → AreParts calls file parts → bytes_laid_over (map slice_in parts) bytes ≡ laid (patches_in parts) bytes
 over_in calls file bytes start size [] long rising same are = refl
 over_in calls file bytes start size (p ∷ parts) long rising same are =
     let at : ℕ = p.arch.offset in
@@ -253,13 +253,14 @@ front_made a calls front rest patches are is short makes =
 -- the front of a slice of a file
 pub record IsSliceFront (file : List ℕ) (arch : FatArch) (front : SliceFront) : Type 0 where
   pub offset : front.offset ≡ arch.offset
+  pub size : front.size ≡ arch.size
   pub is : IsFrontOf front.bytes.items (slice_of file arch)
   pub long : length (slice_of file arch) ≡ arch.size
 
 abbrev pub AreSliceFronts : List ℕ → List FatArch → List SliceFront → Type 0
 AreSliceFronts file archs fronts = AllZip (IsSliceFront file) archs fronts
 
-part_made : (a : Asked) (calls : List Call) (file : List ℕ) (arch : FatArch) (front : SliceFront) (patches : List Patch) → AreAsked a calls → IsSliceFront file arch front → MakesFront a front.bytes.items patches → (state : State) × IsPart calls file (record { arch = arch; state = state; patches = patches })
+pub part_made : (a : Asked) (calls : List Call) (file : List ℕ) (arch : FatArch) (front : SliceFront) (patches : List Patch) → AreAsked a calls → IsSliceFront file arch front → MakesFront a front.bytes.items patches → (state : State) × IsPart calls file (record { arch = arch; state = state; patches = patches })
 part_made a calls file arch front patches are is makes =
     let bytes' : List ℕ = front.bytes.items in
     let made = front_made a calls bytes' is.is.rest patches are is.is.thin (short_joined bytes' (slice_of file arch) is.is) makes in

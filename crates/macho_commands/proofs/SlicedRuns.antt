@@ -1,7 +1,7 @@
 -- Edits of a fat file by the fronts of its slices, in the order in which they are made.
 use Rattle.std.proofs.Common.{◌≡◌, ◌≢◌, ◌≤◌, ◌<◌, ◌^◌, ◌+◌, ◌∙◌, ◌⊎◌, ◌||◌, ℕ, inl, inr, Bool, true, false, List, [], ◌∷◌, ◌++◌, length, take, drop, map, get_or, append_assoc, Option, Some, refl, sym, ap, subst, arith}
 use Rattle.std.specs.List.{All, list_any}
-use Rattle.std.proofs.lemmas.List.{append-nil, drop_more, length-drop, length-take-le, take-append-drop, take-take, take_more}
+use Rattle.std.proofs.lemmas.List.{append-nil, drop_more, flat_map_more, length-drop, length-take-le, map-append, take-append-drop, take-take, take_more}
 use Rattle.std.proofs.lemmas.List.Elements.{All-append, All-cons, All-head, All-nil, All-tail}
 use Rattle.std.proofs.lemmas.List.Folds.{list_any-append}
 use Rattle.arwen_macho.specs.Fronts.{fronts_on}
@@ -28,7 +28,7 @@ use Rattle.macho_commands.specs.declared.signing.Signs.{Signs}
 use Rattle.macho_commands.specs.declared.signing.Signs.TheVariants.{Nothing, Touched, Whole}
 use Rattle.macho_commands.specs.Engine.Outcome.{bytes as new_bytes}
 use Rattle.macho_commands.specs.Notes.{TellsBy, TellsWanted, TellsWantedAt, note_line}
-use Rattle.macho_commands.specs.Sliced.{AddsFront, IsLoadedFront, MakesFronts, RefusesFronts, TellsFronts, is_signed_front}
+use Rattle.macho_commands.specs.Sliced.{AddsFront, EditedSlice, IsLoadedFront, IsMade, MakesEdited, MakesFronts, RefusesFronts, TellsFronts, edited_bytes, is_signed_front, slice_patches}
 use Rattle.macho_commands.specs.declared.error.MachoCommandError.{MachoCommandError}
 use Rattle.macho_commands.specs.declared.error.MachoCommandError.TheVariants.{Edits, Io, Macho, MachoBatch, Memory, Signing as signing, Unfit}
 use Rattle.macho_commands_signing.specs.Loading.{IsThinFront}
@@ -52,8 +52,8 @@ low_changes front patches is inside = λ i d below.
     let short : length front < 2 ^ 32 = (found front is.accepted).short in
     omega (arith, lies, short)
 
-pub adds_front : (a : Asked) (front : SliceFront) (fronts : List Front) (pieces : List Piece) (old new : List Patch) → WritesEdits a front.bytes.items fronts → ArePiecesOf front.bytes.items (fronts_on fronts front.bytes.items) pieces → new ≡ old ++ map (shifted front.offset) (patches_of pieces) → AddsFront a front old new
-adds_front a front fronts pieces old new writes are push =
+pub adds_front : (a : Asked) (front : SliceFront) (edited : List ℕ) (fronts : List Front) (pieces : List Piece) (old new : List Patch) → WritesEdits a front.bytes.items fronts → ArePiecesOf front.bytes.items (fronts_on fronts front.bytes.items) pieces → new ≡ old ++ map (shifted front.offset) (patches_of pieces) → edited ≡ fronts_on fronts front.bytes.items → AddsFront a front edited old new
+adds_front a front edited fronts pieces old new writes are push made =
     let Shown : List ℕ → Type 0 = ShowsEdited a front.bytes.items in (
       patches_of pieces,
       push,
@@ -62,27 +62,55 @@ adds_front a front fronts pieces old new writes are push =
         is = writes.is ∙ ap (λ (l : List ℕ). new_bytes l) (sym are.same);
         shows = subst Shown (sym are.same) writes.shows;
       },
+      made ∙ sym are.same,
     )
 
-makes_push : (a : Asked) (fronts : List SliceFront) (front : SliceFront) (old new : List Patch) → MakesFronts a fronts old → AddsFront a front old new → MakesFronts a (fronts ++ front ∷ []) new
-makes_push a [] front old new makes adds =
+makes_push : (a : Asked) (fronts : List SliceFront) (front : SliceFront) (edited : List ℕ) (old new : List Patch) → MakesFronts a fronts old → AddsFront a front edited old new → MakesFronts a (fronts ++ front ∷ []) new
+makes_push a [] front edited old new makes adds =
     (adds.0, [], adds.1 ∙ ap (λ (l : List Patch). l ++ map (shifted front.offset) adds.0) makes ∙ sym (append-nil (map (shifted front.offset) adds.0)), adds.2, refl)
-makes_push a (f ∷ fronts) front old new makes adds =
+makes_push a (f ∷ fronts) front edited old new makes adds =
     let added : List Patch = map (shifted front.offset) adds.0 in (
       makes.0,
       makes.1 ++ added,
       adds.1 ∙ ap (λ (l : List Patch). l ++ added) makes.2 ∙ append_assoc (map (shifted f.offset) makes.0) makes.1 added,
       makes.3,
-      makes_push a fronts front makes.1 (makes.1 ++ added) makes.4 (adds.0, refl, adds.2),
+      makes_push a fronts front edited makes.1 (makes.1 ++ added) makes.4 (adds.0, refl, adds.2, adds.3),
     )
 
 next_take : (fronts : List SliceFront) (i : ℕ) (front : SliceFront) → i < length fronts → front ≡ get_or fronts i front → take (i + 1) fronts ≡ take i fronts ++ front ∷ []
 next_take fronts i front inside is = take_more fronts i front inside ∙ ap (λ (f : SliceFront). take i fronts ++ f ∷ []) (sym is)
 
-pub makes_more : (a : Asked) (fronts : List SliceFront) (i : ℕ) (front : SliceFront) (old new : List Patch) → i < length fronts → front ≡ get_or fronts i front → MakesFronts a (take i fronts) old → AddsFront a front old new → MakesFronts a (take (i + 1) fronts) new
-makes_more a fronts i front old new inside is makes adds =
+pub makes_more : (a : Asked) (fronts : List SliceFront) (i : ℕ) (front : SliceFront) (edited : List ℕ) (old new : List Patch) → i < length fronts → front ≡ get_or fronts i front → MakesFronts a (take i fronts) old → AddsFront a front edited old new → MakesFronts a (take (i + 1) fronts) new
+makes_more a fronts i front edited old new inside is makes adds =
     let P : List SliceFront → Type 0 = λ l. MakesFronts a l new in
-    subst P (sym (next_take fronts i front inside is)) (makes_push a (take i fronts) front old new makes adds)
+    subst P (sym (next_take fronts i front inside is)) (makes_push a (take i fronts) front edited old new makes adds)
+
+-- and what they become
+
+pub edited_none : (a : Asked) → MakesEdited a [] [] []
+edited_none a = record { all = []; fronts_are = refl; news_are = refl; patches_are = refl; each = All-nil (IsMade a) }
+
+pub edited_more : (a : Asked) (fronts : List SliceFront) (i : ℕ) (front : SliceFront) (edited : List ℕ) (news nexts : List (List ℕ)) (old new : List Patch) → i < length fronts → front ≡ get_or fronts i front → MakesEdited a (take i fronts) news old → AddsFront a front edited old new → nexts ≡ news ++ edited ∷ [] → MakesEdited a (take (i + 1) fronts) nexts new
+edited_more a fronts i front edited news nexts old new inside is makes adds push =
+    let slice : EditedSlice = record { front = front; here = adds.0 } in
+    let front_in : EditedSlice → SliceFront = λ e. e.front in
+    record {
+      all = makes.all ++ slice ∷ [];
+      fronts_are =
+          map-append front_in makes.all (slice ∷ [])
+          ∙ ap (λ (l : List SliceFront). l ++ front ∷ []) makes.fronts_are
+          ∙ sym (next_take fronts i front inside is);
+      news_are =
+          map-append edited_bytes makes.all (slice ∷ [])
+          ∙ ap (λ (l : List (List ℕ)). l ++ edited_bytes slice ∷ []) makes.news_are
+          ∙ ap (λ (l : List ℕ). news ++ l ∷ []) (sym adds.3)
+          ∙ sym push;
+      patches_are =
+          adds.1
+          ∙ ap (λ (l : List Patch). l ++ slice_patches slice) makes.patches_are
+          ∙ flat_map_more slice_patches [] makes.all slice;
+      each = All-append (IsMade a) makes.all (slice ∷ []) makes.each (All-cons (IsMade a) slice [] adds.2 (All-nil (IsMade a)));
+    }
 
 pub refuses_at : (a : Asked) (fronts : List SliceFront) (i : ℕ) (front : SliceFront) (patches : List Patch) (e : MachoCommandError) → i < length fronts → front ≡ get_or fronts i front → MakesFronts a (take i fronts) patches → Tells (outcome_of a front.bytes.items) e → RefusesFronts a fronts e
 refuses_at a fronts i front patches e inside is makes tells = record {
@@ -157,6 +185,7 @@ slices_of known file start size (arch ∷ archs) (front ∷ fronts) is long shor
     let same : front' ≡ take n slice = are.0.read file is ∙ sym (take-take n arch.size (drop arch.offset file) fits) in (
       record {
         offset = are.0.offset;
+        size = are.0.size;
         is = record { rest = drop n slice; joined = ap (λ (l : List ℕ). l ++ drop n slice) same ∙ take-append-drop n slice; thin = are.0.thin; short = omega (arith, many) };
         long = many;
       },

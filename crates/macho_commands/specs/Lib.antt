@@ -7,6 +7,7 @@ pub mod Loading
 pub mod Meaning
 pub mod Notes
 pub mod Refusing
+pub mod Renewed
 pub mod Sliced
 pub mod Stores
 pub mod Verifying

@@ -1,6 +1,6 @@
 -- What edits make of the slices of a fat file, told by their fronts.
 use Rattle.std.specs.Prelude.{ℕ, ◌≡◌, ◌<◌, ◌^◌, List, [], ◌∷◌, ◌++◌, All, Bool, length, map}
-use Rattle.std.specs.List.{list_any}
+use Rattle.std.specs.List.{flat_map, list_any}
 use Rattle.arwen_macho.specs.Container.{first_container}
 use Rattle.byte_store.specs.Laid.{LiesIn, Patch, laid}
 use Rattle.byte_store.specs.Shown.{shifted}
@@ -32,9 +32,32 @@ MakesFronts a [] patches = patches ≡ []
 MakesFronts a (front ∷ fronts) patches = (here : List Patch) × (behind : List Patch)
     × (patches ≡ map (shifted front.offset) here ++ behind) × MakesFront a front.bytes.items here × MakesFronts a fronts behind
 
--- those of one front more are put behind others
-abbrev pub AddsFront : Asked → SliceFront → List Patch → List Patch → Type 0
-AddsFront a front old new = (here : List Patch) × (new ≡ old ++ map (shifted front.offset) here) × MakesFront a front.bytes.items here
+-- those of one front more, of which they make these bytes, are put behind others
+abbrev pub AddsFront : Asked → SliceFront → List ℕ → List Patch → List Patch → Type 0
+AddsFront a front edited old new = (here : List Patch) × (new ≡ old ++ map (shifted front.offset) here) × MakesFront a front.bytes.items here
+    × (edited ≡ laid here front.bytes.items)
+
+-- a front with the patches that edits make of it
+pub record EditedSlice : Type 0 where
+  pub front : SliceFront
+  pub here : List Patch
+
+abbrev pub edited_bytes : EditedSlice → List ℕ
+edited_bytes slice = laid slice.here slice.front.bytes.items
+
+abbrev pub slice_patches : EditedSlice → List Patch
+slice_patches slice = map (shifted slice.front.offset) slice.here
+
+abbrev pub IsMade : Asked → EditedSlice → Type 0
+IsMade a slice = MakesFront a slice.front.bytes.items slice.here
+
+-- patches of a file that edits make of fronts, and what these become
+pub record MakesEdited (a : Asked) (fronts : List SliceFront) (news : List (List ℕ)) (patches : List Patch) : Type 0 where
+  pub all : List EditedSlice
+  pub fronts_are : map (λ slice. slice.front) all ≡ fronts
+  pub news_are : map edited_bytes all ≡ news
+  pub patches_are : patches ≡ flat_map slice_patches all
+  pub each : All (IsMade a) all
 
 -- an error tells what edits make of a front, behind those of which they make new ones
 pub record RefusesFronts (a : Asked) (fronts : List SliceFront) (e : MachoCommandError) : Type 0 where

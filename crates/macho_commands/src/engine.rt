@@ -1,5 +1,5 @@
 //! New bytes of old ones.
-ghost use Rattle.std.specs.Prelude.{◌≡◌, ◌≢◌, ◌∷◌, [], All, None, Ok, Some, IfOk, IfErr, IsTrue, OnOk, length, string_bytes};
+ghost use Rattle.std.specs.Prelude.{◌≡◌, ◌≢◌, ◌≤◌, ◌∷◌, [], All, None, Ok, Some, IfOk, IfErr, IsTrue, OnOk, length, string_bytes};
 ghost use Rattle.macho_edits.specs.Batch.{calls_of};
 ghost use Rattle.arwen_macho.specs.Fronts.{LiesIn, fronts_on};
 ghost use Rattle.macho_commands.specs.Engine.{AreAsked, IsSignedOutcome, IsSigningError, MayFail, Outcome};
@@ -9,6 +9,7 @@ ghost use Rattle.macho_commands.specs.Failures.{HasCause, HasCauseAt};
 ghost use Rattle.macho_commands.specs.Meaning.{file_of, macho_command_model};
 ghost use Rattle.macho_commands.specs.Notes.{TellsBy, TellsCommand, TellsOf, TellsSigned, TellsWanted, TellsWantedAt};
 ghost use Rattle.macho_commands.specs.Refusing.{IsRefusal, LeadsWith};
+ghost use Rattle.macho_commands.specs.Renewed.{PatchesOr};
 ghost use Rattle.macho_commands.specs.Stores.{FailsPatch, Patched, TellsPath};
 ghost use Rattle.macho_commands.specs.declared.error.MachoCommandError.TheVariants.{Memory};
 ghost use Rattle.macho_signing.specs.Thin.{AreAsLong, pages_of};
@@ -18,13 +19,14 @@ use crate::edits::parse_macho_edits;
 use crate::error::MachoCommandError;
 use crate::noting::{left_note, note_wanted, tell};
 use crate::signing::{Signing, Signs};
+use crate::renewed::patch_renewed;
 use crate::sliced::patch_slices;
 use crate::verifying::verify_file;
 use arwen_macho::macho::{Front, MachoBatchError, MachoContainer, MachoEdit, lay_fronts};
 use byte_store::{Opens, Store};
 use command_words::{Notes, RegularFiles, words_of};
 use macho_commands_signing::{
-    Loaded, changes_of, front_changes, load_for_edits, load_slices, write_changes_of,
+    Loaded, changes_of, front_changes, load_for_edits, load_fronts, load_slices, write_changes_of,
 };
 use macho_signatures::{Slot, lay_slots};
 use macho_signing::{NewSlots, Scope, signed_slots};
@@ -104,6 +106,17 @@ fn leaves_signatures(signing: Signing, command: &MachoCommand) -> bool
 {
     match signs_of(signing, command) {
         Signs::Nothing => true,
+        _ => false,
+    }
+}
+
+/// Whether a command makes the slots of the pages anew that its edits touch.
+fn renews_touched(signing: Signing, command: &MachoCommand) -> bool
+    ensures { IsTrue result
+        → signs_of signing (macho_command_model command.now) ≡ Signs.Touched }
+{
+    match signs_of(signing, command) {
+        Signs::Touched => true,
         _ => false,
     }
 }
@@ -351,8 +364,39 @@ pub fn patch_store<S: Store>(
         if let Some(slices) = load_slices(alloc, store)? {
             return patch_slices(alloc, store, &slices, command, notes, signing);
         }
+        return patch_loaded(alloc, store, command, notes, signing);
+    }
+    if let Some(text) = patch_touched(alloc, store, command, notes, signing)? {
+        return Ok(text);
     }
     patch_loaded(alloc, store, command, notes, signing)
+}
+
+/// The same of a command that makes the slots of touched pages anew, where fronts of the file and its signatures tell these;
+/// else `None`, and the bytes are as they were.
+fn patch_touched<S: Store>(
+    alloc: Global,
+    store: &mut S,
+    command: &MachoCommand,
+    notes: Notes,
+    signing: Signing,
+) -> Result<Option<String>, MachoCommandError>
+    ensures patched { IfOk result (PatchesOr signing (macho_command_model command.now) notes
+        (S.contents store.old) (S.contents store.new)) }
+    ensures err { IfErr result (λ e. MayFail (macho_command_model command.now) e) }
+    ensures left { IfErr result (λ e. FailsPatch signing (macho_command_model command.now)
+        (S.contents store.old) (S.contents store.new) e) }
+    ensures grows { S.failed store.old ≤ S.failed store.new }
+    ensures cause { IfErr result (HasCause S.may_fail_read S.may_fail_write S.may_take_none
+        (S.contents store.old) (S.failed store.old) (S.failed store.new)) }
+{
+    if !renews_touched(signing, command) {
+        return Ok(None);
+    }
+    let Some(slices) = load_fronts(alloc, store)? else {
+        return Ok(None);
+    };
+    patch_renewed(alloc, store, &slices, command, notes, signing)
 }
 
 /// The same where the store doesn't hold a fat file whose slices are edited by their fronts.

@@ -9,6 +9,7 @@ mod engine;
 mod error;
 pub mod laws;
 mod noting;
+mod renewed;
 mod signing;
 mod sliced;
 mod tables;

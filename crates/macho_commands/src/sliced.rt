@@ -1,11 +1,11 @@
 //! Edits of a fat file by the fronts of its slices.
-ghost use Rattle.std.specs.Prelude.{◌≡◌, ◌≢◌, [], All, IfErr, IfOk, OnOk, string_bytes};
+ghost use Rattle.std.specs.Prelude.{◌≡◌, ◌≢◌, [], All, IfErr, IfOk, OnOk, map, string_bytes};
 ghost use Rattle.byte_store.specs.Composed.{owned_patches};
 ghost use Rattle.macho_commands.specs.Engine.{MayFail, Tells, asked, outcome_of, signs_of};
 ghost use Rattle.macho_commands.specs.Failures.{HasCause};
 ghost use Rattle.macho_commands.specs.Meaning.{file_of, macho_command_model};
 ghost use Rattle.macho_commands.specs.Notes.{TellsWanted, TellsWantedAt};
-ghost use Rattle.macho_commands.specs.Sliced.{AddsFront, IsLoadedFront, MakesFronts, RefusesFronts, TellsFronts};
+ghost use Rattle.macho_commands.specs.Sliced.{AddsFront, IsLoadedFront, MakesEdited, MakesFronts, RefusesFronts, TellsFronts};
 ghost use Rattle.macho_commands.specs.Stores.{FailsPatch, Patched};
 ghost use Rattle.macho_commands_signing.specs.Slices.{AreSlicesRead};
 
@@ -24,7 +24,18 @@ use std::alloc::Global;
 #[derive(Drop)]
 pub(crate) struct Sliced {
     /// The pieces, those of the first slice first.
-    pieces: Vec<OwnedPiece>,
+    pub(crate) pieces: Vec<OwnedPiece>,
+    /// What they make of each front.
+    pub(crate) edited: Vec<Vec<u8>>,
+    /// The line; no text where it is left out.
+    text: String,
+}
+
+/// What edits make of the front of a slice, and the line of the note.
+#[derive(Drop)]
+struct Edited {
+    /// The front.
+    bytes: Vec<u8>,
     /// The line; no text where it is left out.
     text: String,
 }
@@ -50,14 +61,15 @@ pub(crate) fn patch_slices<S: Store>(
     ensures cause { IfErr result (HasCause S.may_fail_read S.may_fail_write S.may_take_none
         (S.contents store.old) (S.failed store.old) (S.failed store.new)) }
 {
-    let Sliced { pieces, text } = edited_fronts(alloc, slices.fronts.as_slice(), command, notes)?;
+    let Sliced { pieces, text, .. } =
+        edited_fronts(alloc, slices.fronts.as_slice(), command, notes)?;
     let lent = lent_pieces(alloc, pieces.as_slice())?;
     write_changes_of(store, slices.length, lent.as_slice())?;
     Ok(text)
 }
 
 /// What edits write over fronts of slices, which a first slice that refuses them leaves undecided.
-fn edited_fronts(
+pub(crate) fn edited_fronts(
     alloc: Global,
     fronts: &[SliceFront],
     command: &MachoCommand,
@@ -66,33 +78,43 @@ fn edited_fronts(
     requires { All IsLoadedFront fronts.now }
     ensures makes { IfOk result (λ made. MakesFronts (asked (macho_command_model command.now))
         fronts.now (owned_patches made.pieces.items)) }
+    ensures edited { IfOk result (λ made. MakesEdited (asked (macho_command_model command.now))
+        fronts.now (map (λ new. new.items) made.edited.items) (owned_patches made.pieces.items)) }
     ensures told { IfOk result (λ made. TellsFronts notes
         (file_of (macho_command_model command.now)) fronts.now (string_bytes made.text)) }
     ensures err { IfErr result (RefusesFronts (asked (macho_command_model command.now))
         fronts.now) }
 {
     let mut pieces = Vec::new(alloc);
+    let mut edited = Vec::new(alloc);
     let mut text = String::new(alloc);
     for front in fronts {
-        let told = push_edited(alloc, &mut pieces, front, command, notes)?;
-        text = first_text(text, told);
+        let made = push_edited(alloc, &mut pieces, front, command, notes)?;
+        edited.push(made.bytes)?;
+        text = first_text(text, made.text);
     }
-    Ok(Sliced { pieces, text })
+    Ok(Sliced {
+        pieces,
+        edited,
+        text,
+    })
 }
 
-/// Puts what edits write over the front of a slice behind pieces, and answers the line of the note of the slice.
+/// Puts what edits write over the front of a slice behind pieces, and answers what it makes of it and the line of the note.
 fn push_edited(
     alloc: Global,
     pieces: &mut Vec<OwnedPiece>,
     front: &SliceFront,
     command: &MachoCommand,
     notes: Notes,
-) -> Result<String, MachoCommandError>
+) -> Result<Edited, MachoCommandError>
     requires { IsLoadedFront front.now }
-    ensures adds { OnOk result (AddsFront (asked (macho_command_model command.now)) front.now
-        (owned_patches pieces.old.items) (owned_patches pieces.new.items)) }
-    ensures told { IfOk result (λ text. TellsWanted notes
-        (file_of (macho_command_model command.now)) front.now.bytes.items (string_bytes text)) }
+    ensures adds { IfOk result (λ made. AddsFront (asked (macho_command_model command.now))
+        front.now made.bytes.items (owned_patches pieces.old.items)
+        (owned_patches pieces.new.items)) }
+    ensures told { IfOk result (λ made. TellsWanted notes
+        (file_of (macho_command_model command.now)) front.now.bytes.items
+        (string_bytes made.text)) }
     ensures err { IfErr result (λ e. Tells
         (outcome_of (asked (macho_command_model command.now)) front.now.bytes.items) e) }
 {
@@ -100,7 +122,7 @@ fn push_edited(
     let mut bytes = Vec::from_slice(alloc, front.bytes.as_slice())?;
     let changes = front_changes(alloc, &mut bytes, fronts.as_slice())?;
     push_changes_at(alloc, pieces, front.offset, changes.as_slice())?;
-    Ok(text)
+    Ok(Edited { bytes, text })
 }
 
 /// The first of two texts, or the second where that has no bytes.

@@ -4,6 +4,7 @@ pub mod EditedSignature
 pub mod RenewedSignature
 pub mod StepSignature
 pub mod SliceLaws
+pub mod RenewingLaws
 pub mod FitWords
 pub mod KeptSignature
 pub mod KeptParts

@@ -1,7 +1,8 @@
 -- How much is read of a fat file that is edited.
-use Rattle.std.specs.Prelude.{ℕ, ◌≡◌, ◌+◌, ◌<◌, ◌≤◌, ◌^◌, List, [], ◌∷◌, None, Option, Some, drop, length, take, true}
+use Rattle.std.specs.Prelude.{ℕ, ◌≡◌, ◌+◌, ◌<◌, ◌≤◌, ◌^◌, ◌⊎◌, List, [], ◌∷◌, None, Option, Some, drop, length, take, true}
 use Rattle.std.specs.List.{AllZip}
 use Rattle.arwen_macho.specs.Found.{begins_fat}
+use Rattle.byte_store.specs.Known.{HasLength}
 use Rattle.macho_image.specs.Fat.{archs_of, table_end, table_fault}
 use Rattle.macho_image.specs.declared.fat.FatArch.{FatArch}
 use Rattle.macho_commands_signing.specs.Loading.{IsThinFront}
@@ -33,6 +34,7 @@ IsAt known offset bytes = (file : List ℕ) → known ≡ Some file → bytes �
 -- the first bytes of a slice, which are a thin file by themselves
 pub record IsFrontAt (known : Option (List ℕ)) (arch : FatArch) (front : SliceFront) : Type 0 where
   pub offset : front.offset ≡ arch.offset
+  pub size : front.size ≡ arch.size
   pub within : length front.bytes.items ≤ arch.size
   pub thin : IsThinFront front.bytes.items
   pub read : IsAt known arch.offset front.bytes.items
@@ -49,3 +51,18 @@ pub record AreSlicesRead (known : Option (List ℕ)) (read : SliceFronts) : Type
   pub rising : AreRising (table_end (length archs)) read.length archs
   pub fronts : AreFrontsOf known archs read.fronts.items
   pub has : (file : List ℕ) → known ≡ Some file → HasSlices file archs × (length file ≡ read.length)
+
+-- a slice that is the whole of a file of so many bytes
+abbrev pub whole_arch : ℕ → FatArch
+whole_arch size = record { cputype = 0; cpusubtype = 0; offset = 0; size = size; align = 0 }
+
+-- what was read of a thin file: its front, as that of its one slice
+pub record IsThinRead (known : Option (List ℕ)) (read : SliceFronts) : Type 0 where
+  pub some : 0 < read.length
+  pub short : read.length < 2 ^ 32
+  pub fronts : AreFrontsOf known (whole_arch read.length ∷ []) read.fronts.items
+  pub long : HasLength known read.length
+
+-- what was read of a file of either shape
+abbrev pub AreFrontsRead : Option (List ℕ) → SliceFronts → Type 0
+AreFrontsRead known read = AreSlicesRead known read ⊎ IsThinRead known read

@@ -5,12 +5,14 @@
 
 mod changes;
 mod loading;
+mod renewing;
 mod signed;
 mod slices;
 mod verdict;
 
 pub use changes::{changes_of, front_changes, lent_pieces, push_changes_at, write_changes_of};
 pub use loading::{Loaded, load_for_edits};
+pub use renewing::{SliceSlots, load_slots};
 pub use signed::{is_signed_file, note_if};
-pub use slices::{SliceFront, SliceFronts, load_slices};
+pub use slices::{SliceFront, SliceFronts, load_fronts, load_slices};
 pub use verdict::{Verdict, verdict_of};

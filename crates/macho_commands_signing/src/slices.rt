@@ -1,15 +1,13 @@
-//! How much of a fat file is read for an edit: the table of its slices, and the front of each.
+//! How much of a fat file is read for an edit: the table of its slices, and the front of each; a thin one is its own slice.
 ghost use Rattle.std.specs.Prelude.{◌≡◌, ◌+◌, ◌-◌, ◌*◌, ◌^◌, ◌<◌, ◌≤◌, All, IfErr, IfOk, IfSome, IsTrue, drop, length, vec_len};
 ghost use Rattle.byte_store.specs.Causes.{IsNotRead};
 ghost use Rattle.byte_store.specs.Known.{Stays};
-ghost use Rattle.macho_image.specs.Fat.{arch_of, table};
-ghost use Rattle.macho_image.specs.declared.fat.TheConstants.{FAT_ARCH_SIZE, FAT_HEADER_SIZE};
-ghost use Rattle.macho_commands_signing.specs.Slices.{AreFrontsOf, AreRising, AreSlicesRead, IsAt, IsFrontAt, IsTableOf};
+ghost use Rattle.macho_commands_signing.specs.Slices.{AreFrontsOf, AreFrontsRead, AreRising, AreSlicesRead, IsAt, IsFrontAt, IsTableOf, IsThinRead, whole_arch};
 
 use crate::loading::{FRONT, LONG_FRONT, is_thin_front};
 use byte_store::{ReadError, Store, load_up_to};
 use command_words::MOST_BYTES;
-use macho_image::fat::{FAT_ARCH_SIZE, FAT_HEADER_SIZE};
+use macho_image::fat::{FAT_ARCH_SIZE, FAT_HEADER_SIZE, read_table};
 use macho_image::field::number32;
 use macho_image::{FatArch, is_fat};
 use patch_bytes::ByteOrder2;
@@ -27,6 +25,8 @@ const MOST_SLICES: usize = 32;
 pub struct SliceFront {
     /// Where the slice begins in the file.
     pub offset: u64,
+    /// How many bytes it has.
+    pub size: u32,
     /// Its first bytes.
     pub bytes: Vec<u8>,
 }
@@ -65,6 +65,59 @@ pub fn load_slices<S: Store>(alloc: Global, store: &mut S) -> Result<Option<Slic
     Ok(Some(SliceFronts { fronts, length }))
 }
 
+/// The fronts of a store's file: those of the slices of a fat one, as `load_slices` reads them, or that of a thin one as its
+/// one slice. `None` where these aren't enough, or the file is short.
+///
+/// # Errors
+///
+/// Those of `load_slices`.
+pub fn load_fronts<S: Store>(alloc: Global, store: &mut S) -> Result<Option<SliceFronts>, ReadError>
+    ensures fronts { IfOk result (λ found.
+        IfSome found (AreFrontsRead (S.contents store.old))) }
+    ensures kept { Stays (S.contents store.old) (S.contents store.new) }
+    ensures grows { S.failed store.old ≤ S.failed store.new }
+    ensures cause { IfErr result (IsNotRead S.may_fail_read
+        (S.contents store.old) (S.failed store.old) (S.failed store.new)) }
+{
+    if let Some(slices) = load_slices(alloc, store)? {
+        return Ok(Some(slices));
+    }
+    load_thin(alloc, store)
+}
+
+/// The front of a store's thin file, as that of its one slice; `None` where no front of it is enough, or it has no more bytes
+/// than are read first in any case.
+fn load_thin<S: Store>(alloc: Global, store: &mut S) -> Result<Option<SliceFronts>, ReadError>
+    ensures thin { IfOk result (λ found.
+        IfSome found (IsThinRead (S.contents store.old))) }
+    ensures kept { Stays (S.contents store.old) (S.contents store.new) }
+    ensures grows { S.failed store.old ≤ S.failed store.new }
+    ensures cause { IfErr result (IsNotRead S.may_fail_read
+        (S.contents store.old) (S.failed store.old) (S.failed store.new)) }
+{
+    let length = store.length()?;
+    if length <= FRONT as u64 || length >= MOST_BYTES as u64 {
+        return Ok(None);
+    }
+    let Some(fronts) = fronts_of(alloc, store, &[whole_arch(length as u32)])? else {
+        return Ok(None);
+    };
+    Ok(Some(SliceFronts { fronts, length }))
+}
+
+/// A slice that is the whole of a file.
+fn whole_arch(size: u32) -> FatArch
+    ensures { result ≡ whole_arch size }
+{
+    FatArch {
+        cputype: 0,
+        cpusubtype: 0,
+        offset: 0,
+        size,
+        align: 0,
+    }
+}
+
 /// The slices of a fat file of which these are the first bytes, and which has so many; `None` where its table doesn't
 /// stand in them, or isn't one whose slices are read.
 fn table_of(alloc: Global, first: &[u8], size: u64) -> Result<Option<Vec<FatArch>>, AllocError>
@@ -86,34 +139,6 @@ fn table_of(alloc: Global, first: &[u8], size: u64) -> Result<Option<Vec<FatArch
         return Ok(None);
     }
     Ok(Some(archs))
-}
-
-/// The first `count` records of a table.
-fn read_table(alloc: Global, count: usize, bytes: &[u8]) -> Result<Vec<FatArch>, AllocError>
-    requires { FAT_ARCH_SIZE * count ≤ length bytes.now }
-    ensures { IfOk result (λ archs. archs.items ≡ table count bytes.now) }
-{
-    let mut archs = Vec::new(alloc);
-    let mut rest = bytes;
-    for _i in 0..count {
-        archs.push(read_arch(rest))?;
-        rest = &rest[FAT_ARCH_SIZE..];
-    }
-    Ok(archs)
-}
-
-/// The record at the head of what is left of a table.
-fn read_arch(rest: &[u8]) -> FatArch
-    requires { FAT_ARCH_SIZE ≤ length rest.now }
-    ensures { result ≡ arch_of rest.now }
-{
-    FatArch {
-        cputype: number32(rest, 0, ByteOrder2::Big),
-        cpusubtype: number32(rest, 4, ByteOrder2::Big),
-        offset: number32(rest, 8, ByteOrder2::Big),
-        size: number32(rest, 12, ByteOrder2::Big),
-        align: number32(rest, 16, ByteOrder2::Big),
-    }
 }
 
 /// Whether slices have bytes, and each begins where the one before it ends or behind that, the first one at a position or
@@ -195,11 +220,15 @@ fn front_within<S: Store>(
     if !is_thin_front(alloc, bytes.as_slice())? {
         return Ok(None);
     }
-    Ok(Some(SliceFront { offset, bytes }))
+    Ok(Some(SliceFront {
+        offset,
+        size: arch.size,
+        bytes,
+    }))
 }
 
 /// What one read gives of a store from an offset on, at most so many bytes. An interrupted read gives none.
-fn load_at<S: Store>(
+pub(crate) fn load_at<S: Store>(
     alloc: Global,
     store: &mut S,
     offset: u64,

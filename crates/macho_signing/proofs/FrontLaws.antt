@@ -12,11 +12,13 @@ use Rattle.macho_image.specs.Form.{commands_end, ctx_of}
 use Rattle.macho_image.proofs.ForCallers.{accepts, commands_end-longer, commands_within}
 use Rattle.macho_signatures.specs.Blobs.{signature_bytes}
 use Rattle.macho_signatures.specs.Pages.{hash_of, page_end, page_hash, page_of, page_start}
-use Rattle.macho_signatures.specs.Renewed.{is_touched, renewed_slots}
+use Rattle.macho_signatures.specs.Renewed.{SlotLies, is_touched, renewed_slots}
 use Rattle.macho_signatures.specs.Signature.{LiesIn, Tells}
 use Rattle.macho_signatures.proofs.SignatureLaws.{fault_within_bytes}
 use Rattle.macho_signatures.specs.declared.directory.Directory.{Directory}
 use Rattle.macho_signatures.specs.declared.pages.PageHash.{PageHash}
+use Rattle.macho_signatures.proofs.RenewedLaws.{slots_lie}
+use Rattle.macho_signatures.specs.declared.renewal.Slot.{Slot}
 use Rattle.macho_signatures.specs.declared.signature.Signature.{Signature}
 use Rattle.macho_signing.specs.Front.{EndsWithin, HasSignature, IsReadAt, SignsThin}
 use Rattle.macho_signing.specs.Place.{signature_place}
@@ -100,6 +102,17 @@ unfolding signature_place
 place_longer front rest short ok =
     let same = accepts front rest short ok in
     rw (same.1, same.2) refl
+
+-- where slots lie
+pub none_lie : (len : ℕ) (slots : List Slot) → slots ≡ [] → All (SlotLies len) slots
+none_lie len slots none =
+    let P : List Slot → Type 0 = λ l. All (SlotLies len) l in
+    subst P (sym none) (All-nil (SlotLies len))
+
+pub edits_lie : (start : ℕ) (old new signature : List ℕ) (found : Signature) (slots : List Slot) → IsReadAt start signature found → slots ≡ renewed_slots found.directories.items (differences (old ++ []) (new ++ [])) (new ++ []) → All (SlotLies (start + length signature)) slots
+edits_lie start old new signature found slots read are =
+    let P : List Slot → Type 0 = λ l. All (SlotLies (start + length signature)) l in
+    subst P (sym are) (slots_lie start (start + length signature) found.directories.items (differences (old ++ []) (new ++ [])) (new ++ []) (read.placed (start + length signature) (omega arith)))
 
 -- what is held of a longer file
 pub holds_longer : (front rest signature : List ℕ) (place : Place) (found : Signature) → file_fault front ≡ None → signature_place front ≡ Ok (Some place) → length front ≤ place.dataoff → IsReadAt place.dataoff signature found → HasSignature (front ++ rest) place signature → HoldsSignature (front ++ rest) found

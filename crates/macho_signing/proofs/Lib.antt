@@ -2,6 +2,7 @@ pub mod CheckLaws
 pub mod DifferenceLaws
 pub mod FitLaws
 pub mod FrontLaws
+pub mod JoinedLaws
 pub mod LaidParts
 pub mod PartLaws
 pub mod PartSteps

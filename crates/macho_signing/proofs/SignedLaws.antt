@@ -42,7 +42,7 @@ part_shows pages old new pass are renewed =
 
 -- ## All parts
 
-abbrev ArePlacedIn : List ℕ → Part → Type 0
+abbrev pub ArePlacedIn : List ℕ → Part → Type 0
 ArePlacedIn bytes p = AreSlotsPlaced (part_bytes bytes p)
 
 module _ (pages : Pages) (bytes : List ℕ) (parts : List Part) (are : AreParts (length bytes) parts) (placed : All (ArePlacedIn bytes) parts) where
@@ -74,7 +74,7 @@ module _ (pages : Pages) (bytes : List ℕ) (parts : List Part) (are : AreParts 
   long = length-laid all_slots bytes slots_lie
 
 -- a file is signed anew
-signed : (pages : Pages) (bytes : List ℕ) (parts : List Part) (slots : List Slot) → parts ≡ parts_of bytes → AreParts (length bytes) parts → All (ArePlacedIn bytes) parts → slots ≡ flat_map (part_slots pages bytes) parts → IsSigned pages bytes (laid slots bytes)
+pub signed : (pages : Pages) (bytes : List ℕ) (parts : List Part) (slots : List Slot) → parts ≡ parts_of bytes → AreParts (length bytes) parts → All (ArePlacedIn bytes) parts → slots ≡ flat_map (part_slots pages bytes) parts → IsSigned pages bytes (laid slots bytes)
 signed pages bytes parts slots is are placed made =
     let P : List Slot → Type 0 = λ l. IsSigned pages bytes (laid l bytes) in
     let Q : List Part → Type 0 = λ l. All (IsSignedPart pages bytes (laid (flat_map (part_slots pages bytes) parts) bytes)) l in
@@ -88,7 +88,7 @@ signed pages bytes parts slots is are placed made =
 
 -- ## What a parse finds
 
-passes_at : (pages : Pages) (bytes : List ℕ) (parts : List Part) → first_fault (part_fault pages bytes) parts ≡ None → All (λ p. file_fault (part_bytes bytes p) ≡ None) parts
+pub passes_at : (pages : Pages) (bytes : List ℕ) (parts : List Part) → first_fault (part_fault pages bytes) parts ≡ None → All (λ p. file_fault (part_bytes bytes p) ≡ None) parts
 passes_at pages bytes [] none = All-nil _
 passes_at pages bytes (p ∷ parts) none =
     let both = first_none (part_fault pages bytes p) (first_fault (part_fault pages bytes) parts) none in
@@ -96,7 +96,7 @@ passes_at pages bytes (p ∷ parts) none =
     (renewal_passes (pages_in pages p) (part_bytes bytes p) both.0).0
     (passes_at pages bytes parts both.1)
 
-parts_show : (pages : Pages) (old new : List ℕ) (parts : List Part) → All (ArePlacedIn old) parts → All (λ p. file_fault (part_bytes old p) ≡ None) parts → All (IsSignedPart pages old new) parts → All (λ p. ShowsSame (part_bytes old p) (part_bytes new p)) parts
+pub parts_show : (pages : Pages) (old new : List ℕ) (parts : List Part) → All (ArePlacedIn old) parts → All (λ p. file_fault (part_bytes old p) ≡ None) parts → All (IsSignedPart pages old new) parts → All (λ p. ShowsSame (part_bytes old p) (part_bytes new p)) parts
 parts_show pages old new parts placed pass renewed = λ k e here.
     let p : Part = get_or parts k e in
     part_shows (pages_in pages p) (part_bytes old p) (part_bytes new p) (pass k e here) (placed k e here) (renewed k e here)
@@ -108,7 +108,7 @@ same_shape : (old new : List ℕ) → length new ≡ length old → number_at Bi
 same_shape old new same magic = rw (same, magic) refl
 
 -- a fat file: all up to the table's end is outside its slices
-fat_parts : (bytes : List ℕ) → begins_fat bytes ≡ true → (parts_of bytes ≡ map slice_part (archs_of bytes)) × (parts_fault bytes ≡ None → table_fault bytes ≡ None)
+pub fat_parts : (bytes : List ℕ) → begins_fat bytes ≡ true → (parts_of bytes ≡ map slice_part (archs_of bytes)) × (parts_fault bytes ≡ None → table_fault bytes ≡ None)
 unfolding parts_of parts_fault
 fat_parts bytes fat = rw fat (refl, λ none. no_check (table_fault bytes) none)
 
@@ -125,7 +125,7 @@ fat_shape pages old new fat none is =
     (same_shape old new is.long (number_same Big 4 0 end old new front (omega arith)), λ _. table_same old new pass is.long front)
 
 -- a thin one
-thin_parts : (bytes : List ℕ) → begins_fat bytes ≡ false → parts_of bytes ≡ record { offset = 0; size = length bytes } ∷ []
+pub thin_parts : (bytes : List ℕ) → begins_fat bytes ≡ false → parts_of bytes ≡ record { offset = 0; size = length bytes } ∷ []
 unfolding parts_of
 thin_parts bytes thin = rw thin refl
 
@@ -145,7 +145,7 @@ thin_shape old new thin same shown =
       λ fat. absurd (both_ways (begins_fat old) thin fat),
     )
 
-shows : (pages : Pages) (old new : List ℕ) → parts_fault old ≡ None → IsSigned pages old new → All (λ p. ShowsSame (part_bytes old p) (part_bytes new p)) (parts_of old) → FileShowsSame old new
+pub shows : (pages : Pages) (old new : List ℕ) → parts_fault old ≡ None → IsSigned pages old new → All (λ p. ShowsSame (part_bytes old p) (part_bytes new p)) (parts_of old) → FileShowsSame old new
 shows pages old new none is shown =
     let shape : Shape old new = elim (cases_Bool (begins_fat old)) [
       | inl fat ↦ fat_shape pages old new fat none is
@@ -161,7 +161,7 @@ Made pages bytes parts r =
     (λ made. (first_fault (part_fault pages bytes) parts ≡ None) × (made.slots.items ≡ flat_map (part_slots pages bytes) parts) × (made.are_some_left ≡ list_any (has_identity_in bytes) parts) × All (ArePlacedIn bytes) parts)
     (λ e. e ≢ Memory → first_fault (part_fault pages bytes) parts ≡ Some e)
 
-fault_is : (pages : Pages) (bytes : List ℕ) (parts : List Part) (found : Option SigningFault) → parts_fault bytes ≡ None → parts ≡ parts_of bytes → first_fault (part_fault pages bytes) parts ≡ found → signing_fault pages bytes ≡ found
+pub fault_is : (pages : Pages) (bytes : List ℕ) (parts : List Part) (found : Option SigningFault) → parts_fault bytes ≡ None → parts ≡ parts_of bytes → first_fault (part_fault pages bytes) parts ≡ found → signing_fault pages bytes ≡ found
 unfolding signing_fault
 fault_is pages bytes parts found none is told =
     let P : List Part → Type 0 = λ l. first_fault (part_fault pages bytes) l ≡ found in

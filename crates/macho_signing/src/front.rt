@@ -1,8 +1,8 @@
 //! The slots of a thin file that are made anew behind an edit of its front, told by the front and the signature alone.
-ghost use Rattle.std.specs.Prelude.{ℕ, ◌≡◌, ◌<◌, ◌≤◌, ◌^◌, ◌++◌, All, IfOk, IfSome, IsTrue, List, None, Ok, OnOk, Some, length};
+ghost use Rattle.std.specs.Prelude.{ℕ, ◌≡◌, ◌<◌, ◌≤◌, ◌+◌, ◌++◌, All, IfOk, IfSome, IsTrue, List, None, Ok, OnOk, Some, length};
 ghost use Rattle.macho_image.specs.Checks.{file_fault};
 ghost use Rattle.macho_signatures.specs.Pages.{page_end};
-ghost use Rattle.macho_signatures.specs.Renewed.{is_touched, renewed_slots, slots_in};
+ghost use Rattle.macho_signatures.specs.Renewed.{SlotLies, is_touched, renewed_slots, slots_in};
 ghost use Rattle.macho_signatures.specs.Signature.{HasPages, LiesIn};
 ghost use Rattle.macho_signing.specs.Front.{AreEdits, EndsWithin, HasSignature, IsReadAt, SignsThin};
 ghost use Rattle.macho_signing.specs.Place.{signature_place};
@@ -15,8 +15,8 @@ use std::alloc::{AllocError, Global};
 
 /// The slots of a thin file that are made anew behind an edit of its front: `old` are its first bytes before the edit, `new`
 /// the same behind it, and `signature` those of its signature, which the load commands of `new` tell of. They are the slots
-/// of the pages in which a byte differs. `None` where these bytes don't tell them: a check of the signature fails, it
-/// begins in the front, or a page begins in the front and ends behind it. Error: `AllocError`.
+/// of the pages in which a byte differs. `None` where these bytes don't tell them: a check of the signature fails, or a
+/// page begins in the front and ends behind it. Error: `AllocError`.
 pub fn front_slots(
     alloc: Global,
     old: &[u8],
@@ -27,13 +27,13 @@ pub fn front_slots(
     requires long { length old.now ≡ length new.now }
     requires accepted { file_fault new.now ≡ None }
     requires told { signature_place new.now ≡ Ok (Some place) }
-    ensures { IfOk result (λ found. IfSome found (λ made. (rest : List ℕ)
+    requires behind { length new.now ≤ place.dataoff }
+    ensures lie { IfOk result (λ found. IfSome found (λ made.
+        All (SlotLies (place.dataoff + length signature.now)) made.slots.items)) }
+    ensures signs { IfOk result (λ found. IfSome found (λ made. (rest : List ℕ)
         → HasSignature (new.now ++ rest) place signature.now
         → SignsThin (since (old.now ++ rest)) (new.now ++ rest) made)) }
 {
-    if (place.dataoff as usize) < new.len() {
-        return Ok(None);
-    }
     let Some(signature) = signature_at(alloc, signature, place.dataoff)? else {
         return Ok(None);
     };
