@@ -219,7 +219,7 @@ pub record SignsEdits (a : Asked) (file : List ℕ) (patches : List Patch) (arch
   pub parts : parts_of file ≡ map slice_part archs
   pub each : AllZip (SignsSlice file edited) archs signs
 
-renews : (choice : Signing) (meaning : MachoMeaning) (file : List ℕ) (patches slots : List Patch) (archs : List FatArch) (signs : List SignedFront) (left : Bool) → signs_of choice meaning ≡ Touched → SignsEdits (asked meaning) file patches archs signs → slots ≡ flat_map slots_of signs → left ≡ list_any left_in signs → RenewsFile choice meaning file (patches ++ slots) left
+pub renews : (choice : Signing) (meaning : MachoMeaning) (file : List ℕ) (patches slots : List Patch) (archs : List FatArch) (signs : List SignedFront) (left : Bool) → signs_of choice meaning ≡ Touched → SignsEdits (asked meaning) file patches archs signs → slots ≡ flat_map slots_of signs → left ≡ list_any left_in signs → RenewsFile choice meaning file (patches ++ slots) left
 unfolding signed_slots
 renews choice meaning file patches slots archs signs left touched by slots_is told =
     let a : Asked = asked meaning in
@@ -245,7 +245,7 @@ renews choice meaning file patches slots archs signs left touched by slots_is to
     }
 
 -- a fat one
-fat_signs : (a : Asked) (known : Option (List ℕ)) (file : List ℕ) (start : ℕ) (archs : List FatArch) (patches : List Patch) (all : List EditedSlice) (signs : List SignedFront) → known ≡ Some file → HasSlices file archs → AreRising start (length file) archs → AreSliceFronts file archs (map front_in all) → All (IsMade a) all → patches ≡ flat_map slice_patches all → map front_in all ≡ map signed_front_in signs → map edited_bytes all ≡ map new_in signs → All (IsSignedFront known) signs → outcome_of a file ≡ new_bytes (laid patches file) → ShowsEdited a file (laid patches file) → SignsEdits a file patches archs signs
+pub fat_signs : (a : Asked) (known : Option (List ℕ)) (file : List ℕ) (start : ℕ) (archs : List FatArch) (patches : List Patch) (all : List EditedSlice) (signs : List SignedFront) → known ≡ Some file → HasSlices file archs → AreRising start (length file) archs → AreSliceFronts file archs (map front_in all) → All (IsMade a) all → patches ≡ flat_map slice_patches all → map front_in all ≡ map signed_front_in signs → map edited_bytes all ≡ map new_in signs → All (IsSignedFront known) signs → outcome_of a file ≡ new_bytes (laid patches file) → ShowsEdited a file (laid patches file) → SignsEdits a file patches archs signs
 fat_signs a known file start archs patches all signs knows has rising fronts made patches_are same news signed is shows =
     let by : PartsBy shows.calls file archs all = parts_by a shows.calls file archs all shows.are fronts made in
     let Rising : List FatArch → Type 0 = AreRising start (length file) in
@@ -269,7 +269,7 @@ fat_signs a known file start archs patches all signs knows has rising fronts mad
     }
 
 -- a thin one
-thin_signs : (a : Asked) (known : Option (List ℕ)) (file : List ℕ) (n : ℕ) (all : List EditedSlice) (signs : List SignedFront) → known ≡ Some file → length file ≡ n → n < 2 ^ 32 → AreSliceFronts file (whole_arch n ∷ []) (map front_in all) → All (IsMade a) all → map front_in all ≡ map signed_front_in signs → map edited_bytes all ≡ map new_in signs → All (IsSignedFront known) signs → SignsEdits a file (flat_map slice_patches all) (whole_arch n ∷ []) signs
+pub thin_signs : (a : Asked) (known : Option (List ℕ)) (file : List ℕ) (n : ℕ) (all : List EditedSlice) (signs : List SignedFront) → known ≡ Some file → length file ≡ n → n < 2 ^ 32 → AreSliceFronts file (whole_arch n ∷ []) (map front_in all) → All (IsMade a) all → map front_in all ≡ map signed_front_in signs → map edited_bytes all ≡ map new_in signs → All (IsSignedFront known) signs → SignsEdits a file (flat_map slice_patches all) (whole_arch n ∷ []) signs
 thin_signs a known file n [] signs knows long short fronts made same news signed = absurd fronts
 thin_signs a known file n (e ∷ e' ∷ all) signs knows long short fronts made same news signed = absurd fronts.1
 thin_signs a known file n (e ∷ []) [] knows long short fronts made same news signed = let no : e.front ∷ [] ≡ [] = same in absurd (cc)

@@ -148,6 +148,7 @@ renewed_inside a known read news patches slots left is makes signs =
 -- ---- the file
 
 signs_edits : (a : Asked) (known : Option (List ℕ)) (read : SliceFronts) (news : List (List ℕ)) (patches : List Patch) (file : List ℕ) (all : List SignedFront) → AreFrontsRead known read → MakesEdited a read.fronts.items news patches → map signed_front_in all ≡ read.fronts.items → map new_in all ≡ news → All (IsSignedFront known) all → known ≡ Some file → (archs : List FatArch) × SignsEdits a file patches archs all
+unfolding was_read
 signs_edits a known read news patches file all (inl is) makes fronts_are news_are signed knows =
     let r = was_read known read (inl is) in
     let has = is.has file knows in
@@ -235,6 +236,7 @@ thin_tells a file n fronts before behind front e long short are is tells =
         subst Tell (sym (front_outcome Nothing a front.bytes.items file of refl)) (tells_with_rest zip.0.is.rest (outcome_of a front.bytes.items) e tells)
 
 file_tells : (a : Asked) (known : Option (List ℕ)) (read : SliceFronts) (file : List ℕ) (e : MachoCommandError) → AreFrontsRead known read → RefusesFronts a read.fronts.items e → known ≡ Some file → Tells (outcome_of a file) e
+unfolding was_read
 file_tells a known read file e (inl is) refuses knows =
     sliced_tells a file is.archs read.fronts.items e (is.has file knows).0 (slice_fronts known read file (was_read known read (inl is)) knows) refuses
 file_tells a known read file e (inr is) refuses knows =

@@ -1,7 +1,7 @@
 -- Edits of a fat file by the fronts of its slices, in the order in which they are made.
 use Rattle.std.proofs.Common.{◌≡◌, ◌≢◌, ◌≤◌, ◌<◌, ◌^◌, ◌+◌, ◌∙◌, ◌⊎◌, ◌||◌, ℕ, inl, inr, Bool, true, false, List, [], ◌∷◌, ◌++◌, length, take, drop, map, get_or, append_assoc, Option, Some, refl, sym, ap, subst, arith}
 use Rattle.std.specs.List.{All, list_any}
-use Rattle.std.proofs.lemmas.List.{append-nil, drop_more, flat_map_more, length-drop, length-take-le, map-append, take-append-drop, take-take, take_more}
+use Rattle.std.proofs.lemmas.List.{append-nil, drop_more, flat_map_more, length-drop, length-take-le, map-append, take-append-drop, take-append-le, take-take, take_all, take_more}
 use Rattle.std.proofs.lemmas.List.Elements.{All-append, All-cons, All-head, All-nil, All-tail}
 use Rattle.std.proofs.lemmas.List.Folds.{list_any-append}
 use Rattle.arwen_macho.specs.Fronts.{fronts_on}
@@ -111,6 +111,10 @@ edited_more a fronts i front edited news nexts old new inside is makes adds push
           ∙ flat_map_more slice_patches [] makes.all slice;
       each = All-append (IsMade a) makes.all (slice ∷ []) makes.each (All-cons (IsMade a) slice [] adds.2 (All-nil (IsMade a)));
     }
+
+-- a slice that was written through is its Vec
+pub written_back : (n : ℕ) (new items : List ℕ) → n ≤ length new → length new ≤ n → take n (new ++ drop (length new) items) ≡ new
+written_back n new items few many = take-append-le n new (drop (length new) items) few ∙ take_all n new many
 
 pub refuses_at : (a : Asked) (fronts : List SliceFront) (i : ℕ) (front : SliceFront) (patches : List Patch) (e : MachoCommandError) → i < length fronts → front ≡ get_or fronts i front → MakesFronts a (take i fronts) patches → Tells (outcome_of a front.bytes.items) e → RefusesFronts a fronts e
 refuses_at a fronts i front patches e inside is makes tells = record {
