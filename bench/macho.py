@@ -7,14 +7,16 @@ Each file is made in bench/made, which git ignores. Each timed run works on a fr
 outside the timed part. The times are medians of N runs (5), and all runs of one call stand side by side:
 each round times every program once. `cp --reflink=never` writes onto a file that is there already. The
 peak is the largest resident size of one more run, as GNU time tells it. Last, `strace` counts the bytes that
-one edit of the largest file writes, and shows that no open cuts a file.
+one edit of the largest file writes, and shows that no open cuts a file. Files whose name begins with `signed` have an
+ad-hoc code signature: they are edited with `--sign`, and `arwen macho sign` of each is timed beside `sha256sum`.
 
 The targets: of the files of 300 MB at most 0.02 times the time of cp, of all large ones at most 8 MB of memory, of
-the small one at most 0.2 times the time of LLVM's tool, and at most 64 KB written. The status is 1 where one is
+the small one at most 0.2 times the time of LLVM's tool, `sign` at most 3 times the time of sha256sum, and at most 64 KB written. The status is 1 where one is
 missed, 2 where a program is missing or fails. A target whose tool is not there is named as not checked.
 """
 
 import argparse
+import hashlib
 import os
 import re
 import shutil
@@ -47,14 +49,51 @@ FILES = {
     "fat-50": (50 * MEGABYTE, 2, None, None, MOST_MEMORY),
     "thin-300": (300 * MEGABYTE, 1, 0.02, None, MOST_MEMORY),
     "fat-300": (300 * MEGABYTE, 2, 0.02, None, MOST_MEMORY),
+    "signed-thin-300": (300 * MEGABYTE, 1, 0.02, None, MOST_MEMORY),
+    "signed-fat-300": (300 * MEGABYTE, 2, 0.02, None, MOST_MEMORY),
 }
+
+# The bytes of a page of a signed file, and the most times of sha256sum that `sign` may take.
+PAGE = 4096
+MOST_HASHING = 3
+IDENTIFIER = b"bench\0"
 
 # The file whose writes are counted, and the most bytes that they may have together.
 COUNTED = "thin-300"
 MOST_WRITTEN = 64 * 1024
 
 
-def head(size):
+def is_signed(name):
+    return name.startswith("signed")
+
+
+def signature_of(pages):
+    """An ad-hoc code signature of pages with these hashes, the last of which ends where the signature begins: the number of
+    pages and where they end are told by `pages`, a pair of the hashes and that place."""
+    hashes, limit = pages
+    slots = 88 + len(IDENTIFIER)
+    length = slots + 32 * len(hashes)
+    fields = (0xFADE0C02, length, 0x20400, 2, slots, 88, 0, len(hashes), limit)
+    directory = struct.pack(">9I", *fields) + bytes([32, 2, 0, 12]) + bytes(88 - 40) + IDENTIFIER + b"".join(hashes)
+    return struct.pack(">5I", 0xFADE0CC0, 20 + length, 1, 0, 20) + directory
+
+
+def signature_size(limit):
+    """How many bytes that has, for so many signed bytes."""
+    return len(signature_of(([bytes(32)] * -(-limit // PAGE), limit)))
+
+
+def sign_at(out, offset, limit):
+    """Puts a signature behind the bytes of a program that begins at an offset, for all of them."""
+    hashes = []
+    for at in range(0, limit, PAGE):
+        out.seek(offset + at)
+        hashes.append(hashlib.sha256(out.read(min(PAGE, limit - at))).digest())
+    out.seek(offset + limit)
+    out.write(signature_of((hashes, limit)))
+
+
+def head(size, signed=False):
     """The bytes before the code of a program of about this size, and those behind it."""
     form = make.Form(64, "<")
     base = 0x100000000
@@ -62,22 +101,28 @@ def head(size):
     code_size = size - code_at
     code = make.section(form, b"__text", b"__TEXT", base + code_at, code_size, code_at)
     table, link_data = make.symbol_table(form, size, b"_main", base + code_at)
+    link_data = link_data.ljust(-(-len(link_data) // 16) * 16, b"\0")
+    limit = size + len(link_data)
+    signature = signature_size(limit) if signed else 0
+    linked = len(link_data) + signature
     commands = [
         make.segment(form, b"__PAGEZERO", 0, base, 0, 0, 0),
         make.segment(form, b"__TEXT", base, size, 0, size, 5, [code]),
-        make.segment(form, b"__LINKEDIT", base + size, 0x1000, size, len(link_data), 1),
+        make.segment(form, b"__LINKEDIT", base + size, -(-linked // PAGE) * PAGE, size, linked, 1),
         table,
         make.dylib(form, make.LC_LOAD_DYLIB, make.SYSTEM_LIBRARY),
     ]
+    if signed:
+        commands.append(form.pack("IIII", 0x1D, 16, limit, signature))
     area = b"".join(commands)
     fields = (0xFEEDFACF, *make.X86_64, make.MH_EXECUTE, len(commands), len(area), make.MH_FLAGS)
     header = form.pack("IIIIIII", *fields)
     return (header.ljust(form.header_size, b"\0") + area).ljust(code_at, b"\0"), link_data
 
 
-def write_thin(out, size):
-    """Writes a program of about this size, whose code is a pattern."""
-    front, link_data = head(size)
+def write_thin(out, size, signed=False):
+    """Writes a program of about this size, whose code is a pattern; answers how many bytes it has, apart from a signature."""
+    front, link_data = head(size, signed)
     pattern = bytes(range(256)) * (MEGABYTE // 256)
     out.write(front)
     left = size - len(front)
@@ -87,22 +132,26 @@ def write_thin(out, size):
     return size + len(link_data)
 
 
-def write_fat(out, size, count):
-    """Writes a fat file of so many programs, together of about this size."""
+def write_fat(out, size, count, signed=False):
+    """Writes a fat file of so many programs, together of about this size; answers where they begin, and how many bytes each
+    has, apart from a signature."""
     one = size // count // 4096 * 4096 - 4096
-    length = one + len(head(one)[1])
-    offsets = [4096 + at * (one + 4096) for at in range(count)]
+    limit = one + len(head(one, signed)[1])
+    length = limit + (signature_size(limit) if signed else 0)
+    offsets = [4096 + at * (-(-length // 4096) * 4096) for at in range(count)]
     processors = [make.X86_64, make.ARM64][:count]
     out.write(struct.pack(">II", 0xCAFEBABE, count))
     for processor, offset in zip(processors, offsets):
         out.write(struct.pack(">IIIII", *processor, offset, length, 12))
     for processor, offset in zip(processors, offsets):
         out.write(bytes(offset - out.tell()))
-        write_thin(out, one)
+        write_thin(out, one, signed)
+        out.write(bytes(length - limit))
         end = out.tell()
         out.seek(offset + 4)
         out.write(struct.pack("<II", *processor))
         out.seek(end)
+    return offsets, limit
 
 
 def make_file(name):
@@ -112,13 +161,17 @@ def make_file(name):
     if os.path.exists(path):
         return path
     os.makedirs(WORK, exist_ok=True)
-    with open(path + ".part", "wb") as out:
+    signed = is_signed(name)
+    with open(path + ".part", "wb+") as out:
+        offsets, limit = [], 0
         if size == 0:
             out.write(make.files()["hello"])
         elif slices == 1:
-            write_thin(out, size)
+            offsets, limit = [0], write_thin(out, size, signed)
         else:
-            write_fat(out, size, slices)
+            offsets, limit = write_fat(out, size, slices, signed)
+        for offset in offsets if signed else []:
+            sign_at(out, offset, limit)
     os.replace(path + ".part", path)
     return path
 
@@ -157,11 +210,16 @@ def fresh_copy(path):
     return copy
 
 
-def measure(path, runs, tool):
+def edit_of(name, copy):
+    """The words of an edit of a copy of a file."""
+    return [PROGRAM, "macho", "add-rpath", *(["--sign"] if is_signed(name) else []), RUN_PATH, copy]
+
+
+def measure(name, path, runs, tool):
     """The median times of arwen, cp and LLVM's tool (None where it is not there), and arwen's peak."""
     copy = os.path.join(WORK, "copy")
     programs = {
-        "arwen": [PROGRAM, "macho", "add-rpath", RUN_PATH, copy],
+        "arwen": edit_of(name, copy),
         "cp": ["cp", "--reflink=never", path, copy],
     }
     if tool:
@@ -189,7 +247,7 @@ def compare(name, options, tool):
     _, _, most_time, most_llvm, most_memory = FILES[name]
     path = make_file(name)
     size = os.path.getsize(path)
-    arwen, cp, llvm, peak = measure(path, options.runs, tool)
+    arwen, cp, llvm, peak = measure(name, path, options.runs, tool)
     ratios = [(arwen / cp, most_time)]
     if llvm:
         ratios.append((arwen / llvm, most_llvm))
@@ -205,6 +263,26 @@ def compare(name, options, tool):
         flush=True,
     )
     return any(most is not None and value > most for value, most in ratios)
+
+
+def hash_all(name, runs):
+    """Times `sign` of a file beside sha256sum, prints the ratio, and answers whether it is past its target."""
+    path = make_file(name)
+    copy = os.path.join(WORK, "copy")
+    signs, sums = [], []
+    for _ in range(runs):
+        fresh_copy(path)
+        signs.append(timed([PROGRAM, "macho", "sign", copy]))
+        start = time.perf_counter()
+        subprocess.run(["sha256sum", copy], stdout=subprocess.DEVNULL, check=True)
+        sums.append(time.perf_counter() - start)
+    os.remove(copy)
+    sign, whole = statistics.median(signs), statistics.median(sums)
+    print(
+        f"{name}: sign {sign * 1000:.1f} ms, sha256sum {whole * 1000:.1f} ms, to sha256sum {verdict(sign / whole, MOST_HASHING)}",
+        flush=True,
+    )
+    return sign > MOST_HASHING * whole
 
 
 def calls_of(name):
@@ -257,7 +335,10 @@ def main():
     missed = False
     for name in FILES:
         if options.only in name:
-            missed = compare(name, options, tool) or missed
+            missed = compare(name, options, None if is_signed(name) else tool) or missed
+    for name in FILES:
+        if options.only in name and is_signed(name):
+            missed = hash_all(name, options.runs) or missed
     if not shutil.which("strace"):
         unchecked.append("the bytes written")
     elif options.only in COUNTED:

@@ -1,19 +1,16 @@
 -- What comes of a file whose slots are made anew, told by the fronts of its slices and by its signatures.
-use Rattle.std.proofs.Common.{◌≡◌, ◌≤◌, ◌<◌, ◌^◌, ◌+◌, ◌∙◌, ◌||◌, ℕ, inl, inr, if◌then◌else◌, Bool, true, false, List, [], ◌∷◌, ◌++◌, length, take, drop, map, None, Option, Some, Ok, refl, sym, ap, subst, arith}
+use Rattle.std.proofs.Common.{◌≡◌, ◌≤◌, ◌<◌, ◌^◌, ◌+◌, ◌∙◌, ℕ, if◌then◌else◌, Bool, true, false, List, [], ◌∷◌, ◌++◌, length, take, drop, map, None, Option, Some, refl, sym, ap, subst, arith}
 use Rattle.std.specs.List.{All, AllZip, flat_map, list_any}
-use Rattle.std.proofs.lemmas.Bool.{cases_Bool}
 use Rattle.std.proofs.lemmas.List.{append-nil, length-append, map-append, take_all}
 use Rattle.std.proofs.lemmas.List.Elements.{All-cons, All-head, All-nil, All-tail}
 use Rattle.byte_store.proofs.LaidLaws.{laid-append as laid-both, length-laid}
-use Rattle.byte_store.specs.Known.{put_at}
-use Rattle.byte_store.specs.Laid.{LiesIn, Patch, laid}
+use Rattle.byte_store.specs.Laid.{Patch, laid}
 use Rattle.byte_store.specs.Shown.{shifted}
 use Rattle.arwen_macho.proofs.ForCallers.{AreShown, shown-laid_over}
 use Rattle.arwen_macho.specs.FatState.{Slice, bytes_laid_over}
 use Rattle.arwen_macho.specs.Found.{Found, begins_fat, container_found, fat_found, found_fault, found_first, slices_found}
 use Rattle.arwen_macho.specs.Found.Found.{fault}
 use Rattle.macho_edits.specs.Call.{Call}
-use Rattle.macho_edits.specs.State.{laid_bytes}
 use Rattle.macho_image.specs.Checks.{file_fault}
 use Rattle.macho_image.specs.Fat.{archs_of, slice_of, table_fault}
 use Rattle.macho_image.specs.declared.fat.FatArch.{FatArch}
@@ -27,7 +24,7 @@ use Rattle.macho_signing.specs.declared.fault.SigningFault.{SigningFault}
 use Rattle.macho_signing.specs.declared.file.Part.{Part as FilePart}
 use Rattle.macho_signing.proofs.JoinedLaws.{SignsParts, signs_parts}
 use Rattle.macho_signing.proofs.SignedLaws.{ArePlacedIn}
-use Rattle.macho_commands_signing.proofs.ForCallers.{IsKept, edit_keeps}
+use Rattle.macho_commands_signing.proofs.ForCallers.{edit_keeps}
 use Rattle.macho_commands_signing.proofs.PieceLaws.{with_slot-is}
 use Rattle.macho_commands_signing.proofs.StepSignature.{fat_parts, thin_parts}
 use Rattle.macho_commands_signing.proofs.SliceLaws.{rising_within}
@@ -35,7 +32,7 @@ use Rattle.macho_commands_signing.specs.Loading.{IsFrontOf}
 use Rattle.macho_commands_signing.specs.Renewing.{IsSignedFront, SignedFront, SignsFront, slot_patch, slots_of}
 use Rattle.macho_commands_signing.specs.Slices.{AreRising, HasSlices, whole_arch}
 use Rattle.macho_commands_signing.specs.declared.slices.SliceFront.{SliceFront}
-use Rattle.macho_commands.specs.Engine.{AreAsked, Asked, IsSignedOutcome, Outcome, ShowsBy, ShowsEdited, ShowsSigned, asked, outcome, outcome_by, outcome_of, sign_on, signs_of}
+use Rattle.macho_commands.specs.Engine.{AreAsked, Asked, IsSignedOutcome, ShowsBy, ShowsEdited, ShowsSigned, asked, outcome, outcome_by, outcome_of, signs_of}
 use Rattle.macho_commands.specs.Engine.Outcome.{bytes as new_bytes}
 use Rattle.macho_commands.specs.Loading.{with_rest}
 use Rattle.macho_commands.specs.Meaning.{MachoMeaning}
@@ -299,8 +296,8 @@ thin_signs a known file n (e ∷ []) (s ∷ []) knows long short fronts made sam
     record {
       edited = edited;
       is = sym (ap (λ (l : List Patch). laid l file) (append-nil (slice_patches e))
-      ∙ ap (λ (k : ℕ). laid (map (shifted k) e.here) file) is.offset
-      ∙ ap (laid (map (shifted 0) e.here)) (sym joined) ∙ laid_mid e.here [] front rest here.inside);
+          ∙ ap (λ (k : ℕ). laid (map (shifted k) e.here) file) is.offset
+          ∙ ap (laid (map (shifted 0) e.here)) (sym joined) ∙ laid_mid e.here [] front rest here.inside);
       made = front_outcome Nothing a front file of refl ∙ ap (with_rest rest) here.is;
       shows = front_shows Nothing a front file (edited_bytes e) of refl here.shows;
       parts = thin_parts file thin ∙ ap (λ (k : ℕ). record { offset = 0; size = k } ∷ []) long;

@@ -1,6 +1,6 @@
 -- A run over a store, of whose file the fronts and the signatures were read, and slots are made anew.
-use Rattle.std.proofs.Common.{◌≡◌, ◌≤◌, ◌<◌, ◌^◌, ◌+◌, ◌∙◌, ◌⊎◌, ℕ, inl, inr, Bool, List, [], ◌∷◌, ◌++◌, length, map, None, Option, Some, refl, sym, ap, subst, arith}
-use Rattle.std.specs.List.{All, flat_map, list_any}
+use Rattle.std.proofs.Common.{◌≡◌, ◌≤◌, ◌<◌, ◌^◌, ◌+◌, ◌∙◌, ◌⊎◌, ℕ, inl, inr, Bool, List, [], ◌∷◌, ◌++◌, length, map, Option, Some, refl, sym, ap, subst, arith}
+use Rattle.std.specs.List.{All, flat_map}
 use Rattle.std.proofs.lemmas.List.{take_all}
 use Rattle.std.proofs.lemmas.List.Elements.{All-append, All-cons, All-head, All-nil, All-tail}
 use Rattle.byte_store.proofs.LaidLaws.{length-laid}
@@ -13,18 +13,15 @@ use Rattle.command_words.specs.declared.noting.Notes.{Notes}
 use Rattle.command_words.specs.declared.noting.Notes.TheVariants.{LeftOut, Wanted}
 use Rattle.macho_image.specs.Fat.{table_end}
 use Rattle.macho_image.specs.declared.fat.FatArch.{FatArch}
-use Rattle.macho_signatures.specs.Pages.{hash_bytes}
 use Rattle.macho_signatures.specs.Renewed.{SlotLies}
 use Rattle.macho_signatures.specs.declared.renewal.Slot.{Slot}
 use Rattle.macho_commands_signing.proofs.SliceLaws.{rising_within}
 use Rattle.macho_commands_signing.specs.Loading.{IsFrontOf}
 use Rattle.macho_commands_signing.specs.Renewing.{AreAsLong, IsLow, IsSignedFront, SignedFront, SignsFronts, slot_patch, slots_of}
-use Rattle.macho_commands_signing.specs.Slices.{AreFrontsOf, AreFrontsRead, AreRising, AreSlicesRead, IsThinRead, whole_arch}
+use Rattle.macho_commands_signing.specs.Slices.{AreFrontsOf, AreFrontsRead, AreRising, whole_arch}
 use Rattle.macho_commands_signing.specs.declared.slices.SliceFront.{SliceFront}
 use Rattle.macho_commands_signing.specs.declared.slices.SliceFronts.{SliceFronts}
-use Rattle.macho_commands.specs.Engine.{Asked, MayFail, Outcome, Tells, asked, outcome, outcome_of, signs_of}
-use Rattle.macho_commands.specs.Engine.Outcome.{bytes as new_bytes}
-use Rattle.macho_commands.specs.Loading.{with_rest}
+use Rattle.macho_commands.specs.Engine.{Asked, MayFail, Outcome, Tells, asked, outcome_of, signs_of}
 use Rattle.macho_commands.specs.Meaning.{MachoMeaning, file_of}
 use Rattle.macho_commands.specs.Notes.{TellsBy, TellsLeft, TellsWantedAt, left_line}
 use Rattle.macho_commands.specs.Sliced.{EditedSlice, IsLoadedFront, IsMade, MakesEdited, MakesFronts, RefusesFronts, edited_bytes, slice_patches}
@@ -34,7 +31,7 @@ use Rattle.macho_commands.specs.declared.signing.Signing.{Signing}
 use Rattle.macho_commands.specs.declared.signing.Signs.{Signs}
 use Rattle.macho_commands.specs.declared.signing.Signs.TheVariants.{Nothing, Touched}
 use Rattle.macho_commands.proofs.LoadedLaws.{front_outcome, tells_with_rest}
-use Rattle.macho_commands.proofs.RenewedLaws.{RenewsFile, SignsEdits, fat_signs, front_in, left_in, new_in, renews, signed_front_in, thin_signs}
+use Rattle.macho_commands.proofs.RenewedLaws.{RenewsFile, SignsEdits, fat_signs, front_in, new_in, renews, signed_front_in, thin_signs}
 use Rattle.macho_commands.proofs.SigningLaws.{tells_signed}
 use Rattle.macho_commands.proofs.SlicedLaws.{AreSliceFronts, sliced_makes, sliced_tells}
 use Rattle.macho_commands.proofs.SlicedRuns.{inside_all, loaded_all, slices_of as fronts_are_of}
@@ -163,9 +160,11 @@ signs_edits a known read news patches file all (inr is) makes fronts_are news_ar
     let r = was_read known read (inr is) in
     let n : ℕ = read.length in
     let Fronts : List SliceFront → Type 0 = AreSliceFronts file (whole_arch n ∷ []) in
-    let Patches : List Patch → Type 0 = λ l. SignsEdits a file l (whole_arch n ∷ []) all in
-    (whole_arch n ∷ [], subst Patches (sym makes.patches_are)
-    (thin_signs a known file n makes.all all knows (is.long file knows) is.short (subst Fronts (sym makes.fronts_are) (slice_fronts known read file r knows)) makes.each (makes.fronts_are ∙ sym fronts_are) (makes.news_are ∙ sym news_are) signed))
+    let Patches : List Patch → Type 0 = λ l. SignsEdits a file l (whole_arch n ∷ []) all in (
+      whole_arch n ∷ [],
+      subst Patches (sym makes.patches_are)
+          (thin_signs a known file n makes.all all knows (is.long file knows) is.short (subst Fronts (sym makes.fronts_are) (slice_fronts known read file r knows)) makes.each (makes.fronts_are ∙ sym fronts_are) (makes.news_are ∙ sym news_are) signed),
+    )
 
 renews_file : (choice : Signing) (meaning : MachoMeaning) (known : Option (List ℕ)) (read : SliceFronts) (news : List (List ℕ)) (patches slots : List Patch) (left : Bool) (file : List ℕ) → signs_of choice meaning ≡ Touched → AreFrontsRead known read → MakesEdited (asked meaning) read.fronts.items news patches → SignsFronts known read.fronts.items news slots left → known ≡ Some file → RenewsFile choice meaning file (patches ++ slots) left
 renews_file choice meaning known read news patches slots left file touched is makes signs knows =

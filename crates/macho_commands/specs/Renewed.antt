@@ -1,5 +1,5 @@
 -- What a command makes of a store that it edits by fronts alone, where these are enough.
-use Rattle.std.specs.Prelude.{ℕ, ◌≡◌, List, None, Option, Some, string_bytes}
+use Rattle.std.specs.Prelude.{ℕ, List, None, Option, Some, string_bytes}
 use Rattle.std.specs.declared.alloc.Global.{Global}
 use Rattle.std.specs.declared.string.String.{String}
 use Rattle.byte_store.specs.Known.{Stays}

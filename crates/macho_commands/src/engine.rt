@@ -18,8 +18,8 @@ use crate::command::MachoCommand;
 use crate::edits::parse_macho_edits;
 use crate::error::MachoCommandError;
 use crate::noting::{left_note, note_wanted, tell};
-use crate::signing::{Signing, Signs};
 use crate::renewed::patch_renewed;
+use crate::signing::{Signing, Signs};
 use crate::sliced::patch_slices;
 use crate::verifying::verify_file;
 use arwen_macho::macho::{Front, MachoBatchError, MachoContainer, MachoEdit, lay_fronts};
@@ -329,12 +329,13 @@ fn alone(alloc: Global, edit: MachoEdit) -> Result<Vec<MachoEdit>, MachoCommandE
     Ok(edits)
 }
 
-/// Edits the bytes of a store in their place. Where no slot of a signature is made anew, the front of a thin file is read:
-/// its first 64 KiB, or else its first MiB, if they hold all load commands and content begins in them; and of a fat file
-/// the table, and such a front of each slice. Of any other file the first `MOST_BYTES` are read. Bytes that change are written, after all that
-/// may be refused or wants memory, and nothing is cut. An edit that changes no byte opens the store for writing too, and
-/// writes nothing. A refusal, and an error of a read, leave the bytes as they were; a write that fails leaves the first of
-/// the bytes that were to be written, in order.
+/// Edits the bytes of a store in their place. The front of a thin file is read: its first 64 KiB, or else its first MiB, if
+/// they hold all load commands and content begins in them; and of a fat file the table, and such a front of each slice.
+/// Where the slots of touched pages are made anew, the bytes of signatures are read too. Of any other file, and for `sign`,
+/// the first `MOST_BYTES` are read; so they are where a touched page ends behind the front, or a signature is refused.
+/// Bytes that change are written, and new slots, after all that may be refused or wants memory, and nothing is cut. An edit
+/// that changes no byte opens the store for writing too, and writes nothing. A refusal, and an error of a read, leave the
+/// bytes as they were; a write that fails leaves the first of the bytes that were to be written, in order.
 ///
 /// Where notes are wanted, the line is answered that tells what a user should know of the edit, of the bytes as they
 /// were, with the command's path; else no text. It is made before anything is written.

@@ -15,9 +15,7 @@ use crate::signing::{Signing, Signs};
 use crate::sliced::{Sliced, edited_fronts};
 use byte_store::{OwnedPiece, Store};
 use command_words::Notes;
-use macho_commands_signing::{
-    SliceFronts, lent_pieces, load_slots, write_changes_of,
-};
+use macho_commands_signing::{SliceFronts, lent_pieces, load_slots, write_changes_of};
 use std::alloc::{AllocError, Global};
 
 /// Edits a file in its place, of whose slices the fronts were read, and makes the slots of the pages that this touches anew,

@@ -61,8 +61,12 @@ pub(crate) fn patch_slices<S: Store>(
     ensures cause { IfErr result (HasCause S.may_fail_read S.may_fail_write S.may_take_none
         (S.contents store.old) (S.failed store.old) (S.failed store.new)) }
 {
-    let Sliced { pieces, text, .. } =
-        edited_fronts(alloc, slices.fronts.as_slice(), command, notes)?;
+    let Sliced { pieces, text, .. } = edited_fronts(
+        alloc,
+        slices.fronts.as_slice(),
+        command,
+        notes,
+    )?;
     let lent = lent_pieces(alloc, pieces.as_slice())?;
     write_changes_of(store, slices.length, lent.as_slice())?;
     Ok(text)

@@ -1,14 +1,13 @@
 -- The slots that are made anew behind edits of the fronts of slices.
 use Rattle.std.proofs.Common.{◌≡◌, ◌≤◌, ◌<◌, ◌^◌, ◌+◌, ◌-◌, ◌∙◌, ◌||◌, ◌⊎◌, inl, inr, ℕ, Bool, true, false, List, [], ◌∷◌, ◌++◌, length, take, drop, map, get_or, Option, None, Some, Ok, refl, sym, ap, subst, arith}
-use Rattle.std.specs.List.{All, flat_map, list_any}
+use Rattle.std.specs.List.{All, list_any}
 use Rattle.std.specs.Prelude.{IfSome}
-use Rattle.std.proofs.lemmas.List.{drop-drop, drop-take, flat_map_more, get_or-map, length-append, length-drop, length-map, length-take, length-take-le, map-append, take-take, take_more}
+use Rattle.std.proofs.lemmas.List.{drop-drop, drop-take, flat_map_more, get_or-map, length-append, length-drop, length-map, length-take-le, map-append, take-take, take_more}
 use Rattle.std.proofs.lemmas.List.Elements.{All-append, All-cons, All-nil}
 use Rattle.std.proofs.lemmas.List.Folds.{list_any-append}
 use Rattle.byte_store.specs.Laid.{Patch}
 use Rattle.byte_store.specs.Shown.{shifted}
 use Rattle.macho_image.specs.Checks.{file_fault}
-use Rattle.macho_signatures.specs.Pages.{hash_bytes}
 use Rattle.macho_signatures.specs.Renewed.{SlotLies}
 use Rattle.macho_signatures.specs.declared.renewal.Slot.{Slot}
 use Rattle.macho_signing.specs.Front.{HasSignature, SignsThin}

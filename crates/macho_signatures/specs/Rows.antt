@@ -1,15 +1,14 @@
 -- A small signature, laid out by hand, and what is wrong with others. Each row is computed. The file has the three bytes "abc", and
 -- behind them a SuperBlob of 98 bytes: 12 of its header, 8 of an entry, and a code directory of 78: 44 of its fields, the
 -- identifier "a" with its NUL, and one slot of 32.
-use Rattle.std.specs.Prelude.{ℕ, ◌+◌, ◌≡◌, Bool, true, false, List, [], ◌∷◌, ◌++◌, replicate, Some, None}
+use Rattle.std.specs.Prelude.{ℕ, ◌≡◌, true, false, List, [], ◌∷◌, ◌++◌, replicate, Some, None}
 use Rattle.patch_bytes.specs.declared.number.ByteOrder2.TheVariants.{Big}
 use Rattle.patch_bytes.specs.Number.{bytes_of}
-use Rattle.macho_signatures.specs.Blobs.{signature_bytes}
 use Rattle.macho_signatures.specs.Pages.{is_fit}
-use Rattle.macho_signatures.specs.Renewed.{is_touched, renewed_slots}
+use Rattle.macho_signatures.specs.Renewed.{is_touched}
 use Rattle.macho_signatures.specs.Signature.{directories_of, is_signed, signature_fault}
 use Rattle.macho_signatures.specs.declared.directory.Directory.{Directory}
-use Rattle.macho_signatures.specs.declared.directory.HashKind.TheVariants.{Sha1, Sha256}
+use Rattle.macho_signatures.specs.declared.directory.HashKind.TheVariants.{Sha256}
 use Rattle.macho_signatures.specs.declared.fault.SignatureFault.TheVariants.{BadBlob, BadDirectory, BadIndex, BadLength, BadLimit, BadPageSize, BadSlots, NoDirectory, NoSuperBlob, Outside, Scattered, UnknownHash}
 
 -- four bytes of a number

@@ -1,16 +1,15 @@
 -- What an edited front and the signature tell of a thin file.
-use Rattle.std.proofs.Common.{◌≡◌, ◌≤◌, ◌<◌, ◌^◌, ◌+◌, ◌-◌, ◌∙◌, ℕ, Bool, true, false, not, nat_lt, List, [], ◌∷◌, ◌++◌, length, take, drop, get_or, None, Option, Some, Ok, refl, sym, ap, subst, inl, inr, arith, if◌then◌else◌}
+use Rattle.std.proofs.Common.{◌≡◌, ◌≤◌, ◌<◌, ◌^◌, ◌+◌, ◌-◌, ◌∙◌, ℕ, Bool, true, false, not, List, [], ◌∷◌, ◌++◌, length, take, drop, get_or, None, Option, Some, Ok, refl, sym, ap, subst, arith}
 use Rattle.std.specs.List.{All}
 use Rattle.std.specs.Str.{bytes_eq}
 use Rattle.std.proofs.Math.Seq.{drop-append-add}
-use Rattle.std.proofs.lemmas.Bool.{le-ltb, not-false, not-true}
+use Rattle.std.proofs.lemmas.Bool.{le-ltb}
 use Rattle.std.proofs.lemmas.List.{drop-append-le, length-append, length-drop, length-take-le, take-append-le, take_all, take_more}
 use Rattle.std.proofs.lemmas.List.Elements.{All-append, All-cons, All-nil}
 use Rattle.std.proofs.lemmas.Slice.Eq.{bytes_eq-Decides}
 use Rattle.macho_image.specs.Checks.{file_fault}
 use Rattle.macho_image.specs.Form.{commands_end, ctx_of}
 use Rattle.macho_image.proofs.ForCallers.{accepts, commands_end-longer, commands_within}
-use Rattle.macho_signatures.specs.Blobs.{signature_bytes}
 use Rattle.macho_signatures.specs.Pages.{hash_of, page_end, page_hash, page_of, page_start}
 use Rattle.macho_signatures.specs.Renewed.{SlotLies, is_touched, renewed_slots}
 use Rattle.macho_signatures.specs.Signature.{LiesIn, Tells}
@@ -22,7 +21,7 @@ use Rattle.macho_signatures.specs.declared.renewal.Slot.{Slot}
 use Rattle.macho_signatures.specs.declared.signature.Signature.{Signature}
 use Rattle.macho_signing.specs.Front.{EndsWithin, HasSignature, IsReadAt, SignsThin}
 use Rattle.macho_signing.specs.Place.{signature_place}
-use Rattle.macho_signing.specs.Thin.{HoldsSignature, Pages, differences, has_identity, is_changed_from, renewal_fault, since, thin_fault, touch_fault, touched_by}
+use Rattle.macho_signing.specs.Thin.{HoldsSignature, Pages, differences, has_identity, is_changed_from, renewal_fault, since, thin_fault, touch_fault}
 use Rattle.macho_signing.specs.declared.fault.SigningFault.{SigningFault}
 use Rattle.macho_signing.specs.declared.place.Place.{Place}
 use Rattle.macho_signing.specs.declared.thin.ThinSlots.{ThinSlots}

@@ -1,10 +1,9 @@
 -- A file by the fronts of its slices, with the slots of the pages that edits touch.
-use Rattle.std.proofs.Common.{◌≡◌, ◌++◌, ◌∙◌, ℕ, Global, List, Vec, ap, length, map, subst, sym}
+use Rattle.std.proofs.Common.{◌≡◌, ◌∙◌, ℕ, Global, List, Vec, ap, map, subst, sym}
 use Rattle.std.specs.List.{All}
 use Rattle.std.proofs.lemmas.Result.{err_from_is_err_and}
 use Rattle.byte_store.specs.Composed.{owned_patches}
 use Rattle.byte_store.specs.Laid.{Patch, patches_of}
-use Rattle.byte_store.specs.declared.composed.OwnedPiece.{OwnedPiece}
 use Rattle.macho_commands.specs.Engine.{asked}
 use Rattle.macho_commands.specs.Meaning.{macho_command_model}
 use Rattle.macho_commands.specs.Sliced.{IsLoadedFront, MakesEdited, RefusesFronts}
@@ -90,8 +89,7 @@ returns-clause-patched g c =
       signs = subst Fronts c.as_slice-fronts.ensures.value (subst News same told);
       all =
           ap patches_of c.as_slice-3.ensures.value ∙ c.in_ok-lent.ensures ∙ ap owned_patches c.as_slice-2.ensures.value ∙ c.in_ok-all.ensures;
-    } in
-    (
+    } in (
       patched_renewed c.args.signing (macho_command_model c.args.command.now) known _ _ c.args.slices.now (patches_of c.as_slice-3.result.now) c.in-Some.slots.are_some_left m c.in_ok-slots.ensures.kept c.in_ok-write_changes_of.ensures.ok,
       told_renewed c.args.notes c.args.signing (macho_command_model c.args.command.now) known c.args.slices.now (patches_of c.as_slice-3.result.now) c.in-Some.slots.are_some_left c.path_to_binary-path.result.now _ m c.path_to_binary-path.ensures c.in_ok-text.ensures,
     )

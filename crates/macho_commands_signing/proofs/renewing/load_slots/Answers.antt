@@ -1,5 +1,5 @@
 -- One slice more.
-use Rattle.std.proofs.Common.{◌≡◌, ◌<◌, ◌||◌, ◌++◌, ◌∙◌, ℕ, Bool, Global, List, Vec, ap, arith, get_or, inl, inr, length, map, subst, sym}
+use Rattle.std.proofs.Common.{◌≡◌, ◌<◌, ◌||◌, ◌++◌, ◌∙◌, ℕ, Global, List, Vec, ap, arith, get_or, inl, inr, length, map, subst, sym}
 use Rattle.std.proofs.lemmas.List.{get_or-map, length-map}
 use Rattle.std.proofs.lemmas.Result.{err_from_is_err_and}
 use Rattle.std.specs.List.{All}
@@ -52,11 +52,11 @@ loop-i-preserved g c =
     ]) in
     record {
       signs = signs_more _ _ c.args.fronts.now (map items_of edited) i c.index-fronts-i.result c.as_slice.result.now c.in-Some.made (owned_patches c.loop-i.pieces.items) (owned_patches c.push_slots_at.new.pieces.items) c.loop-i.are_some_left c.if-are_some_left.are_some_left
-      c.loop-i-test.true (omega (arith, inside, length-map edited items_of)) c.loop-i.invariant.kept c.index-fronts-i.is
-      (new_is edited i c.index-edited-i.result c.as_slice.result.now inside c.index-edited-i.is c.as_slice.ensures.value)
-      c.loop-i.invariant.signs signs lie
-      (c.in_ok-push_slots_at.ensures ∙ ap (λ (l : List Slot). owned_patches c.loop-i.pieces.items ++ map (shifted c.index-fronts-i.result.offset) (map slot_patch l)) c.as_slice-in-loop-i.ensures.value)
-      left;
+          c.loop-i-test.true (omega (arith, inside, length-map edited items_of)) c.loop-i.invariant.kept c.index-fronts-i.is
+          (new_is edited i c.index-edited-i.result c.as_slice.result.now inside c.index-edited-i.is c.as_slice.ensures.value)
+          c.loop-i.invariant.signs signs lie
+          (c.in_ok-push_slots_at.ensures ∙ ap (λ (l : List Slot). owned_patches c.loop-i.pieces.items ++ map (shifted c.index-fronts-i.result.offset) (map slot_patch l)) c.as_slice-in-loop-i.ensures.value)
+          left;
       kept = c.in_ok-made.ensures.kept ∙ c.loop-i.invariant.kept;
       grows = omega (arith, c.in_ok-made.ensures.grows, c.loop-i.invariant.grows);
     }

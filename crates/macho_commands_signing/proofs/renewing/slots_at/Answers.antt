@@ -1,5 +1,5 @@
 -- What was read of the signature.
-use Rattle.std.proofs.Common.{◌≡◌, ◌+◌, ℕ, List, arith, drop, length, subst, sym, take}
+use Rattle.std.proofs.Common.{◌+◌, ℕ, List, arith, subst, sym}
 use Rattle.macho_commands_signing.specs.Slices.{IsAt}
 use Rattle.macho_commands_signing.proofs.RenewingLaws.{signs_front}
 use Rattle.macho_commands_signing.proofs.renewing.slots_at.Goals as goal

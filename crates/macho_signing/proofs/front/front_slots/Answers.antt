@@ -1,5 +1,5 @@
 -- What the edited front and the signature tell of each file.
-use Rattle.std.proofs.Common.{◌≡◌, ◌∙◌, ◌++◌, List, [], ap, arith, refl, sym}
+use Rattle.std.proofs.Common.{◌∙◌, ◌++◌, List, [], ap, arith, refl, sym}
 use Rattle.std.proofs.lemmas.Bool.{not-false, not-true}
 use Rattle.macho_signatures.specs.Renewed.{renewed_slots}
 use Rattle.macho_signatures.specs.declared.directory.Directory.{Directory}

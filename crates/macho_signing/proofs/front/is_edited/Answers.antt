@@ -1,7 +1,7 @@
 -- Where the fronts differ, the files do.
 use Rattle.std.proofs.Common.{◌≡◌, ◌-◌, ℕ, List, arith, drop, not, subst, take}
 use Rattle.std.specs.Str.{bytes_eq}
-use Rattle.macho_signatures.specs.Pages.{page_end, page_start}
+use Rattle.macho_signatures.specs.Pages.{page_end}
 use Rattle.macho_signatures.specs.declared.directory.Directory.{Directory}
 use Rattle.macho_signing.proofs.FrontLaws.{touched_here, untouched}
 use Rattle.macho_signing.proofs.front.is_edited.Goals as goal
