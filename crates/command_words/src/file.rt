@@ -9,8 +9,8 @@ use std::os::unix::fs::FileTypeExt;
 use std::rt::Files;
 use std::{fs, io};
 
-/// How many bytes of a Mach-O file are read, as far as it has them: one more than such a file may have. Of an ELF
-/// file so many are read too, or more where the file says that it has more.
+/// How many bytes of a Mach-O file are read at most: one more than such a file may have. An edit mostly reads the front of each
+/// slice alone. Of an ELF file so many are read, as far as it has them, or more where the file says that it has more.
 pub const MOST_BYTES: usize = 1 << 32;
 
 /// The device that holds no byte. It is read as an empty file.
