@@ -11,6 +11,7 @@ ghost use Rattle.elf_image.specs.ImageModel.{section_model, segment_model};
 ghost use Rattle.elf_image.specs.Kept.{dynamic_strings_number, interpreter_number};
 ghost use Rattle.elf_layout_plan.specs.Memory.{blocks_with, edge_blocks, fixed_block, header_blocks, loaded_over, table_size_with, takes_memory};
 ghost use Rattle.elf_layout_moves.specs.ImageBlocks.{AreNumbered, address_of, is_movable_type, is_section_stray, made_block, priority_with, section_blocks_from};
+ghost use Rattle.elf_layout_moves.specs.Growth.{table_start as start_of_table};
 ghost use Rattle.elf_layout_moves.specs.Limits.{end_with};
 
 use crate::resizing::Resizing;
@@ -174,17 +175,35 @@ pub fn has_empty_table(r: &Resizing<'_, '_>, added: usize) -> bool
     table_size(r.image, added) == 0
 }
 
-/// Where the program header table ends in memory with so many entries more than the image has segments: an address; 0 where no
-/// loaded segment had all of it.
+/// Where the program header table stands in memory: an address, if a loaded segment had all of it. Looks at all segments.
+pub fn table_start(r: &Resizing<'_, '_>) -> Option<u128>
+    ensures value { result ≡ start_of_table r.now }
+    ensures near { (address : ℕ) → result ≡ Some address → address < 2 ^ 66 }
+{
+    let start = r.read.header().e_phoff;
+    address_in(r.read.segments(), start, table_size_at_read(r.read))
+}
+
+/// Where the program header table ends in memory with so many entries more than the image has segments, by where it stands: an
+/// address; 0 where no loaded segment had all of it.
+pub fn table_end_from(r: &Resizing<'_, '_>, start: Option<u128>, added: usize) -> u128
+    requires start { start ≡ start_of_table r.now }
+    requires near { (address : ℕ) → start ≡ Some address → address < 2 ^ 66 }
+    ensures value { result ≡ end_with r.now added }
+    ensures near { result < 2 ^ 80 }
+{
+    match start {
+        Some(start) => start + table_size(r.image, added),
+        None => 0,
+    }
+}
+
+/// The same, with a look at all segments.
 pub fn table_end(r: &Resizing<'_, '_>, added: usize) -> u128
     ensures value { result ≡ end_with r.now added }
     ensures near { result < 2 ^ 80 }
 {
-    let start = r.read.header().e_phoff;
-    match address_in(r.read.segments(), start, table_size_at_read(r.read)) {
-        Some(start) => start + table_size(r.image, added),
-        None => 0,
-    }
+    table_end_from(r, table_start(r), added)
 }
 
 // Puts the file header and the program header table behind other blocks, each where a loaded segment had all of it at read.
