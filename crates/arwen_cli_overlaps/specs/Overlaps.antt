@@ -1,10 +1,10 @@
 -- What is said of two blocks that stand against a command for ELF files.
-use Rattle.std.specs.Prelude.{ℕ, ◌≡◌, ◌⊎◌, List}
+use Rattle.std.specs.Prelude.{ℕ, ◌≡◌, List, Ok}
 use Rattle.elf_commands.specs.ElfAsked.{ElfAsked}
-use Rattle.elf_commands.specs.ElfEngine.{AreAskedInTurn, AreEditsAsked, Makes, MakesInTurn}
-use Rattle.elf_commands.specs.Groups.{GroupEdit}
+use Rattle.elf_commands.specs.ElfEngine.{AreEditsAsked}
+use Rattle.elf_edits.specs.Batch.{run}
 use Rattle.elf_edits.specs.Edit.{Edit}
-use Rattle.elf_image.specs.Image.{Image}
+use Rattle.elf_image.specs.Image.{Image, image_of}
 use Rattle.elf_layout_plan.specs.Plan.{resized}
 use Rattle.elf_layout_reasons.specs.Advice.{pair_text}
 use Rattle.elf_layout_reasons.specs.Pair.{IsStuckPair}
@@ -16,14 +16,12 @@ pub record TellsPair (image : Image) (text : List ℕ) : Type 0 where
   pub stuck : IsStuckPair (resized image) pair
   pub told : text ≡ pair_text image pair
 
--- the image that the edits make of a file that are asked for, as one batch or one after the other
-abbrev pub IsMadeAsAsked : ElfAsked → List ℕ → Image → Type 0
-IsMadeAsAsked a file image =
-    ((edits : List Edit) × AreEditsAsked a edits × Makes edits file image)
-    ⊎ ((edits : List GroupEdit) × AreAskedInTurn a edits × MakesInTurn edits file image)
-
 -- it does so of the image of a file once the edits are made that are asked for
 pub record TellsOverlap (a : ElfAsked) (file text : List ℕ) : Type 0 where
+  pub edits : List Edit
+  pub are : AreEditsAsked a edits
+  pub read : Image
+  pub is_read : image_of file ≡ Ok read
   pub image : Image
-  pub made : IsMadeAsAsked a file image
+  pub made : run edits read ≡ Ok image
   pub tells : TellsPair image text

@@ -1,53 +1,33 @@
 //! What is said of two blocks that stand against a command.
 ghost use Rattle.std.specs.Prelude.{◌≡◌, IfOk, IfSome, OnOk, map, string_bytes};
 ghost use Rattle.elf_commands.specs.ElfAsked.{elf_asked};
-ghost use Rattle.elf_commands.specs.ElfEngine.{AreAsked, AreAskedInTurn, AreEditsAsked};
+ghost use Rattle.elf_commands.specs.ElfEngine.{AreEditsAsked};
 ghost use Rattle.elf_commands.specs.ElfWords.{edits_model};
-ghost use Rattle.elf_commands.specs.Groups.{group_model};
 ghost use Rattle.elf_commands.specs.Meaning.{elf_command_model};
 ghost use Rattle.arwen_cli_overlaps.specs.Overlaps.{TellsOverlap, TellsPair};
 
-use elf_commands::elf::{AskedEdits, asked_by};
+use elf_commands::ElfCommand;
+use elf_commands::elf::edits_asked;
 use elf_commands::files::ElfContainer;
-use elf_commands::{ElfCommand, GroupEdit, apply_in_turn};
 use elf_edits::ElfEdit;
 use elf_image::Builder;
 use elf_layout_reasons::{pair_text, stuck_pair};
 use std::alloc::{AllocError, Global};
 
 /// What is said of two blocks of memory that never move and overlap once a command's edits are made of the bytes of a file:
-/// both, and what may be done. The edits are those of a batch, or, where some are of symbols or sections, made one after the
-/// other. `None` where there are no such blocks, where none are found (`stuck_pair`), of a command that asks for no edits of its
-/// own, where they are refused before there is a layout, and where there is no memory.
+/// both, and what may be done. `None` where there are no such blocks, where none are found (`stuck_pair`), of a command that
+/// asks for no edits of its own, where they are refused before there is a layout, and where there is no memory.
 pub fn overlap_text(alloc: Global, bytes: &[u8], command: &ElfCommand) -> Option<String>
     ensures { IfSome result (λ text. TellsOverlap
         (elf_asked (elf_command_model command.now)) bytes.now (string_bytes text)) }
 {
-    let Ok(asked) = asked_by(alloc, command) else {
+    let Ok(Some(edits)) = edits_asked(alloc, command) else {
         return None;
     };
-    text_as_asked(alloc, bytes, command, &asked)
+    text_after(alloc, bytes, command, edits.as_slice())
 }
 
-/// The same of what a command asks for.
-fn text_as_asked(
-    alloc: Global,
-    bytes: &[u8],
-    command: &ElfCommand,
-    asked: &AskedEdits,
-) -> Option<String>
-    requires { AreAsked (elf_asked (elf_command_model command.now)) asked.now }
-    ensures { IfSome result (λ text. TellsOverlap
-        (elf_asked (elf_command_model command.now)) bytes.now (string_bytes text)) }
-{
-    match asked {
-        AskedEdits::Batch(edits) => text_after(alloc, bytes, command, edits.as_slice()),
-        AskedEdits::InTurn(edits) => text_after_turns(alloc, bytes, command, edits.as_slice()),
-        AskedEdits::Nothing => None,
-    }
-}
-
-/// The same of the edits of a batch that a command asks for.
+/// The same of the edits that a command asks for.
 fn text_after(
     alloc: Global,
     bytes: &[u8],
@@ -62,27 +42,6 @@ fn text_after(
         return None;
     };
     if elf.apply(alloc, edits).is_err() {
-        return None;
-    }
-    text_if(text_of_image(alloc, elf.inner.builder()))
-}
-
-/// The same of the edits that a command asks for one after the other.
-fn text_after_turns(
-    alloc: Global,
-    bytes: &[u8],
-    command: &ElfCommand,
-    edits: &[GroupEdit],
-) -> Option<String>
-    requires { AreAskedInTurn (elf_asked (elf_command_model command.now))
-        (map group_model edits.now) }
-    ensures { IfSome result (λ text. TellsOverlap
-        (elf_asked (elf_command_model command.now)) bytes.now (string_bytes text)) }
-{
-    let Ok(mut elf) = ElfContainer::parse(alloc, bytes) else {
-        return None;
-    };
-    if apply_in_turn(alloc, &mut elf, edits).is_err() {
         return None;
     }
     text_if(text_of_image(alloc, elf.inner.builder()))
