@@ -1,12 +1,16 @@
 /* Edits a file in memory: reads OLD, makes the edits that the words name, writes NEW.
  *
- *     edit OLD NEW WORD..      as: edit greet greet.new set-rpath '$ORIGIN'
- */
+ *     edit OLD NEW [--move-dynamic] WORD..      as: edit greet greet.new set-rpath '$ORIGIN'
+ *
+ * With --move-dynamic the dynamic section of an ELF file moves where it has no room. */
 #include <stdio.h>
 #include <stdlib.h>
 #include <string.h>
 
 #include "arwen.h"
+
+/* Both functions take the same arguments. */
+typedef uint32_t edit_fn(const uint8_t *, size_t, const uint8_t *, size_t, uint8_t *, size_t, size_t *, uint8_t *, size_t);
 
 static uint8_t *read_file(const char *path, size_t *len)
 {
@@ -42,13 +46,15 @@ static uint8_t *join(char **words, int count, size_t *len)
 
 int main(int argc, char **argv)
 {
-    if (argc < 4) {
-        fprintf(stderr, "usage: edit OLD NEW WORD..\n");
+    int moves = argc > 3 && strcmp(argv[3], "--move-dynamic") == 0;
+    if (argc < 4 + moves) {
+        fprintf(stderr, "usage: edit OLD NEW [--move-dynamic] WORD..\n");
         return 2;
     }
+    edit_fn *apply = moves ? arwen_apply_moving : arwen_apply;
     size_t len = 0, words_len = 0, size = 0;
     uint8_t *old = read_file(argv[1], &len);
-    uint8_t *words = join(argv + 3, argc - 3, &words_len);
+    uint8_t *words = join(argv + 3 + moves, argc - 3 - moves, &words_len);
     if (old == NULL || words == NULL) {
         fprintf(stderr, "edit: %s can't be read\n", argv[1]);
         return 1;
@@ -57,12 +63,12 @@ int main(int argc, char **argv)
     size_t room = len + 4096;
     uint8_t message[256];
     uint8_t *new = malloc(room);
-    uint32_t answer = new == NULL ? ARWEN_MEMORY : arwen_apply(old, len, words, words_len, new, room, &size, message, sizeof message);
+    uint32_t answer = new == NULL ? ARWEN_MEMORY : apply(old, len, words, words_len, new, room, &size, message, sizeof message);
     if (answer == ARWEN_ROOM) {
         free(new);
         room = size;
         new = malloc(room);
-        answer = new == NULL ? ARWEN_MEMORY : arwen_apply(old, len, words, words_len, new, room, &size, message, sizeof message);
+        answer = new == NULL ? ARWEN_MEMORY : apply(old, len, words, words_len, new, room, &size, message, sizeof message);
     }
     if (answer != ARWEN_OK) {
         fprintf(stderr, "edit: %s: %s\n", argv[1], new == NULL ? "out of memory" : (char *)message);

@@ -1,7 +1,9 @@
 #!/usr/bin/env python3
 """Edits a file in memory: reads OLD, makes the edits that the words name, writes NEW.
 
-    edit.py LIBRARY OLD NEW WORD..      as: edit.py ./libarwen.so greet greet.new set-rpath '$ORIGIN'
+    edit.py LIBRARY OLD NEW [--move-dynamic] WORD..      as: edit.py ./libarwen.so greet greet.new set-rpath '$ORIGIN'
+
+With --move-dynamic the dynamic section of an ELF file moves where it has no room.
 
 LIBRARY is a shared library that is made of libarwen_c.a: tests/try_c_callers shows how.
 """
@@ -15,9 +17,10 @@ class ArwenError(Exception):
     """Why a file was not edited."""
 
 
-def load(path):
-    """The function of the library at a path."""
-    apply = ctypes.CDLL(path).arwen_apply
+def load(path, moves):
+    """The function of the library at a path, with or without leave that the dynamic section moves."""
+    library = ctypes.CDLL(path)
+    apply = library.arwen_apply_moving if moves else library.arwen_apply
     lent = [ctypes.c_char_p, ctypes.c_size_t]
     apply.argtypes = lent + lent + lent + [ctypes.POINTER(ctypes.c_size_t)] + lent
     apply.restype = ctypes.c_uint32
@@ -44,10 +47,11 @@ def main():
     if len(sys.argv) < 5:
         sys.exit(__doc__)
     library, old, new, *words = sys.argv[1:]
+    moves = words[0] == '--move-dynamic'
     with open(old, 'rb') as file:
         data = file.read()
     try:
-        made = edited(load(library), data, words)
+        made = edited(load(library, moves), data, words[1:] if moves else words)
     except ArwenError as error:
         sys.exit('edit.py: %s: %s' % (old, error))
     with open(new, 'wb') as file:

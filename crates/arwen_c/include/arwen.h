@@ -32,6 +32,14 @@ uint32_t arwen_apply(const uint8_t *bytes, size_t bytes_len,
                      uint8_t *out, size_t out_len, size_t *size,
                      uint8_t *message, size_t message_len);
 
+/* The same with leave that the dynamic section of an ELF file moves where it has no room, as `arwen elf apply --move-dynamic`
+ * edits it. A few programs find that section at its old place alone, static PIEs among them, and miss new entries. A Mach-O
+ * file is edited as by arwen_apply. */
+uint32_t arwen_apply_moving(const uint8_t *bytes, size_t bytes_len,
+                            const uint8_t *words, size_t words_len,
+                            uint8_t *out, size_t out_len, size_t *size,
+                            uint8_t *message, size_t message_len);
+
 #ifdef __cplusplus
 }
 #endif

@@ -1,12 +1,10 @@
 //! The bytes of a file after edits.
-ghost use Rattle.std.specs.Prelude.{◌≡◌, ◌⊎◌, Err, IfErr, IfOk, IsOk, MatchResult, map, string_bytes};
-ghost use Rattle.elf_commands.specs.ElfAsked.{asked_of_words};
+ghost use Rattle.std.specs.Prelude.{◌≡◌, ◌⊎◌, Err, IfErr, IfOk, IsOk, MatchResult, false, map, string_bytes, true};
 ghost use Rattle.elf_commands.specs.ElfEngine.{TellsEdit, bytes_left};
 ghost use Rattle.elf_commands.specs.ElfCommandError.TheVariants.{Memory as no_memory};
-ghost use Rattle.elf_commands.specs.ElfWords.{elf_edits_of};
 ghost use Rattle.macho_commands.specs.Edits.{edits_of};
 ghost use Rattle.macho_commands.specs.Engine.{Asked, Tells, outcome_of};
-ghost use Rattle.arwen_c.specs.Edited.{IsElfMade, IsMachoMade, IsMade, TellsWhy};
+ghost use Rattle.arwen_c.specs.Edited.{IsElfMade, IsMachoMade, IsMade, IsMadeWith, TellsWhy, TellsWhyWith, asked_with};
 ghost use Rattle.arwen_c.specs.Words.{words_in as words_told};
 ghost use Rattle.arwen_c.specs.declared.editing.EditError.TheVariants.{Elf, Macho, Memory};
 
@@ -74,24 +72,61 @@ pub fn edited(alloc: Global, bytes: &[u8], words: &[u8]) -> Result<Vec<u8>, Edit
     ensures made { IfOk result (λ new. IsMade (words_told words.now) bytes.now new.items) }
     ensures why { IfErr result (TellsWhy words.now bytes.now) }
 {
+    edited_with(alloc, bytes, words, false)
+}
+
+/// The same with leave that the dynamic section of an ELF file moves where it has no room, as `arwen elf apply --move-dynamic`
+/// makes them. A Mach-O file has no such section, and is edited as without leave.
+pub fn edited_moving(alloc: Global, bytes: &[u8], words: &[u8]) -> Result<Vec<u8>, EditError>
+    ensures made { IfOk result (λ new.
+        IsMadeWith true (words_told words.now) bytes.now new.items) }
+    ensures why { IfErr result (TellsWhyWith true words.now bytes.now) }
+{
+    edited_with(alloc, bytes, words, true)
+}
+
+/// The same, with leave or without it.
+fn edited_with(alloc: Global, bytes: &[u8], words: &[u8], leave: bool) -> Result<Vec<u8>, EditError>
+    ensures made { IfOk result (λ new.
+        IsMadeWith leave (words_told words.now) bytes.now new.items) }
+    ensures why { IfErr result (TellsWhyWith leave words.now bytes.now) }
+{
     let Ok(text) = std::str::from_utf8(words) else {
         return Err(EditError::NoText);
     };
     let words = words_in(alloc, text)?;
-    if has_magic(bytes) {
-        Ok(edited_elf(alloc, bytes, words)?)
+    if !has_magic(bytes) {
+        return Ok(edited_macho(alloc, bytes, words)?);
+    }
+    if leave {
+        Ok(moved_elf(alloc, bytes, words)?)
     } else {
-        Ok(edited_macho(alloc, bytes, words)?)
+        Ok(edited_elf(alloc, bytes, words)?)
     }
 }
 
 /// The bytes of an ELF file after the edits that words name.
 fn edited_elf(alloc: Global, bytes: &[u8], words: Vec<String>) -> Result<Vec<u8>, ElfCommandError>
     ensures { MatchResult result
-        (λ new. IsElfMade (map string_bytes words.items) bytes.now new.items)
-        (λ e. TellsEdit (asked_of_words (elf_edits_of (map string_bytes words.items))) bytes.now e) }
+        (λ new. IsElfMade (asked_with false (map string_bytes words.items)) bytes.now new.items)
+        (λ e. TellsEdit (asked_with false (map string_bytes words.items)) bytes.now e) }
 {
     let command = ElfCommand::Apply(elf::apply::Args {
+        path_to_binary: String::new(alloc),
+        edits: words,
+    });
+    let mut printed = Vec::new(alloc);
+    let answer = run_elf(alloc, bytes, &command, &[], &mut printed);
+    new_bytes(alloc, bytes, answer)
+}
+
+/// The same with leave that its dynamic section moves.
+fn moved_elf(alloc: Global, bytes: &[u8], words: Vec<String>) -> Result<Vec<u8>, ElfCommandError>
+    ensures { MatchResult result
+        (λ new. IsElfMade (asked_with true (map string_bytes words.items)) bytes.now new.items)
+        (λ e. TellsEdit (asked_with true (map string_bytes words.items)) bytes.now e) }
+{
+    let command = ElfCommand::ApplyMoving(elf::apply::Args {
         path_to_binary: String::new(alloc),
         edits: words,
     });

@@ -1,8 +1,8 @@
 //! What is exported to C.
-ghost use Rattle.std.specs.Prelude.{◌≡◌, ◌==◌, ◌<◌, ◌≤◌, ◌++◌, IsTrue, drop, length, not};
-ghost use Rattle.arwen_c.specs.Export.{Gives, Wants};
+ghost use Rattle.std.specs.Prelude.{◌≡◌, ◌==◌, ◌<◌, ◌≤◌, ◌++◌, IsTrue, drop, length, not, true};
+ghost use Rattle.arwen_c.specs.Export.{Gives, GivesWith, Wants, WantsWith};
 
-use crate::editing::{EditError, edited};
+use crate::editing::{EditError, edited, edited_moving};
 use arwen_macho::macho::MachoError;
 use elf_commands::ElfCommandError;
 use elf_commands::files::ElfError;
@@ -41,6 +41,32 @@ pub extern "C" fn arwen_apply(
     ensures stays { IsTrue (not (result == ARWEN_OK)) → out.new ≡ out.old }
 {
     match edited(alloc, bytes, words) {
+        Ok(new) => give(new.as_slice(), out, size),
+        Err(error) => {
+            *size = 0;
+            tell(alloc, &error, message)
+        }
+    }
+}
+
+/// The same with leave that the dynamic section of an ELF file moves where it has no room, as `arwen elf apply --move-dynamic`
+/// edits it. A Mach-O file is edited as by `arwen_apply`.
+#[unsafe(no_mangle)]
+pub extern "C" fn arwen_apply_moving(
+    alloc: Global,
+    bytes: &[u8],
+    words: &[u8],
+    out: &mut [u8],
+    size: &mut usize,
+    message: &mut [u8],
+) -> u32
+    ensures gives { result ≡ ARWEN_OK
+        → GivesWith true words.now bytes.now out.old out.new size.new }
+    ensures wants { result ≡ ARWEN_ROOM
+        → WantsWith true words.now bytes.now out.old out.new size.new }
+    ensures stays { IsTrue (not (result == ARWEN_OK)) → out.new ≡ out.old }
+{
+    match edited_moving(alloc, bytes, words) {
         Ok(new) => give(new.as_slice(), out, size),
         Err(error) => {
             *size = 0;
