@@ -1,5 +1,5 @@
 //! What is said of two blocks that stand against a command.
-ghost use Rattle.std.specs.Prelude.{◌≡◌, ◌&&◌, IfOk, IfSome, OnOk, length, map, nat_le, string_bytes};
+ghost use Rattle.std.specs.Prelude.{◌≡◌, IfOk, IfSome, string_bytes};
 ghost use Rattle.elf_commands.specs.ElfAsked.{elf_asked};
 ghost use Rattle.elf_commands.specs.ElfEngine.{AreEditsAsked};
 ghost use Rattle.elf_commands.specs.ElfWords.{edits_model};
@@ -11,13 +11,12 @@ use elf_commands::elf::edits_asked;
 use elf_commands::files::ElfContainer;
 use elf_edits::ElfEdit;
 use elf_image::Builder;
-use elf_layout_reasons::{MOST_BLOCKS, pair_text, stuck_pair};
+use elf_layout_reasons::{pair_text, stuck_pair};
 use std::alloc::{AllocError, Global};
 
 /// What is said of two blocks of memory that never move and overlap once a command's edits are made of the bytes of a file:
-/// both, and what may be done. `None` where there are no such blocks, where none are found (`stuck_pair`), of an image with more
-/// sections or program headers than `MOST_BLOCKS`, of a command that asks for no edits of its own, where they are refused before
-/// there is a layout, and where there is no memory.
+/// both, and what may be done. `None` where there are no such blocks, where none are found (`stuck_pair`), of a command that asks
+/// for no edits of its own, where they are refused before there is a layout, and where there is no memory.
 pub fn overlap_text(alloc: Global, bytes: &[u8], command: &ElfCommand) -> Option<String>
     ensures { IfSome result (λ text. TellsOverlap
         (elf_asked (elf_command_model command.now)) bytes.now (string_bytes text)) }
@@ -58,23 +57,11 @@ fn text_if(text: Result<Option<String>, AllocError>) -> Option<String>
     }
 }
 
-/// Whether an image has so few sections and program headers that its blocks are looked for. That takes a time that grows with
-/// the square of how many they are.
-fn are_few(image: &Builder<'_>) -> bool
-    ensures { result ≡ (nat_le (length image.now.sections) MOST_BLOCKS
-        && nat_le (length image.now.segments) MOST_BLOCKS) }
-{
-    image.sections().len() <= MOST_BLOCKS && image.segments().len() <= MOST_BLOCKS
-}
-
 /// What is said of two blocks of an edited image.
 fn text_of_image(alloc: Global, image: &Builder<'_>) -> Result<Option<String>, AllocError>
     ensures { IfOk result (λ answer. IfSome answer (λ text.
         TellsPair image.now (string_bytes text))) }
 {
-    if !are_few(image) {
-        return Ok(None);
-    }
     match stuck_pair(alloc, image)? {
         None => Ok(None),
         Some(pair) => Ok(Some(pair_text(alloc, image, &pair)?)),

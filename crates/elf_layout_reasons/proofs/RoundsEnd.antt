@@ -6,7 +6,10 @@ use Rattle.elf_layout_plan.specs.Memory.{Resized, blocks_with}
 use Rattle.elf_layout_plan.specs.Plan.{most_added, resized}
 use Rattle.elf_layout_plan.specs.Rounds.{is_stuck_with}
 use Rattle.elf_layout_moves.specs.Inner.{IsResized}
+use Rattle.elf_layout_moves.specs.Limits.{Covers, end_with}
 use Rattle.elf_layout_moves.proofs.ForCallers.{resized_is}
+use Rattle.elf_layout_segments.specs.declared.forecasts.Forecast.{Forecast}
+use Rattle.elf_layout_segments.specs.Forecasts.{IsForecast, needed_at}
 use Rattle.elf_layout_segments.proofs.RoundSteps.{AreSoFar, ended, nearer, none_so_far, one_more}
 use Rattle.elf_layout_reasons.specs.declared.stuck.StuckPair.{StuckPair}
 use Rattle.elf_layout_reasons.specs.Pair.{IsFirstPair, IsStuckPair}
@@ -81,3 +84,11 @@ one_before r looked needed b round more =
 
 pub nearer_end : (r : Resized) (looked needed : ℕ) → IsRound r looked needed → looked < needed → most_added r.image - needed < most_added r.image - looked
 nearer_end r looked needed round more = nearer r looked needed round.moved round.need more
+
+-- ## What a forecast says of a round
+
+-- what it says is what the sections that move need
+pub round_of : (r : Resized) (f : Forecast) (looked end needed : ℕ) → IsForecast r f → Covers r f.from f.bound looked → end ≡ end_with r looked → needed ≡ needed_at f end → IsRound r looked needed
+round_of r f looked end needed is covers at says =
+    let (moved, move, chosen) = is.lists looked covers in
+    record { moved = moved; move = move; chosen = chosen; need = says ∙ ap (needed_at f) at ∙ is.needs looked moved covers move chosen }

@@ -1,5 +1,5 @@
 //! How many program headers more sections that move need, by where the program header table ends.
-ghost use Rattle.std.specs.Prelude.{ℕ, List, ◌≡◌, ◌<◌, ◌-◌, ◌^◌, IfErr, IfOk, IsPermutation, IsTrue, length, map};
+ghost use Rattle.std.specs.Prelude.{ℕ, List, ◌≡◌, ◌<◌, ◌-◌, ◌^◌, IfErr, IfOk, IsPermutation, IsTrue, OnOk, length, map};
 ghost use Rattle.std.specs.List.Sorted.{IsNonDecreasingBy};
 ghost use Rattle.elf_image.specs.ImageModel.{section_model};
 ghost use Rattle.elf_layout_plan.specs.Memory.{Resized};
@@ -33,9 +33,9 @@ struct Limited {
     limit: u128,
 }
 
-// How many program headers more are needed with tables that end at an address. Each list is of such ends.
+/// How many program headers more are needed with tables that end at an address. Each list is of such ends.
 #[derive(Drop)]
-pub(crate) struct Forecast {
+pub struct Forecast {
     // The number of program headers more that it was made with.
     pub(crate) from: usize,
     // It tells of greater numbers with which the table ends before this address.
@@ -202,7 +202,7 @@ fn split_limits(
 
 /// What is needed from so many program headers more on. Errors: `Overlap` where two blocks overlap of which none can move;
 /// `Memory`.
-pub(crate) fn forecast_from(
+pub fn forecast_from(
     alloc: Global,
     r: &Resizing<'_, '_>,
     anchors: &[AnchorAt],
@@ -247,8 +247,31 @@ impl Forecast {
         added == self.from || self.from < added && end < self.bound
     }
 
-    // How many program headers more are needed with a table that ends at an address.
-    pub(crate) fn needed(&self, end: u128) -> u128
+    /// Is made anew where it doesn't tell of so many program headers more, with which the table ends at an address. Errors:
+    /// `Overlap` where two blocks overlap of which none can move; `Memory`.
+    pub fn renew(
+        &mut self,
+        alloc: Global,
+        r: &Resizing<'_, '_>,
+        anchors: &[AnchorAt],
+        added: usize,
+        end: u128,
+    ) -> Result<(), LayoutFault>
+        requires anchors { AreAnchors r.now anchors.now }
+        requires known { IsForecast r.now self.old }
+        requires end { end ≡ end_with r.now added }
+        ensures is { OnOk result (IsForecast r.now self.new) }
+        ensures covers { OnOk result (Covers r.now self.new.from self.new.bound added) }
+        ensures fault { IfErr result (IsStuckAt r.now added) }
+    {
+        if !self.covers(added, end) {
+            *self = forecast_from(alloc, r, anchors, added)?;
+        }
+        Ok(())
+    }
+
+    /// How many program headers more are needed with a table that ends at an address.
+    pub fn needed(&self, end: u128) -> u128
         requires { end < never }
         ensures { result ≡ needed_at self.now end }
     {

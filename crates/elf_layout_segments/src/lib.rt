@@ -5,7 +5,7 @@
 mod anchor_search;
 pub mod anchors;
 mod file_ranges;
-mod forecasts;
+pub mod forecasts;
 mod keys;
 mod leasts;
 pub mod reading;

@@ -1,12 +1,10 @@
-ghost use Rattle.std.specs.Prelude.{◌≡◌, IfErr, IfOk, IsTrue, OnOk};
+ghost use Rattle.std.specs.Prelude.{IfErr, IfOk, IsTrue};
 ghost use Rattle.elf_layout_plan.specs.Rounds.{are_chosen, do_move};
 ghost use Rattle.elf_layout_moves.specs.Inner.{IsStuckAt};
-ghost use Rattle.elf_layout_moves.specs.Limits.{Covers, end_with};
 ghost use Rattle.elf_layout_segments.specs.AnchorPositions.{AreAnchors, IsEnded, IsNoEnd};
-ghost use Rattle.elf_layout_segments.specs.Forecasts.{IsForecast};
 
 use crate::anchors::AnchorAt;
-use crate::forecasts::{Forecast, forecast_from};
+use crate::forecasts::forecast_from;
 use elf_layout_moves::blocks::{table_end_from, table_start};
 use elf_layout_moves::moving::find_moved;
 use elf_layout_moves::resizing::Resizing;
@@ -22,28 +20,6 @@ pub struct Rounds {
     pub count: usize,
     /// How many program headers more the last round looked with.
     pub looked: usize,
-}
-
-// Makes a forecast anew where the one that is known doesn't tell of so many program headers more, with which the table ends there.
-fn renew(
-    alloc: Global,
-    r: &Resizing<'_, '_>,
-    anchors: &[AnchorAt],
-    known: &mut Forecast,
-    looked: usize,
-    end: u128,
-) -> Result<(), LayoutFault>
-    requires anchors { AreAnchors r.now anchors.now }
-    requires known { IsForecast r.now known.old }
-    requires end { end ≡ end_with r.now looked }
-    ensures is { OnOk result (IsForecast r.now known.new) }
-    ensures covers { OnOk result (Covers r.now known.new.from known.new.bound looked) }
-    ensures fault { IfErr result (IsStuckAt r.now looked) }
-{
-    if !known.covers(looked, end) {
-        *known = forecast_from(alloc, r, anchors, looked)?;
-    }
-    Ok(())
 }
 
 // The sections that move in the last round, which looks with `looked` program headers more.
@@ -75,7 +51,7 @@ pub fn look_in_rounds(
     let mut count = 1;
     loop {
         let end = table_end_from(r, start, looked);
-        renew(alloc, r, anchors, &mut known, looked, end)?;
+        known.renew(alloc, r, anchors, looked, end)?;
         let needed = known.needed(end);
         if needed <= looked as u128 {
             let moved = last_moved(alloc, r, looked)?;

@@ -40,7 +40,7 @@ needed-needed-requires c = omega (arith, c.table_end_from-end.ensures.near)
 pub returns-then-needed-looked-clause-ended : goal.returns-then-needed-looked-clause-ended
 returns-then-needed-looked-clause-ended c =
     ended c.args.r.now c.loop-known.looked c.loop-known.count c.needed-needed.result c.in_ok-moved.moved.items c.loop-known.invariant.so c.in_ok-moved.ensures.moved c.in_ok-moved.ensures.chosen
-    (need c.args.r.now c.renew.new.known c.loop-known.looked c.table_end_from-end.result c.needed-needed.result c.in_ok-moved.moved.items c.in_ok-renew.ensures.is c.in_ok-renew.ensures.covers c.table_end_from-end.ensures.value c.needed-needed.ensures
+    (need c.args.r.now c.renew.new.self c.loop-known.looked c.table_end_from-end.result c.needed-needed.result c.in_ok-moved.moved.items c.in_ok-renew.ensures.is c.in_ok-renew.ensures.covers c.table_end_from-end.ensures.value c.needed-needed.ensures
     c.in_ok-moved.ensures.moved c.in_ok-moved.ensures.chosen)
     c.if-needed-looked.true
 
@@ -53,7 +53,7 @@ few_there r f looked end needed is covers at says =
 pub overflow_cast-looked : goal.overflow_cast-looked
 overflow_cast-looked c =
     let r = c.args.r.now in
-    let fits = few_there r c.renew.new.known c.loop-known.looked c.table_end_from-end.result c.needed-needed.result c.in_ok-renew.ensures.is c.in_ok-renew.ensures.covers c.table_end_from-end.ensures.value c.needed-needed.ensures in
+    let fits = few_there r c.renew.new.self c.loop-known.looked c.table_end_from-end.result c.needed-needed.result c.in_ok-renew.ensures.is c.in_ok-renew.ensures.covers c.table_end_from-end.ensures.value c.needed-needed.ensures in
     let many : length c.args.anchors.now ≡ length r.image.segments =
     sym (length-map c.args.anchors.now anchor_model) ∙ ap length c.requires ∙ length-map r.image.segments (λ p. anchor_position p (anchor_of r p)) in
     omega arith
@@ -72,7 +72,7 @@ loop-known-preserved c =
     let (moved, move, chosen) = c.in_ok-renew.ensures.is.lists c.loop-known.looked c.in_ok-renew.ensures.covers in
     record {
       so = one_more r c.loop-known.looked c.loop-known.count c.needed-needed.result moved c.loop-known.invariant.so move chosen
-          (need r c.renew.new.known c.loop-known.looked c.table_end_from-end.result c.needed-needed.result moved c.in_ok-renew.ensures.is c.in_ok-renew.ensures.covers c.table_end_from-end.ensures.value c.needed-needed.ensures move chosen) c.if-needed-looked.false;
+          (need r c.renew.new.self c.loop-known.looked c.table_end_from-end.result c.needed-needed.result moved c.in_ok-renew.ensures.is c.in_ok-renew.ensures.covers c.table_end_from-end.ensures.value c.needed-needed.ensures move chosen) c.if-needed-looked.false;
       known = c.in_ok-renew.ensures.is;
     }
 
@@ -81,4 +81,4 @@ loop-known-smaller c =
     let r : Resized = c.args.r.now in
     let (moved, move, chosen) = c.in_ok-renew.ensures.is.lists c.loop-known.looked c.in_ok-renew.ensures.covers in
     nearer r c.loop-known.looked c.needed-needed.result moved
-    (need r c.renew.new.known c.loop-known.looked c.table_end_from-end.result c.needed-needed.result moved c.in_ok-renew.ensures.is c.in_ok-renew.ensures.covers c.table_end_from-end.ensures.value c.needed-needed.ensures move chosen) c.if-needed-looked.false
+    (need r c.renew.new.self c.loop-known.looked c.table_end_from-end.result c.needed-needed.result moved c.in_ok-renew.ensures.is c.in_ok-renew.ensures.covers c.table_end_from-end.ensures.value c.needed-needed.ensures move chosen) c.if-needed-looked.false
