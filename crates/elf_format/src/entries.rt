@@ -1,9 +1,10 @@
-ghost use Rattle.std.specs.Prelude.{◌≡◌, ◌≤◌, length};
+ghost use Rattle.std.specs.Prelude.{◌≡◌, ◌≤◌, length, IfErr};
 ghost use Rattle.patch_bytes.specs.Memory.{memory_of};
 ghost use Rattle.elf_format.specs.Answers.{Gives};
 ghost use Rattle.elf_format.specs.Dynamic.{shown_entry, table_tags, text_tags};
 ghost use Rattle.elf_format.specs.Options.{is_one_of};
 ghost use Rattle.elf_format.specs.Seen.{shown_entry_model};
+ghost use Rattle.elf_format.specs.declared.view_fault.ViewFault.TheVariants.{Absent};
 
 use crate::constants::{
     DT_AUDIT, DT_AUXILIARY, DT_CONFIG, DT_DEPAUDIT, DT_FILTER, DT_GNU_HASH, DT_HASH, DT_NEEDED,
@@ -73,7 +74,8 @@ pub fn show_entry<'a>(
     entry: EntryNumbers,
 ) -> Result<ShownEntry<'a>, ViewFault>
     requires { length texts.now ≤ room }
-    ensures { Gives shown_entry_model result (shown_entry room (memory_of texts.now) entry) }
+    ensures shown { Gives shown_entry_model result (shown_entry room (memory_of texts.now) entry) }
+    ensures absent { IfErr result (λ fault. fault ≡ Absent) }
 {
     if is_text_tag(entry.d_tag) {
         let shown = text(room, texts, entry.d_value)?;

@@ -1,6 +1,7 @@
-ghost use Rattle.std.specs.Prelude.{◌≡◌, ◌*◌, ◌<◌, slice_index};
+ghost use Rattle.std.specs.Prelude.{◌≡◌, ◌*◌, ◌<◌, slice_index, IfErr};
 ghost use Rattle.elf_format.specs.File.{bytes_in, class_of, form_of, opened_of, order_of, sections_of, segments_of};
 ghost use Rattle.elf_format.specs.Answers.{Gives, borrowed};
+ghost use Rattle.elf_format.specs.declared.view_fault.ViewFault.TheVariants.{Absent};
 ghost use Rattle.elf_format.specs.Seen.{opened_model};
 ghost use Rattle.elf_format.specs.Rules.{has_magic as begins_as_elf};
 ghost use Rattle.elf_format.specs.Records.{file_header_size, section_header_size, segment_header_size};
@@ -74,7 +75,8 @@ pub fn form(file: &[u8]) -> Option<Form>
 
 /// The bytes of a range of the file, where it lies in it; else `Absent`.
 pub fn file_part(file: &[u8], offset: u64, size: u64) -> Result<&[u8], ViewFault>
-    ensures { Gives borrowed result (bytes_in file.now offset size) }
+    ensures shown { Gives borrowed result (bytes_in file.now offset size) }
+    ensures absent { IfErr result (λ fault. fault ≡ Absent) }
 {
     let length = file.len() as u64;
     if offset > length {
@@ -88,7 +90,8 @@ pub fn file_part(file: &[u8], offset: u64, size: u64) -> Result<&[u8], ViewFault
 
 // The bytes of so many records of one size.
 fn file_table(file: &[u8], offset: u64, count: u64, size: u64) -> Result<&[u8], ViewFault>
-    ensures { Gives borrowed result (bytes_in file.now offset (count * size)) }
+    ensures shown { Gives borrowed result (bytes_in file.now offset (count * size)) }
+    ensures absent { IfErr result (λ fault. fault ≡ Absent) }
 {
     let length = file.len() as u64;
     let Some(all) = count.checked_mul(size) else {
@@ -106,7 +109,8 @@ fn file_table(file: &[u8], offset: u64, count: u64, size: u64) -> Result<&[u8], 
 /// How the file is spelled, and the file header (gABI, ELF Header); `Absent` where they aren't there.
 #[tactic(auto, unfolding(crate::specs::File::opened_of))]
 pub fn open(file: &[u8]) -> Result<(Form, FileHeader), ViewFault>
-    ensures { Gives (opened_model file.now) result (opened_of file.now) }
+    ensures shown { Gives (opened_model file.now) result (opened_of file.now) }
+    ensures absent { IfErr result (λ fault. fault ≡ Absent) }
 {
     let Some(form) = form(file) else {
         return Err(ViewFault::Absent);

@@ -1,8 +1,9 @@
-ghost use Rattle.std.specs.Prelude.{◌≡◌, ◌+◌, ◌*◌, ◌≤◌, ◌<◌, length, Some, IfOk};
+ghost use Rattle.std.specs.Prelude.{◌≡◌, ◌+◌, ◌*◌, ◌≤◌, ◌<◌, length, Some, IfErr, IfOk};
 ghost use Rattle.patch_bytes.specs.Memory.{bytes_at, memory_of};
 ghost use Rattle.elf_format.specs.Dynamic.{entries_at};
 ghost use Rattle.elf_format.specs.Form.{records};
 ghost use Rattle.elf_format.specs.Answers.{Gives, borrowed};
+ghost use Rattle.elf_format.specs.declared.view_fault.ViewFault.TheVariants.{Absent};
 ghost use Rattle.elf_format.specs.Records.{entry_size, section_header, segment_header, symbol_numbers};
 ghost use Rattle.elf_format.specs.Versions.{version_id};
 
@@ -18,7 +19,8 @@ use std::alloc::{AllocError, Global};
 
 /// The bytes of a range, where they are all there; else `Absent`. An empty range is there.
 pub fn range(bytes: &[u8], place: u64, size: u64) -> Result<&[u8], ViewFault>
-    ensures { Gives borrowed result (bytes_at size (memory_of bytes.now) place) }
+    ensures shown { Gives borrowed result (bytes_at size (memory_of bytes.now) place) }
+    ensures absent { IfErr result (λ fault. fault ≡ Absent) }
 {
     let length = bytes.len() as u64;
     if size == 0 {

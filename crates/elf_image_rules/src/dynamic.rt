@@ -3,8 +3,9 @@
 
 pub(crate) mod tables;
 
-ghost use Rattle.std.specs.Prelude.{◌≡◌, IfOk, is_some};
+ghost use Rattle.std.specs.Prelude.{◌≡◌, ◌≢◌, IfErr, IfOk, is_some};
 ghost use Rattle.patch_bytes.specs.Memory.{memory_of};
+ghost use Rattle.elf_format.specs.declared.fault.ElfFault.TheVariants.{Memory};
 ghost use Rattle.elf_format.specs.Dynamic.{entries_at};
 ghost use Rattle.elf_format.specs.Stages.{link_rules};
 ghost use Rattle.elf_image_rules.specs.Read.{Passes, parts_model};
@@ -100,7 +101,9 @@ pub(crate) fn is_interpreter_right(parts: &Headers<'_>) -> bool
 pub fn check_links(linked: bool, parts: &Headers<'_>, raw: &[EntryNumbers]) -> Result<(), ElfFault>
     requires linked { linked ≡ are_tables_linked (parts_model parts.now) }
     requires raw { raw.now ≡ entries_of (parts_model parts.now) }
-    ensures { Passes (parts_model parts.now) result (checked link_rules (parts_model parts.now)) }
+    ensures passes { Passes (parts_model parts.now) result
+        (checked link_rules (parts_model parts.now)) }
+    ensures why { IfErr result (λ fault. fault ≢ Memory) }
 {
     if !linked {
         return Err(ElfFault::Disagree(6));

@@ -1,7 +1,8 @@
-ghost use Rattle.std.specs.Prelude.{◌≡◌};
+ghost use Rattle.std.specs.Prelude.{◌≡◌, ◌≢◌, IfErr};
 ghost use Rattle.elf_format.specs.File.{parts_of};
 ghost use Rattle.elf_image_rules.specs.LinkSteps.{opened_read, table_fault, tables_model};
 ghost use Rattle.elf_format.specs.Answers.{Gives};
+ghost use Rattle.elf_format.specs.declared.fault.ElfFault.TheVariants.{Memory};
 ghost use Rattle.elf_format.specs.Seen.{opened_model};
 ghost use Rattle.elf_format.specs.Stages.{parts_read};
 ghost use Rattle.elf_image_rules.specs.Read.{Passes, Reads, parts_model};
@@ -33,7 +34,8 @@ pub struct Headers<'data> {
 // Checks what the first 16 bytes say, the identification.
 #[tactic(auto, unfolding(elf_format::specs::Rules::checked))]
 fn check_identification(file: &[u8]) -> Result<(), ElfFault>
-    ensures { Passes file.now result (checked identification_rules file.now) }
+    ensures passes { Passes file.now result (checked identification_rules file.now) }
+    ensures why { IfErr result (λ fault. fault ≢ Memory) }
 {
     if file.len() < 16 {
         return Err(ElfFault::Truncated);

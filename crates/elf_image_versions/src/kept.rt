@@ -1,4 +1,4 @@
-ghost use Rattle.std.specs.Prelude.{◌≡◌, ◌≤◌, length, map};
+ghost use Rattle.std.specs.Prelude.{◌≡◌, ◌≤◌, length, map, IfErr};
 ghost use Rattle.patch_bytes.specs.ByteString.{bytes_of_each};
 ghost use Rattle.patch_bytes.specs.Memory.{memory_of, text_at};
 ghost use Rattle.elf_format.specs.declared.constants.TheConstants.{SHT_GNU_VERDEF as VERDEFS, SHT_GNU_VERNEED as VERNEEDS};
@@ -7,6 +7,7 @@ ghost use Rattle.elf_format.specs.Image.{definitions_read, needs_read};
 ghost use Rattle.elf_image_versions.specs.VersionsModel.{definition_model, name_model, needs_model};
 ghost use Rattle.elf_format.specs.Options.{each};
 ghost use Rattle.elf_format.specs.Answers.{Gives};
+ghost use Rattle.elf_format.specs.declared.view_fault.ViewFault.TheVariants.{Absent};
 ghost use Rattle.elf_image_rules.specs.Read.{parts_model};
 ghost use Rattle.elf_format.specs.Rules.{raw_entries};
 ghost use Rattle.elf_format.specs.Versions.{shown_definition, shown_need, shown_need_name};
@@ -90,7 +91,8 @@ fn need_name<'data>(
     raw: NeedNameNumbers,
 ) -> Result<VersionNeedName<'data>, ViewFault>
     requires { length texts.now ≤ room }
-    ensures { Gives name_model result (shown_need_name room (memory_of texts.now) raw) }
+    ensures shown { Gives name_model result (shown_need_name room (memory_of texts.now) raw) }
+    ensures absent { IfErr result (λ fault. fault ≡ Absent) }
 {
     let name = text(room, texts, raw.name as u64)?;
     Ok(VersionNeedName {

@@ -1,10 +1,11 @@
-ghost use Rattle.std.specs.Prelude.{◌≡◌, ◌≤◌, length, map};
+ghost use Rattle.std.specs.Prelude.{◌≡◌, ◌≤◌, length, map, IfErr};
 ghost use Rattle.std.specs.List.{slice_get};
 ghost use Rattle.patch_bytes.specs.Memory.{memory_of};
 ghost use Rattle.elf_format.specs.Image.{section_read};
 ghost use Rattle.elf_image.specs.ImageModel.{section_model};
 ghost use Rattle.elf_format.specs.Options.{each};
 ghost use Rattle.elf_format.specs.Answers.{Gives};
+ghost use Rattle.elf_format.specs.declared.view_fault.ViewFault.TheVariants.{Absent};
 ghost use Rattle.elf_image_rules.specs.Read.{parts_model};
 ghost use Rattle.elf_format.specs.Rules.{data_of, texts_of};
 ghost use Rattle.elf_image.specs.TextSteps.{named_section};
@@ -38,7 +39,9 @@ fn section<'data>(
     kind: SectionData,
 ) -> Result<Section<'data>, ViewFault>
     requires { length names.now ≤ length file.now }
-    ensures { Gives section_model result (named_section file.now (memory_of names.now) header kind) }
+    ensures shown { Gives section_model result
+        (named_section file.now (memory_of names.now) header kind) }
+    ensures absent { IfErr result (λ fault. fault ≡ Absent) }
 {
     let name = text(file.len(), names, header.sh_name as u64)?;
     Ok(Section {

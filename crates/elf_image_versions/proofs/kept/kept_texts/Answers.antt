@@ -12,7 +12,7 @@ pub returns-in_err-one : goal.returns-in_err-one
 returns-in_err-one c =
     let p = err_from_is_err_and c.from_residual.result c.from_residual.ensures.1 in
     let f : ℕ → Option (List ℕ) = text_at c.args.room (memory_of c.args.texts.now) in
-    rw (p.1, p.2) (each_ends f c.in_err-one.field-0.0 (bytes_of_each c.loop-place.made.items) c.args.places.now c.loop-place.place-index (0) (each f c.args.places.now) c.loop-place-test.true c.in_err-one.ensures c.loop-place.invariant)
+    rw (p.1, p.2) (each_ends f c.in_err-one.field-0.0 (bytes_of_each c.loop-place.made.items) c.args.places.now c.loop-place.place-index (0) (each f c.args.places.now) c.loop-place-test.true c.in_err-one.ensures.shown c.loop-place.invariant)
 
 pub loop-place-preserved : goal.loop-place-preserved
 loop-place-preserved c =
@@ -23,7 +23,7 @@ loop-place-preserved c =
     ap bytes_of_each c.in_ok-push.ensures.items
     ∙ map_push shown c.loop-place.made.items c.borrowed.result
     ∙ ap (λ (x : StringValue). bytes_of_each c.loop-place.made.items ++ x.bytes ∷ []) c.borrowed.ensures in
-    rw e (each_goes f (bytes_of_each c.loop-place.made.items) c.args.places.now c.loop-place.place-index (0) made.now (each f c.args.places.now) c.loop-place-test.true c.in_ok-one.ensures c.loop-place.invariant)
+    rw e (each_goes f (bytes_of_each c.loop-place.made.items) c.args.places.now c.loop-place.place-index (0) made.now (each f c.args.places.now) c.loop-place-test.true c.in_ok-one.ensures.shown c.loop-place.invariant)
 
 pub returns : goal.returns
 returns c =

@@ -15,14 +15,14 @@ pub returns-in_err-one : goal.returns-in_err-one
 returns-in_err-one c =
     let p = err_from_is_err_and c.from_residual.result c.from_residual.ensures.1 in
     let f : NeedNameNumbers → Option (VersionName) = shown_need_name c.args.room (memory_of c.args.texts.now) in
-    rw (p.1, p.2) (each_ends f c.in_err-one.field-0.0 (map name_model c.loop-version.made.items) c.args.versions.now c.loop-version.version-index (no_name) (each f c.args.versions.now) c.loop-version-test.true c.in_err-one.ensures c.loop-version.invariant)
+    rw (p.1, p.2) (each_ends f c.in_err-one.field-0.0 (map name_model c.loop-version.made.items) c.args.versions.now c.loop-version.version-index (no_name) (each f c.args.versions.now) c.loop-version-test.true c.in_err-one.ensures.shown c.loop-version.invariant)
 
 pub loop-version-preserved : goal.loop-version-preserved
 loop-version-preserved c =
     let f : NeedNameNumbers → Option (VersionName) = shown_need_name c.args.room (memory_of c.args.texts.now) in
     let made = c.in_ok-one.one in
     let e : map name_model c.push.new.self.items ≡ map name_model c.loop-version.made.items ++ name_model made ∷ [] = rw c.in_ok-push.ensures.items (map_push name_model c.loop-version.made.items made) in
-    rw e (each_goes f (map name_model c.loop-version.made.items) c.args.versions.now c.loop-version.version-index (no_name) (name_model made) (each f c.args.versions.now) c.loop-version-test.true c.in_ok-one.ensures c.loop-version.invariant)
+    rw e (each_goes f (map name_model c.loop-version.made.items) c.args.versions.now c.loop-version.version-index (no_name) (name_model made) (each f c.args.versions.now) c.loop-version-test.true c.in_ok-one.ensures.shown c.loop-version.invariant)
 
 pub returns : goal.returns
 returns c =

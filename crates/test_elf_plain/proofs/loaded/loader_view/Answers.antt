@@ -11,24 +11,24 @@ use Rattle.test_elf_plain.proofs.loaded.loader_view.Goals as goal
 pub returns-in_err-form : goal.returns-in_err-form
 returns-in_err-form c =
     let p = err_from_is_err_and c.from_residual.result c.from_residual.ensures.1 in
-    rw (p.1, p.2) (loader_fails_open c.args.file.now c.args.symbol_count c.in_err-form.field-0.0 c.in_err-form.ensures)
+    rw (p.1, p.2) (loader_fails_open c.args.file.now c.args.symbol_count c.in_err-form.field-0.0 c.in_err-form.ensures.shown)
 
 pub returns-in_err-segments : goal.returns-in_err-segments
 returns-in_err-segments c =
     let p = err_from_is_err_and c.from_residual-in_err-segments.result c.from_residual-in_err-segments.ensures.1 in
-    rw (p.1, p.2) (loader_fails_segments c.args.file.now c.args.symbol_count c.in_err-segments.field-0.0 (opened_model c.args.file.now (c.in_ok-form.form, c.in_ok-form.header)) c.in_ok-form.ensures c.in_err-segments.ensures)
+    rw (p.1, p.2) (loader_fails_segments c.args.file.now c.args.symbol_count c.in_err-segments.field-0.0 (opened_model c.args.file.now (c.in_ok-form.form, c.in_ok-form.header)) c.in_ok-form.ensures.shown c.in_err-segments.ensures)
 
 pub returns-in_err-loaded_interpreter : goal.returns-in_err-loaded_interpreter
 returns-in_err-loaded_interpreter c =
     let p = err_from_is_err_and c.from_residual-in_err-loaded_interpreter.result c.from_residual-in_err-loaded_interpreter.ensures.1 in
     rw (p.1, p.2) (loader_fails_interpreter c.args.file.now c.args.symbol_count c.in_err-loaded_interpreter.field-0.0 (opened_model c.args.file.now (c.in_ok-form.form, c.in_ok-form.header))
-    c.in_ok-segments.segments.items c.deref-2.result.now c.in_ok-form.ensures c.in_ok-segments.ensures c.deref-2.ensures.value c.in_err-loaded_interpreter.ensures)
+    c.in_ok-segments.segments.items c.deref-2.result.now c.in_ok-form.ensures.shown c.in_ok-segments.ensures c.deref-2.ensures.value c.in_err-loaded_interpreter.ensures)
 
 pub returns : goal.returns
 returns c =
     subst (Gives view_model c.show_loaded.result)
     (sym (loader_sees c.args.file.now c.args.symbol_count (opened_model c.args.file.now (c.in_ok-form.form, c.in_ok-form.header)) c.in_ok-segments.segments.items
-    c.in_ok-form.ensures c.in_ok-segments.ensures
+    c.in_ok-form.ensures.shown c.in_ok-segments.ensures
     c.stack_flags.result (c.stack_flags.ensures ∙ ap flags_of_stack c.deref.ensures.value)
     c.deref-2.result.now c.deref-2.ensures.value
     (option_map borrowed c.in_ok-loaded_interpreter.field-0) c.in_ok-loaded_interpreter.ensures

@@ -8,21 +8,21 @@ use Rattle.elf_image_versions.proofs.needs.RawNeedsChainRecord.read.Goals as goa
 pub overflow_add-start : goal.overflow_add-start
 overflow_add-start c =
     let within : c.args.place ≤ length c.args.bytes.now = begins_within 16 c.args.place c.args.bytes.now c.in-Some.record.now (omega arith)
-    (found_there borrowed c.range.result (bytes_at 16 (memory_of c.args.bytes.now) c.args.place) c.in_ok-record.field-0 c.in-Some.record c.range.ensures c.in_ok-record.ensures c.in-Some.is) in
+    (found_there borrowed c.range.result (bytes_at 16 (memory_of c.args.bytes.now) c.args.place) c.in_ok-record.field-0 c.in-Some.record c.range.ensures.shown c.in_ok-record.ensures c.in-Some.is) in
     omega (arith, within)
 
 pub returns-in_default-clause-step : goal.returns-in_default-clause-step
 returns-in_default-clause-step c =
     sym (need_missing c.args.form (memory_of c.args.bytes.now) c.args.place
-    (found_none borrowed c.range.result (bytes_at 16 (memory_of c.args.bytes.now) c.args.place) c.in_ok-record.field-0 c.range.ensures c.in_ok-record.ensures c.in_default.is))
+    (found_none borrowed c.range.result (bytes_at 16 (memory_of c.args.bytes.now) c.args.place) c.in_ok-record.field-0 c.range.ensures.shown c.in_ok-record.ensures c.in_default.is))
 
 pub returns-clause-step : goal.returns-clause-step
 returns-clause-step c =
-    let here = found_there borrowed c.range.result (bytes_at 16 (memory_of c.args.bytes.now) c.args.place) c.in_ok-record.field-0 c.in-Some.record c.range.ensures c.in_ok-record.ensures c.in-Some.is in
+    let here = found_there borrowed c.range.result (bytes_at 16 (memory_of c.args.bytes.now) c.args.place) c.in_ok-record.field-0 c.in-Some.record c.range.ensures.shown c.in_ok-record.ensures c.in-Some.is in
     need_there c.args.form (memory_of c.args.bytes.now) c.args.place c.in-Some.record.now c.in_ok-versions.versions.values.items c.in_ok-versions.versions.is_whole c.half_at-count.result c.word_at.result
     c.word_at-2.result c.word_at-next.result here c.half_at-count.ensures c.word_at.ensures c.in_ok-versions.ensures c.word_at-2.ensures c.word_at-next.ensures
 
 pub returns-clause-within : goal.returns-clause-within
 returns-clause-within c =
     begins_within 16 c.args.place c.args.bytes.now c.in-Some.record.now (omega arith)
-    (found_there borrowed c.range.result (bytes_at 16 (memory_of c.args.bytes.now) c.args.place) c.in_ok-record.field-0 c.in-Some.record c.range.ensures c.in_ok-record.ensures c.in-Some.is)
+    (found_there borrowed c.range.result (bytes_at 16 (memory_of c.args.bytes.now) c.args.place) c.in_ok-record.field-0 c.in-Some.record c.range.ensures.shown c.in_ok-record.ensures c.in-Some.is)

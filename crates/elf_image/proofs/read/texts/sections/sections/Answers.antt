@@ -35,7 +35,7 @@ returns-in_err-one c =
     let less : c.loop-i.i < length p.sections = omega (arith, ap length c.deref-header-items.ensures.value) in
     let here = at_place p c.deref-header-items.result.now c.args.kinds.now c.section_names-names.result.now c.loop-i.i c.deref-header-items.ensures.value c.requires less c.section_names-names.ensures.value in
     rw (e.1, e.2) (each_ends (section_read p) c.in_err-one.field-0.0 (map section_model c.loop-i.made.items) p.sections c.loop-i.i no_section (each (section_read p) p.sections) less
-    (subst (Fails c.in_err-one.field-0.0) here c.in_err-one.ensures) c.loop-i.invariant)
+    (subst (Fails c.in_err-one.field-0.0) here c.in_err-one.ensures.shown) c.loop-i.invariant)
 
 pub loop-i-preserved : goal.loop-i-preserved
 loop-i-preserved c =
@@ -43,7 +43,7 @@ loop-i-preserved c =
     let less : c.loop-i.i < length p.sections = omega (arith, ap length c.deref-header-items.ensures.value) in
     let here = at_place p c.deref-header-items.result.now c.args.kinds.now c.section_names-names.result.now c.loop-i.i c.deref-header-items.ensures.value c.requires less c.section_names-names.ensures.value in
     let pushed : map section_model c.push.new.self.items ≡ map section_model c.loop-i.made.items ++ section_model c.in_ok-one.one ∷ [] = ap (map section_model) c.in_ok-push.ensures.items ∙ map_push section_model c.loop-i.made.items c.in_ok-one.one in
-    rw pushed (each_goes (section_read p) (map section_model c.loop-i.made.items) p.sections c.loop-i.i no_section (section_model c.in_ok-one.one) (each (section_read p) p.sections) less (sym here ∙ c.in_ok-one.ensures) c.loop-i.invariant)
+    rw pushed (each_goes (section_read p) (map section_model c.loop-i.made.items) p.sections c.loop-i.i no_section (section_model c.in_ok-one.one) (each (section_read p) p.sections) less (sym here ∙ c.in_ok-one.ensures.shown) c.loop-i.invariant)
 
 pub returns : goal.returns
 returns c =
