@@ -22,6 +22,8 @@ use Rattle.elf_format.specs.Rules.{ArePartsOf, MeetsRules, dynamic_texts_of, fil
 use Rattle.elf_format.specs.Versions.{VersionNeeds}
 use Rattle.elf_format.specs.Views.{NamedSymbol, section_memory}
 use Rattle.elf_image_parts.specs.DynamicList.{IsListed, holds_nul}
+use Rattle.elf_image.proofs.Unclaimed.{none_went}
+use Rattle.elf_image_parts.specs.Segments.{loads_end}
 use Rattle.elf_image.specs.Edited.{AreEntriesOf, AreKept, ArePicked, AreSameNeeds, AreSegments, IsEdited, IsEditOf, IsInterpreterOf, IsName, IsSameDynamicSymbol, IsSameSection, IsSameSymbol, kept_segment}
 use Rattle.elf_image.specs.ReadImage.{AreDynamicSymbols, AreStaticSymbols, HoldsParts}
 use Rattle.elf_image.proofs.ReadComplete.{read_is_complete}
@@ -177,7 +179,10 @@ module _ (p : Parts) (file : List ℕ) (parts : ArePartsOf file p) (rules : Meet
   edits_itself = record {
     form = refl;
     header = refl;
-    segments = subst (λ (o : Option ℕ). AreSegments o image.segments image.segments) (sym holds.page_size) (record {
+    segments = subst (λ (o : Option ℕ). AreSegments image.header.e_phoff o image.segments image.segments) (sym holds.page_size) (record {
+      unclaimed = image.segments;
+      are_unclaimed = none_went image.header.e_phoff (loads_end image.segments) image.segments;
+      loaded = λ there. there;
       kept = image.segments;
       added = None;
       are_kept = all_kept image.segments;

@@ -28,3 +28,5 @@ pub use Rattle.elf_image.proofs.ReadSingles
 pub use Rattle.elf_image.proofs.ListsLeft
 -- records of needed versions of which the libraries' names may be others
 pub use Rattle.elf_image.proofs.NeedsKept
+-- loaded segments that were laid out anew: what is left of the program headers that were read, and where the loaded ones end
+pub use Rattle.elf_image.proofs.Unclaimed

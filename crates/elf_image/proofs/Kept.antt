@@ -60,7 +60,8 @@ with_entries image new h step = record {
 }
 
 -- other program headers, and another page size
-pub with_segments : (image : Image) (size : Option ℕ) (new : List SegmentHeader) → IsEdited image → ((read : List SegmentHeader) → AreSegments image.page_size read image.segments → AreSegments size read new)
+pub with_segments : (image : Image) (size : Option ℕ) (new : List SegmentHeader) → IsEdited image
+    → ((table : ℕ) (read : List SegmentHeader) → AreSegments table image.page_size read image.segments → AreSegments table size read new)
     → is_some (segment_of_type PT_INTERP new) ≡ is_some (segment_of_type PT_INTERP image.segments) → IsEdited (record image { changed = true; segments = new; page_size = size })
 with_segments image size new h step same = record {
   read = h.read;
@@ -68,7 +69,7 @@ with_segments image size new h step same = record {
   is_edit = record {
     form = h.is_edit.form;
     header = h.is_edit.header;
-    segments = step h.read.segments h.is_edit.segments;
+    segments = step h.read.header.e_phoff h.read.segments h.is_edit.segments;
     sections = h.is_edit.sections;
     symbols = h.is_edit.symbols;
     dynamic_symbols = h.is_edit.dynamic_symbols;
@@ -124,40 +125,6 @@ needs_complete read image needs h = record {
   tables = h.tables;
   interpreter = h.interpreter;
   interpreter_section = h.interpreter_section;
-}
-
--- leave that the dynamic section moves
-pub with_dynamic_move : (image : Image) → IsEdited image → IsEdited (record image { changed = true; moves_dynamic = true })
-with_dynamic_move image h = record {
-  read = h.read;
-  is_read = h.is_read;
-  is_edit = record {
-    form = h.is_edit.form;
-    header = h.is_edit.header;
-    segments = h.is_edit.segments;
-    sections = h.is_edit.sections;
-    symbols = h.is_edit.symbols;
-    dynamic_symbols = h.is_edit.dynamic_symbols;
-    definitions = h.is_edit.definitions;
-    needs = h.is_edit.needs;
-    entries = h.is_edit.entries;
-    interpreter = h.is_edit.interpreter;
-    complete = record {
-      lasting = h.is_edit.complete.lasting;
-      linked = h.is_edit.complete.linked;
-      first_dynamic = h.is_edit.complete.first_dynamic;
-      first_static = h.is_edit.complete.first_static;
-      no_static = h.is_edit.complete.no_static;
-      dynamic_sections = h.is_edit.complete.dynamic_sections;
-      static_sections = h.is_edit.complete.static_sections;
-      dynamic_relocated = h.is_edit.complete.dynamic_relocated;
-      static_relocated = h.is_edit.complete.static_relocated;
-      tables = h.is_edit.complete.tables;
-      interpreter = h.is_edit.complete.interpreter;
-      interpreter_section = h.is_edit.complete.interpreter_section;
-    };
-    unchanged = λ e. absurd (true≢false e);
-  };
 }
 
 -- another ABI

@@ -10,7 +10,7 @@ use Rattle.elf_format.specs.declared.constants.TheConstants.{PT_INTERP}
 use Rattle.elf_format.specs.declared.records.SegmentHeader.{SegmentHeader}
 use Rattle.elf_format.specs.File.{segment_of_type}
 use Rattle.elf_image.specs.Edited.{IsEdited}
-use Rattle.elf_image.specs.Lookups.{has_interpreter, interpreter_position}
+use Rattle.elf_image.specs.Lookups.{interpreter_position}
 use Rattle.elf_image.specs.Kept.{KeptSection, interpreter_number, kept_from, kept_sections, link_in_sections, link_of_type, stands_as_interpreter}
 
 -- as many numbers as sections
@@ -78,9 +78,9 @@ number_by_position read is = by_segment (segment_of_type PT_INTERP read.segments
   where
     by_segment : (o : Option SegmentHeader)
         → (o >>= λ p. find (λ s. stands_as_interpreter p s.section) (kept_sections read) >>= λ s. Some s.number)
-        ≡ ((o >>= (λ p. position (has_interpreter p) read.sections)) >>= λ i. Some (slice_index read.section_numbers i))
+        ≡ ((o >>= (λ p. position (stands_as_interpreter p) read.sections)) >>= λ i. Some (slice_index read.section_numbers i))
     by_segment None = refl
-    by_segment (Some p) = number_kept (has_interpreter p) 0 read.section_numbers read.sections (as_many read is)
+    by_segment (Some p) = number_kept (stands_as_interpreter p) 0 read.section_numbers read.sections (as_many read is)
 
 -- ## Each at its position
 

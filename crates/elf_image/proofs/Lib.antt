@@ -2,9 +2,11 @@ pub mod ImageSteps
 pub mod ReadSteps
 pub mod TextSteps
 pub mod ReadImageLaws
+pub mod Unclaimed
 pub mod EditedLaws
 pub mod SegmentsKept
 pub mod EntriesKept
+pub mod SegmentsReclaimed
 pub mod Kept
 pub mod NeedsKept
 pub mod KeptSections

@@ -198,7 +198,7 @@ module _ (image : Image) (h : IsEdited image) where
       by_segment : (o : Option SegmentHeader) → segment_of_type PT_INTERP image.segments ≡ o → is_some (segment_of_type PT_INTERP image.segments) ≡ true → (n : ℕ) × HasInterpreter n
       by_segment None none there = absurd (false≢true (sym (ap is_some none) ∙ there))
       by_segment (Some p) is there =
-          let (old, was, kept) = interpreter_of_read image.page_size h.read.segments image.segments p (few_interpreters image.source h.read h.is_read) h.is_edit.segments is in
+          let (old, was, kept) = interpreter_of_read image.page_size h.read.header.e_phoff h.read.segments image.segments p (few_interpreters image.source h.read h.is_read) h.is_edit.segments is in
           interpreter_by p is old was (λ s. ap (λ (q : SegmentHeader). stands_as_interpreter q s) kept) (find (λ s. stands_as_interpreter old s.section) (kept_sections h.read)) refl
           (h.is_edit.complete.interpreter_section some)
 
@@ -464,7 +464,7 @@ module _ (image : Image) (gone : List ℕ) (h : IsEdited image) (can : CanDelete
     is_edit = record {
       form = h.is_edit.form;
       header = h.is_edit.header;
-      segments = segments_without image gone image.page_size h.read.segments h.is_edit.segments;
+      segments = segments_without image gone h.read.header.e_phoff image.page_size h.read.segments h.is_edit.segments;
       sections = picked_left h.read.sections gone image.section_numbers image.sections h.is_edit.sections;
       symbols = picked_left h.read.symbols along image.symbol_numbers image.symbols h.is_edit.symbols;
       dynamic_symbols = h.is_edit.dynamic_symbols;

@@ -1,5 +1,5 @@
 -- Each change of an image leaves one that was read and edited.
-use Rattle.std.proofs.Common.{◌≡◌, ℕ, Bool, true, false, cond, List, [], ◌∷◌, ◌++◌, refl, sym, ap, ◌∙◌, inl, inr, Option, Some, None}
+use Rattle.std.proofs.Common.{◌≡◌, ℕ, Bool, true, false, cond, List, [], ◌∷◌, ◌++◌, refl, sym, ap, ◌∙◌, inl, inr, subst, Option, Some, None}
 use Rattle.std.specs.Prelude.{◌==◌, if◌then◌else◌, IsSome, is_some, unwrap_or}
 use Rattle.std.specs.Option.{option_map, option_to_list}
 use Rattle.std.proofs.lemmas.Bool.{ne_eqb}
@@ -8,8 +8,9 @@ use Rattle.std.proofs.lemmas.Option.{none-some}
 use Rattle.elf_format.specs.declared.constants.TheConstants.{PT_GNU_STACK, PT_INTERP, PT_LOAD}
 use Rattle.elf_format.specs.declared.records.SegmentHeader.{SegmentHeader}
 use Rattle.elf_format.specs.File.{segment_of_type}
-use Rattle.elf_image.specs.Edited.{AreKept, AreSegments, CanGo, kept_segment}
-use Rattle.elf_image_parts.specs.Segments.{added_stack, with_align, with_load_align, with_stack_added, with_stack_flags}
+use Rattle.elf_image.specs.Edited.{AreKept, AreSegments, AreUnclaimed, CanGo, kept_segment}
+use Rattle.elf_image_parts.specs.Segments.{added_stack, loads_end, with_align, with_load_align, with_stack_added, with_stack_flags}
+use Rattle.elf_image.proofs.Unclaimed.{end_aligned, end_same, find_unclaimed, loads_flagged, loads_pushed}
 
 -- ## Program headers
 
@@ -36,11 +37,14 @@ added_aligned : (n : ℕ) (o : Option ℕ) → with_load_align n (option_to_list
 added_aligned n None = refl
 added_aligned n (Some flags) = refl
 
-pub segments_aligned : (size : Option ℕ) (n : ℕ) (read now : List SegmentHeader) → AreSegments size read now → AreSegments (Some n) read (with_load_align n now)
-segments_aligned size n read now h = record {
+pub segments_aligned : (table : ℕ) (size : Option ℕ) (n : ℕ) (read now : List SegmentHeader) → AreSegments table size read now → AreSegments table (Some n) read (with_load_align n now)
+segments_aligned table size n read now h = record {
+  unclaimed = h.unclaimed;
+  are_unclaimed = subst (λ (end : ℕ). AreUnclaimed table end read h.unclaimed) (sym (end_aligned n now)) h.are_unclaimed;
+  loaded = h.loaded;
   kept = with_load_align n h.kept;
   added = h.added;
-  are_kept = aligned_kept size n read h.kept h.are_kept;
+  are_kept = aligned_kept size n h.unclaimed h.kept h.are_kept;
   are_all = ap (with_load_align n) h.are_all ∙ map-append (with_align n) h.kept (option_to_list (option_map added_stack h.added)) ∙ ap (λ ps. with_load_align n h.kept ++ ps) (added_aligned n h.added);
   only_one = h.only_one;
 }
@@ -102,10 +106,14 @@ flagged_kept size flags (old ∷ olds) (p ∷ ps) o h = elim h [
       record { kept = more.kept; added = more.added; are_kept = gone_kept size old olds more.kept gone.0 more.are_kept; are_all = more.are_all; only = more.only }
 ]
 
-pub segments_flagged : (size : Option ℕ) (flags : ℕ) (read now : List SegmentHeader) → AreSegments size read now → AreSegments size read (with_stack_flags flags now)
-segments_flagged size flags read now h =
-    let made = flagged_kept size flags read h.kept h.added h.are_kept in
+pub segments_flagged : (table : ℕ) (size : Option ℕ) (flags : ℕ) (read now : List SegmentHeader) → AreSegments table size read now → AreSegments table size read (with_stack_flags flags now)
+segments_flagged table size flags read now h =
+    let made = flagged_kept size flags h.unclaimed h.kept h.added h.are_kept in
+    let end : loads_end (with_stack_flags flags now) ≡ loads_end now = end_same (with_stack_flags flags now) now (loads_flagged flags now) in
     record {
+      unclaimed = h.unclaimed;
+      are_unclaimed = subst (λ (e : ℕ). AreUnclaimed table e read h.unclaimed) (sym end) h.are_unclaimed;
+      loaded = h.loaded;
       kept = made.kept;
       added = made.added;
       are_kept = made.are_kept;
@@ -143,11 +151,17 @@ none_added : (o : Option ℕ) → segment_of_type PT_GNU_STACK (option_to_list (
 none_added None h = refl
 none_added (Some flags) h = absurd (none-some (added_stack flags) (sym h))
 
-pub segments_pushed : (size : Option ℕ) (flags : ℕ) (read now : List SegmentHeader) → segment_of_type PT_GNU_STACK now ≡ None → AreSegments size read now → AreSegments size read (with_stack_added flags now)
-segments_pushed size flags read now none h =
-    let (unread, unadded) = none_read size read h.kept (option_to_list (option_map added_stack h.added)) h.are_kept (ap (segment_of_type PT_GNU_STACK) (sym h.are_all) ∙ none) in
+pub segments_pushed : (table : ℕ) (size : Option ℕ) (flags : ℕ) (read now : List SegmentHeader) → segment_of_type PT_GNU_STACK now ≡ None → AreSegments table size read now → AreSegments table size read (with_stack_added flags now)
+segments_pushed table size flags read now none h =
+    let (unclaimed, unadded) = none_read size h.unclaimed h.kept (option_to_list (option_map added_stack h.added)) h.are_kept (ap (segment_of_type PT_GNU_STACK) (sym h.are_all) ∙ none) in
+    let unread : segment_of_type PT_GNU_STACK read ≡ None =
+    sym (find_unclaimed table (loads_end now) (λ p. p.p_type == PT_GNU_STACK) (λ p load. ap (λ (n : ℕ). n == PT_GNU_STACK) load) read h.unclaimed h.are_unclaimed) ∙ unclaimed in
+    let end : loads_end (with_stack_added flags now) ≡ loads_end now = end_same (with_stack_added flags now) now (loads_pushed flags now) in
     let all : now ≡ h.kept = h.are_all ∙ ap (λ o. h.kept ++ option_to_list (option_map added_stack o)) (none_added h.added unadded) ∙ append-nil h.kept in
     record {
+      unclaimed = h.unclaimed;
+      are_unclaimed = subst (λ (e : ℕ). AreUnclaimed table e read h.unclaimed) (sym end) h.are_unclaimed;
+      loaded = h.loaded;
       kept = h.kept;
       added = Some flags;
       are_kept = h.are_kept;

@@ -3,7 +3,7 @@ use Rattle.std.proofs.Common.{◌≡◌, ◌≢◌, ℕ, ◌≤◌, Bool, true, 
 use Rattle.std.specs.Prelude.{◌==◌, ◌&&◌, count_by, find, if◌then◌else◌, not}
 use Rattle.std.specs.List.{list_any}
 use Rattle.std.specs.Option.{option_map, option_to_list}
-use Rattle.std.proofs.lemmas.Bool.{and_parts, false≢true, not-true, true≢false}
+use Rattle.std.proofs.lemmas.Bool.{and_parts, false≢true, ne_eqb, not-true, true≢false}
 use Rattle.std.proofs.lemmas.List.Elements.{filter-append}
 use Rattle.std.proofs.lemmas.Option.{none-some, same_Some}
 use Rattle.elf_format.specs.declared.constants.TheConstants.{PT_DYNAMIC, PT_GNU_STACK, PT_INTERP, PT_LOAD}
@@ -11,13 +11,14 @@ use Rattle.elf_format.specs.declared.records.SegmentHeader.{SegmentHeader}
 use Rattle.elf_format.specs.File.{segment_of_type}
 use Rattle.elf_format.specs.Image.{Image}
 use Rattle.elf_format.specs.Options.{is_one_of}
-use Rattle.elf_image_parts.specs.Segments.{added_stack}
+use Rattle.elf_image_parts.specs.Segments.{added_stack, loads_end}
 use Rattle.elf_image.specs.Along.{begins_in, is_deserted}
 use Rattle.elf_image.specs.Deleted.{does_interpreter_go, segments_left}
-use Rattle.elf_image.specs.Edited.{AreKept, AreSegments, CanGo, kept_segment}
+use Rattle.elf_image.specs.Edited.{AreKept, AreSegments, AreUnclaimed, CanGo, kept_segment}
 use Rattle.elf_image.specs.Staying.{going, staying}
 use Rattle.elf_image.proofs.ListsLeft.{count_first, find_left, first_place, found_there, left_was, count_some}
 use Rattle.elf_image.proofs.SegmentsKept.{gone_kept}
+use Rattle.elf_image.proofs.Unclaimed.{count_unclaimed, end_same, find_unclaimed, loads_filtered}
 
 -- ## Some go
 
@@ -73,13 +74,20 @@ not_false : (b : Bool) → not b ≡ false → b ≡ true
 not_false true h = refl
 not_false false h = absurd (true≢false h)
 
-pub segments_without : (image : Image) (gone : List ℕ) (size : Option ℕ) (read : List SegmentHeader) → AreSegments size read image.segments → AreSegments size read (segments_left gone image)
-segments_without image gone size read h =
+pub segments_without : (image : Image) (gone : List ℕ) (table : ℕ) (size : Option ℕ) (read : List SegmentHeader) → AreSegments table size read image.segments
+    → AreSegments table size read (segments_left gone image)
+segments_without image gone table size read h =
     let keep : SegmentHeader → Bool = λ p. not (is_deserted image gone p) in
+    let goes : (p : SegmentHeader) → keep p ≡ false → CanGo p = λ p fails. deserted_goes image gone p (not_false (is_deserted image gone p) fails) in
+    let end : loads_end (segments_left gone image) ≡ loads_end image.segments =
+    end_same (segments_left gone image) image.segments (loads_filtered keep (λ p fails. ne_eqb p.p_type PT_LOAD (goes p fails).0) image.segments) in
     record {
+      unclaimed = h.unclaimed;
+      are_unclaimed = subst (λ (e : ℕ). AreUnclaimed table e read h.unclaimed) (sym end) h.are_unclaimed;
+      loaded = h.loaded;
       kept = filter keep h.kept;
       added = h.added;
-      are_kept = some_kept keep size (λ p fails. deserted_goes image gone p (not_false (is_deserted image gone p) fails)) read h.kept h.are_kept;
+      are_kept = some_kept keep size goes h.unclaimed h.kept h.are_kept;
       are_all =
           ap (filter keep) h.are_all ∙ filter-append keep h.kept (option_to_list (option_map added_stack h.added))
           ∙ ap (λ (ps : List SegmentHeader). filter keep h.kept ++ ps) (added_stays keep (λ flags. refl) h.added);
@@ -159,8 +167,12 @@ module _ (size : Option ℕ) where
   no_interpreter_added None = refl
   no_interpreter_added (Some flags) = refl
 
-  pub interpreter_of_read : (read now : List SegmentHeader) (found : SegmentHeader) → count_by is_interpreter read ≤ 1 → AreSegments size read now → segment_of_type PT_INTERP now ≡ Some found
-      → (old : SegmentHeader) × (segment_of_type PT_INTERP read ≡ Some old) × (found ≡ kept_segment size found.p_flags old)
-  interpreter_of_read read now found few h is =
-      first_of_read read h.kept (option_to_list (option_map added_stack h.added)) found few h.are_kept (no_interpreter_added h.added)
-      (ap (find is_interpreter) (sym h.are_all) ∙ is)
+  pub interpreter_of_read : (table : ℕ) (read now : List SegmentHeader) (found : SegmentHeader) → count_by is_interpreter read ≤ 1 → AreSegments table size read now
+      → segment_of_type PT_INTERP now ≡ Some found → (old : SegmentHeader) × (segment_of_type PT_INTERP read ≡ Some old) × (found ≡ kept_segment size found.p_flags old)
+  interpreter_of_read table read now found few h is =
+      let other : (p : SegmentHeader) → p.p_type ≡ PT_LOAD → is_interpreter p ≡ false = λ p load. ap (λ (n : ℕ). n == PT_INTERP) load in
+      let fewer : count_by is_interpreter h.unclaimed ≤ 1 =
+      subst (λ (n : ℕ). n ≤ 1) (sym (count_unclaimed table (loads_end now) is_interpreter other read h.unclaimed h.are_unclaimed)) few in
+      let (old, there, as_kept) = first_of_read h.unclaimed h.kept (option_to_list (option_map added_stack h.added)) found fewer h.are_kept (no_interpreter_added h.added)
+      (ap (find is_interpreter) (sym h.are_all) ∙ is) in
+      (old, sym (find_unclaimed table (loads_end now) is_interpreter other read h.unclaimed h.are_unclaimed) ∙ there, as_kept)

@@ -1,19 +1,20 @@
 -- What an image is: one that was read from its source, with those changes that the calls of `Builder` can make.
-use Rattle.std.specs.Prelude.{ℕ, ◌≡◌, ◌≢◌, ◌<◌, ◌⊎◌, List, [], ◌∷◌, ◌++◌, length, slice_index, All, false, not, ◌==◌, if◌then◌else◌, IsTrue, IsSome, Option, Some, None, unwrap_or, Ok}
-use Rattle.std.specs.List.{slice_get}
+use Rattle.std.specs.Prelude.{ℕ, ◌≡◌, ◌≢◌, ◌<◌, ◌≤◌, ◌⊎◌, List, [], ◌∷◌, ◌++◌, length, slice_index, All, false, true, not, ◌==◌, if◌then◌else◌, IsTrue, IsSome, Option, Some, None, unwrap_or, Ok}
+use Rattle.std.specs.List.{list_any, slice_get}
 use Rattle.std.specs.Option.{option_map, option_to_list}
 use Rattle.elf_format.specs.declared.constants.TheConstants.{PT_DYNAMIC, PT_GNU_STACK, PT_LOAD}
 use Rattle.elf_format.specs.declared.records.SegmentHeader.{SegmentHeader}
 use Rattle.elf_format.specs.declared.version_id.VersionId.{VersionId}
 use Rattle.elf_format.specs.Dynamic.{Entry}
-use Rattle.elf_format.specs.File.{segment_of_type}
+use Rattle.elf_format.specs.File.{is_loaded, segment_of_type}
 use Rattle.elf_format.specs.Image.{Image, ImageSection, image_of}
 use Rattle.elf_format.specs.Versions.{VersionNeeds}
 use Rattle.elf_format.specs.Views.{NamedSymbol}
 use Rattle.elf_image_symbol_edits.specs.EditedList.{as_global}
 use Rattle.elf_image.specs.Complete.{IsComplete}
 use Rattle.elf_image_parts.specs.DynamicList.{IsListed, all_but_last, holds_nul, tables_of}
-use Rattle.elf_image_parts.specs.Segments.{added_stack}
+use Rattle.elf_image_parts.specs.Segments.{added_stack, loads_end}
+use Rattle.elf_image_parts.specs.Spare.{has_place}
 
 -- ## Sections and symbols
 
@@ -62,6 +63,24 @@ pub record AreNeedsOf (read : Image) (now : List VersionNeeds) : Type 0 where
   pub same : AreSameNeeds read.needs now
   pub unlisted : read.entries ≡ None → now ≡ read.needs
 
+-- ## Loaded segments that are laid out anew
+
+-- A loaded segment that an edit took away: it starts behind those that are there, and was the one neither of the file header nor of the
+-- program header table.
+pub record IsReclaimed (table end : ℕ) (old : SegmentHeader) : Type 0 where
+  pub loaded : old.p_type ≡ PT_LOAD
+  pub behind : end ≤ old.p_vaddr
+  pub no_header : old.p_offset ≢ 0
+  pub no_table : has_place table old ≡ false
+
+-- those that were read, in their order, of which such ones may have gone
+abbrev pub AreUnclaimed : ℕ → ℕ → List SegmentHeader → List SegmentHeader → Type 0
+AreUnclaimed table end [] [] = Unit {0}
+AreUnclaimed table end [] (p ∷ ps) = ⊥
+AreUnclaimed table end (old ∷ olds) [] = IsReclaimed table end old × AreUnclaimed table end olds []
+AreUnclaimed table end (old ∷ olds) (p ∷ ps) =
+    ((p ≡ old) × AreUnclaimed table end olds ps) ⊎ (IsReclaimed table end old × AreUnclaimed table end olds (p ∷ ps))
+
 -- ## Program headers
 
 -- a program header as it was read; where it is loaded with the page size that was set as its alignment, and where
@@ -72,7 +91,7 @@ kept_segment page_size flags old = record old {
   p_align = if old.p_type == PT_LOAD then unwrap_or page_size old.p_align else old.p_align;
 }
 
--- neither what is loaded nor the program headers of the dynamic list and of the stack go
+-- but for those, neither what is loaded nor the program headers of the dynamic list and of the stack go
 abbrev pub CanGo : SegmentHeader → Type 0
 CanGo old = (old.p_type ≢ PT_LOAD) × (old.p_type ≢ PT_DYNAMIC) × (old.p_type ≢ PT_GNU_STACK)
 
@@ -84,11 +103,14 @@ AreKept page_size (old ∷ olds) [] = CanGo old × AreKept page_size olds []
 AreKept page_size (old ∷ olds) (p ∷ ps) =
     ((p ≡ kept_segment page_size p.p_flags old) × AreKept page_size olds ps) ⊎ (CanGo old × AreKept page_size olds (p ∷ ps))
 
--- behind them stands at most one for the stack, where none was read
-pub record AreSegments (page_size : Option ℕ) (read now : List SegmentHeader) : Type 0 where
+-- behind them stands at most one for the stack, where none was read; some loaded segment is there where one was
+pub record AreSegments (table : ℕ) (page_size : Option ℕ) (read now : List SegmentHeader) : Type 0 where
+  pub unclaimed : List SegmentHeader
+  pub are_unclaimed : AreUnclaimed table (loads_end now) read unclaimed
+  pub loaded : list_any is_loaded read ≡ true → list_any is_loaded unclaimed ≡ true
   pub kept : List SegmentHeader
   pub added : Option ℕ
-  pub are_kept : AreKept page_size read kept
+  pub are_kept : AreKept page_size unclaimed kept
   pub are_all : now ≡ kept ++ option_to_list (option_map added_stack added)
   pub only_one : IsSome added → segment_of_type PT_GNU_STACK read ≡ None
 
@@ -119,7 +141,7 @@ IsInterpreterOf (Some read) (Some now) = (now ≡ read) ⊎ IsTrue (not (holds_n
 pub record IsEditOf (read image : Image) : Type 0 where
   pub form : image.form ≡ read.form
   pub header : image.header ≡ record read.header { os_abi = image.header.os_abi }
-  pub segments : AreSegments image.page_size read.segments image.segments
+  pub segments : AreSegments read.header.e_phoff image.page_size read.segments image.segments
   pub sections : ArePicked IsSameSection read.sections image.section_numbers image.sections
   pub symbols : ArePicked IsSameSymbol read.symbols image.symbol_numbers image.symbols
   pub dynamic_symbols : ArePicked IsSameDynamicSymbol read.dynamic_symbols image.dynamic_symbol_numbers image.dynamic_symbols

@@ -1,13 +1,13 @@
 -- The sections of an image, each with where it stands now and the number that it was read at. Links between sections keep
 -- the numbers of read.
-use Rattle.std.specs.Prelude.{ℕ, ◌+◌, List, [], ◌∷◌, Bool, ◌&&◌, Option, Some, ◌==◌, find, Ok, Err}
+use Rattle.std.specs.Prelude.{ℕ, ◌+◌, List, [], ◌∷◌, Bool, Option, Some, ◌==◌, find, Ok, Err}
 use Rattle.patch_bytes.specs.Memory.{◌>>=◌}
-use Rattle.elf_format.specs.declared.constants.TheConstants.{PT_INTERP, SHT_DYNAMIC, SHT_DYNSYM, SHT_PROGBITS}
+use Rattle.elf_format.specs.declared.constants.TheConstants.{PT_INTERP, SHT_DYNAMIC, SHT_DYNSYM}
 use Rattle.elf_format.specs.File.{segment_of_type}
 use Rattle.elf_format.specs.Image.{Image, ImageSection, image_of}
 use Rattle.elf_format.specs.Options.{first_there, is_some_and}
-use Rattle.elf_format.specs.declared.records.SegmentHeader.{SegmentHeader}
 use Rattle.elf_format.specs.Places.{Place}
+pub use Rattle.elf_image_parts.specs.Spare.{link_in_sections, stands_as_interpreter}
 
 -- the image as its source was read, before any edit
 abbrev pub image_at_read : Image → Image
@@ -44,17 +44,9 @@ kept_at_number number image = find (λ s. s.number == number) (kept_sections ima
 abbrev pub link_of_type : ℕ → Image → Option ℕ
 link_of_type type image = kept_of_type type image >>= λ s. Some s.section.sh_link
 
--- the same, of sections alone
-abbrev pub link_in_sections : ℕ → List ImageSection → Option ℕ
-link_in_sections type sections = find (λ s. s.sh_type == type) sections >>= λ s. Some s.sh_link
-
 -- the dynamic strings: those of the dynamic list, or without one those of the dynamic symbols
 abbrev pub dynamic_strings_number : Image → Option ℕ
 dynamic_strings_number image = first_there (link_of_type SHT_DYNAMIC image) (link_of_type SHT_DYNSYM image)
-
--- a section stands where PT_INTERP says (gABI, Program Header, PT_INTERP)
-abbrev pub stands_as_interpreter : SegmentHeader → ImageSection → Bool
-stands_as_interpreter p s = s.sh_type == SHT_PROGBITS && s.sh_offset == p.p_offset && s.sh_addr == p.p_vaddr && s.sh_size == p.p_filesz
 
 -- the number at read of the section with the interpreter's name
 abbrev pub interpreter_number : Image → Option ℕ

@@ -20,9 +20,11 @@ pub mod BuilderModel
 pub use Rattle.elf_image_parts.specs.DynamicTag
 pub use Rattle.elf_image_parts.specs.DynamicList
 pub use Rattle.elf_image_parts.specs.Segments
+pub use Rattle.elf_image_parts.specs.Spare
 pub use Rattle.elf_image_parts.specs.LendingFlags
 pub mod Lending
 pub mod Kept
+pub mod Leave
 pub mod Staying
 pub mod Relocated
 pub mod Renumbering

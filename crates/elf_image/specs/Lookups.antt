@@ -1,12 +1,12 @@
 -- Where parts of a file stand in its image, by the numbers that they had at read.
-use Rattle.std.specs.Prelude.{ℕ, ◌≡◌, ◌==◌, ◌&&◌, Bool, length, position, Option, Ok}
+use Rattle.std.specs.Prelude.{ℕ, ◌≡◌, ◌==◌, length, position, Option, Ok}
 use Rattle.std.specs.List.{slice_get}
 use Rattle.patch_bytes.specs.Memory.{◌>>=◌}
-use Rattle.elf_format.specs.declared.constants.TheConstants.{PT_INTERP, SHT_DYNAMIC, SHT_DYNSYM, SHT_PROGBITS}
-use Rattle.elf_format.specs.declared.records.SegmentHeader.{SegmentHeader}
+use Rattle.elf_format.specs.declared.constants.TheConstants.{PT_INTERP, SHT_DYNAMIC, SHT_DYNSYM}
 use Rattle.elf_format.specs.File.{segment_of_type}
-use Rattle.elf_format.specs.Image.{Image, ImageSection, image_of}
+use Rattle.elf_format.specs.Image.{Image, image_of}
 use Rattle.elf_format.specs.Options.{first_there}
+use Rattle.elf_image_parts.specs.Spare.{stands_as_interpreter}
 
 -- the section that had a number at read
 abbrev pub section_position : Image → ℕ → Option ℕ
@@ -20,13 +20,9 @@ link_position image i = slice_get image.sections i >>= (λ s. section_position i
 abbrev pub type_position : Image → ℕ → Option ℕ
 type_position image type = position (λ s. s.sh_type == type) image.sections
 
--- a section has the bytes of the interpreter's program header (gABI, Program Header, PT_INTERP)
-abbrev pub has_interpreter : SegmentHeader → ImageSection → Bool
-has_interpreter p s = s.sh_type == SHT_PROGBITS && s.sh_offset == p.p_offset && s.sh_addr == p.p_vaddr && s.sh_size == p.p_filesz
-
--- the first such section
+-- the first section that stands where PT_INTERP says
 abbrev pub interpreter_position : Image → Option ℕ
-interpreter_position image = segment_of_type PT_INTERP image.segments >>= (λ p. position (has_interpreter p) image.sections)
+interpreter_position image = segment_of_type PT_INTERP image.segments >>= (λ p. position (stands_as_interpreter p) image.sections)
 
 -- the section whose texts are the dynamic strings: the dynamic list links to it, or without a list the dynamic symbols
 abbrev pub dynamic_strings_position : Image → Option ℕ

@@ -8,12 +8,15 @@ ghost use Rattle.elf_image.specs.File.{segment_of_type};
 ghost use Rattle.elf_image.specs.Edited.{AreSameNeeds};
 ghost use Rattle.elf_image.specs.ImageModel.{entry_model, needs_model, segment_model};
 ghost use Rattle.elf_image_parts.specs.Segments.{added_stack as added_header, with_load_align, with_stack_added, with_stack_flags};
+ghost use Rattle.elf_image_parts.specs.SpareFrom.{reclaimable};
+ghost use Rattle.elf_image.specs.Leave.{spare_facts, with_dynamic_move};
 
 use crate::builder::{Builder, Segment};
 use elf_image_parts::dynamic::Dynamic;
 use elf_image_parts::entries::{remove_entry, remove_tagged, retag_entries, retag_entry};
 use elf_image_parts::segment::STACK_FLAGS;
 use elf_image_parts::segments::{added_stack, align_loads, flag_stack, stack_position};
+use elf_image_parts::spare::{SpareFrom, SpareParts, reclaim};
 use elf_image_versions::version::VersionNeed;
 use patch_bytes::ByteString;
 use std::alloc::{AllocError, Global};
@@ -155,15 +158,29 @@ impl<'data> Builder<'data> {
 
     /// Gives leave that the dynamic section moves where it has grown into what follows it. It then stands in a loaded segment
     /// that is added and that may be written, and PT_DYNAMIC follows it (gABI, Dynamic Section). Where it stood its bytes stay,
-    /// since some programs find it there by `_DYNAMIC`. Takes no memory.
+    /// since some programs find it there by `_DYNAMIC`. Loaded segments that an earlier edit added, which stand behind all others and
+    /// hold nothing but sections that can move, go: these sections are laid out anew in their place. Takes no memory.
     pub fn allow_dynamic_move(&mut self)
-        ensures { self.new ≡ record self.old {
-          changed = true;
-          moves_dynamic = true;
-        } }
+        ensures { self.new ≡ with_dynamic_move self.old }
     {
+        let from = self.spare_from();
+        reclaim(&mut self.segments, from);
         self.moves_dynamic = true;
         self.changed = true;
+    }
+
+    // From where on segments are spare; `None` where these can't be taken away.
+    fn spare_from(&self) -> Option<SpareFrom>
+        ensures { result ≡ reclaimable (spare_facts self.now) }
+    {
+        let parts = SpareParts {
+            segments: self.segments.as_slice(),
+            sections: self.sections.as_slice(),
+            numbers: self.section_numbers.as_slice(),
+            table: self.header.e_phoff,
+            source: self.source,
+        };
+        parts.reclaimable()
     }
 
     /// The first PT_GNU_STACK, whose flags say whether the stack may be run (GNU extension). Takes no memory.

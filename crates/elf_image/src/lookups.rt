@@ -1,15 +1,15 @@
 //! Where parts of a file stand in its image, by the numbers that they had at read.
-ghost use Rattle.std.specs.Prelude.{◌≡◌, ◌<◌, length, map, option_map, position};
-ghost use Rattle.elf_image.specs.ImageModel.{section_model, segment_model};
-ghost use Rattle.elf_format.specs.declared.constants.TheConstants.{PT_INTERP as INTERP};
-ghost use Rattle.elf_image.specs.File.{segment_of_type};
-ghost use Rattle.elf_image.specs.Kept.{interpreter_number as number_of_interpreter, link_of_type as link_of_kind, link_in_sections};
-ghost use Rattle.elf_image.specs.Lookups.{CountsReadSegments, dynamic_strings_position as strings_position, has_interpreter, interpreter_position as interpreter_at, link_position as link_at, section_position as section_at, type_position as type_at};
+ghost use Rattle.std.specs.Prelude.{◌≡◌, ◌<◌, length, map, position};
+ghost use Rattle.elf_image.specs.ImageModel.{section_model};
+ghost use Rattle.elf_image.specs.Kept.{interpreter_number as number_of_interpreter, link_of_type as link_of_kind, stands_as_interpreter as stands_there};
+ghost use Rattle.elf_image.specs.Lookups.{CountsReadSegments, dynamic_strings_position as strings_position, interpreter_position as interpreter_at, link_position as link_at, section_position as section_at, type_position as type_at};
 
-use crate::builder::{Builder, Segment};
-use elf_format::constants::{PT_INTERP, SHT_DYNAMIC, SHT_DYNSYM, SHT_PROGBITS};
+use crate::builder::Builder;
+use elf_format::constants::{SHT_DYNAMIC, SHT_DYNSYM};
 use elf_format::numbers::{part, read_file_header};
+use elf_format::records::SegmentHeader;
 use elf_image_parts::section::Section;
+use elf_image_parts::spare::{interpreter_segment, link_in_sections, stands_as_interpreter};
 
 impl<'data> Builder<'data> {
     /// Where the section that had this number at read stands now (gABI, Sections); `None` where it is gone, or where
@@ -66,7 +66,7 @@ impl<'data> Builder<'data> {
     {
         // the image has as many numbers of sections as sections
         let _source = self.source();
-        first_link(self.sections(), kind)
+        link_in_sections(kind, self.sections())
     }
 
     /// Where the dynamic strings stand (gABI, Dynamic Section, `DT_STRTAB`): the section that the dynamic list links
@@ -91,38 +91,11 @@ impl<'data> Builder<'data> {
     }
 }
 
-// The link of the first section of a type.
-fn first_link(sections: &[Section<'_>], kind: u32) -> Option<usize>
-    ensures { result ≡ link_in_sections kind (map section_model sections.now) }
-{
-    for section in sections {
-        if section.sh_type == kind {
-            return Some(section.sh_link as usize);
-        }
-    }
-    None
-}
-
-// The program header of the interpreter.
-fn interpreter_segment<'a, 'data>(segments: &'a [Segment<'data>]) -> Option<&'a Segment<'data>>
-    ensures { option_map (λ p. segment_model p.now) result
-        ≡ segment_of_type INTERP (map segment_model segments.now) }
-{
-    segments
-        .iter()
-        .find(|segment| segment.p_type() == PT_INTERP)
-}
-
 // Where the first section stands that has the bytes of the interpreter's program header.
-fn interpreter_section(segment: &Segment<'_>, sections: &[Section<'_>]) -> Option<usize>
-    ensures { result
-        ≡ position (has_interpreter (segment_model segment.now)) (map section_model sections.now) }
+fn interpreter_section(segment: SegmentHeader, sections: &[Section<'_>]) -> Option<usize>
+    ensures { result ≡ position (stands_there segment) (map section_model sections.now) }
 {
-    let (offset, address, size) = (segment.p_offset(), segment.p_vaddr(), segment.p_filesz());
-    sections.iter().position(|section| {
-        section.sh_type == SHT_PROGBITS
-            && section.sh_offset == offset
-            && section.sh_addr == address
-            && section.sh_size == size
-    })
+    sections
+        .iter()
+        .position(|section| stands_as_interpreter(segment, section))
 }

@@ -3,3 +3,5 @@
 
 -- changes of a list that is seen element by element, and the program header for the stack
 pub use Rattle.elf_image_parts.proofs.EditSteps
+-- spare segments that are taken away
+pub use Rattle.elf_image_parts.proofs.SpareSteps

@@ -1,2 +1,3 @@
 pub mod EditSteps
+pub mod SpareSteps
 pub mod ForCallers

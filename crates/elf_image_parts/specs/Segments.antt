@@ -1,7 +1,10 @@
 -- Changes of program headers (gABI, Program Header).
-use Rattle.std.specs.Prelude.{ℕ, List, [], ◌∷◌, ◌++◌, map, ◌==◌, if◌then◌else◌}
+use Rattle.std.specs.Prelude.{ℕ, max, List, [], ◌∷◌, ◌++◌, fold, map, ◌==◌, if◌then◌else◌}
 use Rattle.elf_format.specs.declared.constants.TheConstants.{PT_GNU_STACK, PT_LOAD}
 use Rattle.elf_format.specs.declared.records.SegmentHeader.{SegmentHeader}
+use Rattle.elf_format.specs.File.{loads_of}
+use Rattle.elf_format.specs.Placement.{memory_part}
+use Rattle.elf_format.specs.Ranges.{end_of}
 use Rattle.elf_image_parts.specs.declared.segment.TheConstants.{STACK_ALIGN}
 
 -- a loaded segment gets the alignment
@@ -24,3 +27,7 @@ added_stack flags = record { p_type = PT_GNU_STACK; p_flags = flags; p_offset = 
 -- it is put last
 abbrev pub with_stack_added : ℕ → List SegmentHeader → List SegmentHeader
 with_stack_added flags segments = segments ++ added_stack flags ∷ []
+
+-- where the loaded segments end in memory; 0 without one
+abbrev pub loads_end : List SegmentHeader → ℕ
+loads_end segments = fold max 0 (map (λ p. end_of (memory_part p)) (loads_of segments))

@@ -6,6 +6,7 @@ pub mod entries;
 pub mod section;
 pub mod segment;
 pub mod segments;
+pub mod spare;
 
 pub use crate::dynamic::Dynamic;
 pub use crate::section::Section;

@@ -10,6 +10,9 @@ pub const STACK_FLAGS: u32 = 7;
 /// The alignment of an added PT_GNU_STACK.
 pub const STACK_ALIGN: u64 = 16;
 
+/// The most program headers that a file can have with plain numbering (gABI, ELF Header, `e_phnum`).
+pub const MOST_SEGMENTS: usize = 65_534;
+
 /// A program header of a file (gABI, Program Header). Offsets, addresses and sizes are in bytes.
 #[derive(Clone, Copy, Debug)]
 pub struct Segment {

@@ -1,11 +1,13 @@
 //! Changes of a list of program headers, and the one for the stack among them (gABI, Program Header).
-ghost use Rattle.std.specs.Prelude.{◌≡◌, ◌==◌, map, position};
+ghost use Rattle.std.specs.Prelude.{◌≡◌, ◌<◌, ◌^◌, ◌==◌, if◌then◌else◌, map, position};
 ghost use Rattle.elf_format.specs.declared.constants.TheConstants.{PT_GNU_STACK as STACK};
+ghost use Rattle.elf_format.specs.Placement.{memory_part};
+ghost use Rattle.elf_format.specs.Ranges.{end_of};
 ghost use Rattle.elf_image_parts.specs.PartModels.{segment_model};
-ghost use Rattle.elf_image_parts.specs.Segments.{added_stack as added_header, with_load_align, with_stack_flags};
+ghost use Rattle.elf_image_parts.specs.Segments.{added_stack as added_header, loads_end as end_of_loads, with_load_align, with_stack_flags};
 
 use crate::segment::{STACK_ALIGN, Segment};
-use elf_format::constants::PT_GNU_STACK;
+use elf_format::constants::{PT_GNU_STACK, PT_LOAD};
 use elf_format::records::SegmentHeader;
 
 /// A program header for the stack with these flags, as it is added to a file. Takes no memory.
@@ -55,4 +57,29 @@ pub fn flag_stack(segments: &mut Vec<Segment>, flags: u32)
     };
     let segment = &mut segments[at];
     segment.numbers.p_flags = flags;
+}
+
+// Where a segment ends in memory, 0 where it doesn't count.
+pub(crate) fn end_if(counts: bool, segment: &Segment) -> u128
+    ensures value { result
+        ≡ (if counts then end_of (memory_part (segment_model segment.now)) else 0) }
+    ensures near { result < 2 ^ 65 }
+{
+    if counts {
+        u128::from(segment.p_vaddr()) + u128::from(segment.p_memsz())
+    } else {
+        0
+    }
+}
+
+/// Where the loaded segments end in memory; 0 without one. Takes no memory.
+pub fn loads_end(segments: &[Segment]) -> u128
+    ensures value { result ≡ end_of_loads (map segment_model segments.now) }
+    ensures near { result < 2 ^ 65 }
+{
+    let mut end = 0;
+    for segment in segments {
+        end = end_if(segment.p_type() == PT_LOAD, segment).max(end);
+    }
+    end
 }

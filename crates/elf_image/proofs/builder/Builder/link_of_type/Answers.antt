@@ -5,4 +5,4 @@ use Rattle.elf_image.proofs.KeptSections.{link_by_sections}
 use Rattle.elf_image.proofs.builder.Builder.link_of_type.Goals as goal
 
 pub returns : goal.returns
-returns c = c.first_link.ensures ∙ ap (link_in_sections c.args.kind) c.sections.ensures ∙ sym (link_by_sections c.args.kind c.args.self.now c.source-source.ensures.edited)
+returns c = c.link_in_sections.ensures ∙ ap (link_in_sections c.args.kind) c.sections.ensures ∙ sym (link_by_sections c.args.kind c.args.self.now c.source-source.ensures.edited)

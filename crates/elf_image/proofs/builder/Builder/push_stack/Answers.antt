@@ -27,7 +27,7 @@ invariant_of-self-2 c =
     ap (map segment_model) c.in_ok-push.ensures.items ∙ map-append segment_model c.self.inside.segments.items (c.added_stack.result ∷ []) ∙ ap (λ (p : SegmentHeader). old ++ p ∷ []) c.added_stack.ensures in
     let none : segment_of_type PT_GNU_STACK old ≡ None = subst (λ (i : Image). segment_of_type PT_GNU_STACK i.segments ≡ None) (sym c.self.view_is) c.requires in (
       with_segments (image_model c.self.inside) c.self.inside.page_size (map segment_model c.push.new.self.items) c.self.invariant.0
-          (λ read h. subst (λ (ps : List SegmentHeader). AreSegments c.self.inside.page_size read ps) (sym changes) (segments_pushed c.self.inside.page_size c.args.flags read old none h))
+          (λ table read h. subst (λ (ps : List SegmentHeader). AreSegments table c.self.inside.page_size read ps) (sym changes) (segments_pushed table c.self.inside.page_size c.args.flags read old none h))
           (ap (λ (ps : List SegmentHeader). is_some (segment_of_type PT_INTERP ps)) changes ∙ type_added c.args.flags old),
       c.self.invariant.1,
     )

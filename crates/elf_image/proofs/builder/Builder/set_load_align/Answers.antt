@@ -16,7 +16,7 @@ invariant_of-self c =
     let old : List SegmentHeader = map segment_model c.self.inside.segments.items in
     let changes : with_load_align c.args.size old ≡ map segment_model c.align_loads.new.segments.items = ap (λ n. with_load_align n old) (sym c.from.ensures) ∙ sym c.align_loads.ensures in (
       with_segments (image_model c.self.inside) (Some c.args.size) (map segment_model c.align_loads.new.segments.items) c.self.invariant.0
-          (λ read h. subst (λ (ps : List SegmentHeader). AreSegments (Some c.args.size) read ps) changes (segments_aligned c.self.inside.page_size c.args.size read old h))
+          (λ table read h. subst (λ (ps : List SegmentHeader). AreSegments table (Some c.args.size) read ps) changes (segments_aligned table c.self.inside.page_size c.args.size read old h))
           (ap (λ (ps : List SegmentHeader). is_some (segment_of_type PT_INTERP ps)) (sym changes) ∙ type_aligned PT_INTERP c.args.size old),
       c.self.invariant.1,
     )

@@ -14,7 +14,7 @@ pub invariant_of-self : goal.invariant_of-self
 invariant_of-self c =
     let old : List SegmentHeader = map segment_model c.self.inside.segments.items in (
       with_segments (image_model c.self.inside) c.self.inside.page_size (map segment_model c.flag_stack.new.segments.items) c.self.invariant.0
-          (λ read h. subst (λ (ps : List SegmentHeader). AreSegments c.self.inside.page_size read ps) (sym c.flag_stack.ensures) (segments_flagged c.self.inside.page_size c.args.flags read old h))
+          (λ table read h. subst (λ (ps : List SegmentHeader). AreSegments table c.self.inside.page_size read ps) (sym c.flag_stack.ensures) (segments_flagged table c.self.inside.page_size c.args.flags read old h))
           (ap (λ (ps : List SegmentHeader). is_some (segment_of_type PT_INTERP ps)) c.flag_stack.ensures ∙ type_flagged PT_INTERP c.args.flags old),
       c.self.invariant.1,
     )

@@ -28,7 +28,7 @@ invariant_of-self-lent c w =
     let found = sym (position-map segment_model is_stack c.self.inside.segments.items) ∙ ap (λ (i : Image). position is_stack i.segments) c.self.view_is ∙ c.requires in
     let changes = flags_set segment_model c.self.inside.segments.items c.args.at c.index_mut.result.now c.index_mut.ensures.value found (with_flags c.index_mut.result.now w) w refl in (
       with_segments (image_model c.self.inside) c.self.inside.page_size (map segment_model (slice_set c.self.inside.segments.items c.args.at (with_flags c.index_mut.result.now w))) c.self.invariant.0
-          (λ read h. subst (λ (ps : List SegmentHeader). AreSegments c.self.inside.page_size read ps) (sym changes) (segments_flagged c.self.inside.page_size w read old h))
+          (λ table read h. subst (λ (ps : List SegmentHeader). AreSegments table c.self.inside.page_size read ps) (sym changes) (segments_flagged table c.self.inside.page_size w read old h))
           (ap (λ (ps : List SegmentHeader). is_some (segment_of_type PT_INTERP ps)) changes ∙ type_flagged PT_INTERP w old),
       c.self.invariant.1,
     )
