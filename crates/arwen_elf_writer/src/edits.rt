@@ -1,11 +1,12 @@
 //! The edits of a file's image.
-ghost use Rattle.std.specs.Prelude.{◌≡◌, [], IfOk, IsOk, OnErr, map, true};
+ghost use Rattle.std.specs.Prelude.{◌≡◌, [], IfOk, IsOk, OnErr, map};
 ghost use Rattle.std.specs.HashSet.{keys};
 ghost use Rattle.elf_edits.specs.Edit.{AddDebugEntry, AddNeeded, AddRunPath, ClearExecStack, ClearSymbolVersion, DeleteNeeded, DeleteRunPath, NoDefaultLibrary, RenameDynamicSymbols, ReplaceLibrary, ReplaceNeeded, SetExecStack, SetInterpreter, SetOsAbi, SetPageSize, SetRunPath, SetSoname, UseRpath, UseRunpath};
 ghost use Rattle.elf_edits.specs.EditModel.{edit_model, pairs_model, texts_model};
 ghost use Rattle.elf_edits_shrink.specs.Questions.{shrink_questions as all_questions};
 ghost use Rattle.elf_edits_shrink.specs.ShrinkModel.{pair_lent};
 ghost use Rattle.elf_image.specs.Image.{shown};
+ghost use Rattle.elf_image.specs.Leave.{with_dynamic_move};
 ghost use Rattle.arwen_elf_writer.specs.Reads.{entries_shown};
 ghost use Rattle.elf_apply.specs.Taken.{AnswersEach, LeavesEach, RemovedAre, TakesBatch, TakesEdit, TakesInPlace, batches_model, edits_model, shrink_model};
 
@@ -70,10 +71,7 @@ impl<'data> Writer<'data> {
     /// Gives leave that the dynamic section moves where it has grown into what follows it, as `Builder::allow_dynamic_move` tells
     /// (gABI, Dynamic Section). Takes no memory.
     pub fn allow_dynamic_move(&mut self)
-        ensures { self.new ≡ record self.old {
-          changed = true;
-          moves_dynamic = true;
-        } }
+        ensures { self.new ≡ with_dynamic_move self.old }
     {
         self.builder.allow_dynamic_move()
     }

@@ -14,6 +14,8 @@ use Rattle.elf_image.specs.Edited.{IsEdited}
 use Rattle.elf_image.specs.Names.{are_names_changed, are_same_texts, texts_of_symbols}
 use Rattle.elf_image.specs.Options.{first_there}
 use Rattle.elf_image.specs.Renumbering.{can_renumber}
+use Rattle.elf_image.specs.Leave.{spare_facts}
+use Rattle.elf_image.specs.Spare.{SpareFacts, segments_reclaimed}
 use Rattle.elf_image.specs.SymbolEdits.{IsPutFor, with_dynamic_symbols}
 use Rattle.elf_image.proofs.ForCallers.SymbolsKept.{put_of_all}
 use Rattle.elf_image.specs.SymbolsRead.{OfRead}
@@ -26,14 +28,14 @@ use Rattle.elf_edits.specs.declared.list.NewList.{NewList}
 use Rattle.elf_edits.specs.Abi.{abi_number, lowercase_name, with_nul}
 use Rattle.elf_edits.specs.Cause.{NoDynamic, NoInterpreter, UnknownAbi, cause_if, facts_of, first_cause}
 use Rattle.elf_edits.specs.Edit.{AllowDynamicMove, ClearExecStack, ClearSymbolVersion, Edit, RenameDynamicSymbols, ReplaceLibrary, SetExecStack, SetInterpreter, SetOsAbi, SetPageSize, all_but_last, edited_entries, edited_symbols, is_of_more, is_of_symbols, touches_entries, touches_symbols}
-use Rattle.elf_edits.specs.Edited.{edited_image, is_list_with, touches_rest, with_align, with_load_align, with_run, with_stack_changed, without_run}
+use Rattle.elf_edits.specs.Edited.{edited_image, is_list_with, segments_with_leave, touches_rest, with_align, with_load_align, with_run, with_stack_changed, without_run}
 use Rattle.elf_edits.specs.Entries.{with_tag, with_tags_changed}
 use Rattle.elf_image.specs.Image.{entry_tag, lists_tag}
 use Rattle.elf_image.specs.declared.dynamic.Dynamic.{Dynamic}
 use Rattle.std.specs.declared.alloc.Global.{Global}
 use Rattle.std.specs.declared.vec.Vec.{Vec}
 use Rattle.elf_edits.specs.Texts.{holds_nul}
-use Rattle.elf_edits.proofs.ForCallers.{IsFree, fixed_names_stay, is_free, lists_again, stands_not, stored_whole, symbols_untouched, untouched}
+use Rattle.elf_edits.proofs.ForCallers.{IsFree, fixed_names_stay, is_free, lists_again, others_found, reclaimed_aligned, reclaimed_flagged, stands_not, stored_whole, symbols_untouched, untouched}
 use Rattle.elf_apply.specs.declared.draft.Draft.{Draft}
 use Rattle.elf_apply.specs.Drafted.{AreSymbolsFor, CanPutEntries, CanPutInterpreter, changed_if, IsDraftOf, ListsEntries, OnlyShows, Writes, drafted, entries_drafted, flags_now, is_written, needs_drafted, stack_flags_of, symbols_drafted, with_entries_put, with_flags, with_flags_put, with_interpreter_put, with_leave_put, with_list, with_needs_put, with_retagged, with_os_abi_put, with_page_size, with_page_size_put, with_symbols, with_symbols_put}
 
@@ -122,7 +124,7 @@ is_there o h = h
 pub interpreter_written : (bytes : List ℕ) (image : Image) (d : Draft) → IsFree (SetInterpreter bytes) (facts_of image) → IsDraftOf image d → Writes (SetInterpreter bytes) image d (record d { interpreter = Some (owned_string (with_nul bytes)) })
 unfolding drafted edited_image image_with
 interpreter_written bytes image d free is = record {
-  shows = ap (λ changed. image_with changed (unwrap_or d.os_abi image.header.os_abi) (with_page_size d.page_size (with_flags d.stack_flags image.segments)) (first_there (entries_drafted d) image.entries) (Some (with_nul bytes)) (first_there d.page_size image.page_size) (based image d))
+  shows = ap (λ changed. image_with changed (unwrap_or d.os_abi image.header.os_abi) (with_page_size d.page_size (with_flags d.stack_flags (segments_with_leave d.moves_dynamic image))) (first_there (entries_drafted d) image.entries) (Some (with_nul bytes)) (first_there d.page_size image.page_size) (based image d))
       (written_marks image.changed (is_written d) (is_written (record d { interpreter = Some (owned_string (with_nul bytes)) })) marked)
       ∙ sym (interpreter_edit bytes (drafted d image));
   draft = record {
@@ -161,9 +163,9 @@ os_abi_written name number image d free is same =
     by_number : (n : ℕ) → abi_number name ≡ Some n → Writes (SetOsAbi name) image d (record d { os_abi = Some n })
     by_number n is_named = record {
       shows =
-          ap (λ changed. image_with changed n (with_page_size d.page_size (with_flags d.stack_flags image.segments)) (first_there (entries_drafted d) image.entries) (first_there (text_model d.interpreter) image.interpreter) (first_there d.page_size image.page_size) (based image d))
+          ap (λ changed. image_with changed n (with_page_size d.page_size (with_flags d.stack_flags (segments_with_leave d.moves_dynamic image))) (first_there (entries_drafted d) image.entries) (first_there (text_model d.interpreter) image.interpreter) (first_there d.page_size image.page_size) (based image d))
           (written_marks image.changed (is_written d) (is_written (record d { os_abi = Some n })) (marked n))
-          ∙ ap (λ o. image_with ((image.changed || is_written d) || true) (unwrap_or o (unwrap_or d.os_abi image.header.os_abi)) (with_page_size d.page_size (with_flags d.stack_flags image.segments)) (first_there (entries_drafted d) image.entries) (first_there (text_model d.interpreter) image.interpreter) (first_there d.page_size image.page_size) (based image d))
+          ∙ ap (λ o. image_with ((image.changed || is_written d) || true) (unwrap_or o (unwrap_or d.os_abi image.header.os_abi)) (with_page_size d.page_size (with_flags d.stack_flags (segments_with_leave d.moves_dynamic image))) (first_there (entries_drafted d) image.entries) (first_there (text_model d.interpreter) image.interpreter) (first_there d.page_size image.page_size) (based image d))
           (sym is_named)
           ∙ sym (os_abi_edit name (drafted d image));
       draft = record { tables = is.tables; entries = is.entries; interpreter_there = is.interpreter_there; interpreter = is.interpreter; symbols = is.symbols; needs = is.needs; listed = is.listed; leave = λ _. is_marked image.changed _ (marked n) };
@@ -189,10 +191,10 @@ pub page_size_written : (size : ℕ) (image : Image) (d : Draft) → IsDraftOf i
 unfolding drafted edited_image image_with
 page_size_written size image d is = record {
   shows =
-      ap (λ changed. image_with changed (unwrap_or d.os_abi image.header.os_abi) (with_load_align size (with_flags d.stack_flags image.segments)) (first_there (entries_drafted d) image.entries) (first_there (text_model d.interpreter) image.interpreter) (Some size) (based image d))
+      ap (λ changed. image_with changed (unwrap_or d.os_abi image.header.os_abi) (with_load_align size (with_flags d.stack_flags (segments_with_leave d.moves_dynamic image))) (first_there (entries_drafted d) image.entries) (first_there (text_model d.interpreter) image.interpreter) (Some size) (based image d))
       (written_marks image.changed (is_written d) (is_written (record d { page_size = Some size })) marked)
       ∙ ap (λ segments. image_with ((image.changed || is_written d) || true) (unwrap_or d.os_abi image.header.os_abi) segments (first_there (entries_drafted d) image.entries) (first_there (text_model d.interpreter) image.interpreter) (Some size) (based image d))
-      (aligned_last size d.page_size (with_flags d.stack_flags image.segments))
+      (aligned_last size d.page_size (with_flags d.stack_flags (segments_with_leave d.moves_dynamic image)))
       ∙ sym (page_size_edit size (drafted d image));
   draft = record { tables = is.tables; entries = is.entries; interpreter_there = is.interpreter_there; interpreter = is.interpreter; symbols = is.symbols; needs = is.needs; listed = is.listed; leave = λ _. is_marked image.changed _ marked };
 }
@@ -243,6 +245,13 @@ flags_set : (change : ℕ → ℕ) (old : Option ℕ) (segments : List SegmentHe
 flags_set change None segments = set_to_changed change segments
 flags_set change (Some flags) segments = changed_again change flags segments
 
+-- spare segments that went leave the stack's flags
+flags_left : (leave : Bool) (image : Image) → stack_flags_of (segments_with_leave leave image) ≡ stack_flags_of image.segments
+flags_left true image =
+    ap (λ (o : Option SegmentHeader). unwrap_or (option_map (λ p. p.p_flags) o) STACK_FLAGS)
+    (others_found (spare_facts image) (λ p. p.p_type == PT_GNU_STACK) (λ p is. ap (λ (n : ℕ). n == PT_GNU_STACK) is))
+flags_left false image = refl
+
 sized_flags_set : (change : ℕ → ℕ) (size : Option ℕ) (segments : List SegmentHeader) → with_page_size size (with_stack_changed change segments) ≡ with_stack_changed change (with_page_size size segments)
 sized_flags_set change None segments = refl
 sized_flags_set change (Some size) segments = sym (changed_aligned change size segments)
@@ -261,10 +270,11 @@ module _ (image : Image) (d : Draft) (change : ℕ → ℕ) where
   flags_drafted : drafted after image ≡ flags_changed
   unfolding drafted image_with after flags_changed new_flags
   flags_drafted =
-      ap (λ changed. image_with changed (unwrap_or d.os_abi image.header.os_abi) (with_page_size d.page_size (with_flags (Some new_flags) image.segments)) (first_there (entries_drafted d) image.entries) (first_there (text_model d.interpreter) image.interpreter) (first_there d.page_size image.page_size) (based image d))
+      ap (λ changed. image_with changed (unwrap_or d.os_abi image.header.os_abi) (with_page_size d.page_size (with_flags (Some new_flags) (segments_with_leave d.moves_dynamic image))) (first_there (entries_drafted d) image.entries) (first_there (text_model d.interpreter) image.interpreter) (first_there d.page_size image.page_size) (based image d))
       (written_marks image.changed (is_written d) true refl)
       ∙ ap (λ segments. image_with ((image.changed || is_written d) || true) (unwrap_or d.os_abi image.header.os_abi) segments (first_there (entries_drafted d) image.entries) (first_there (text_model d.interpreter) image.interpreter) (first_there d.page_size image.page_size) (based image d))
-      (ap (with_page_size d.page_size) (sym (flags_set change d.stack_flags image.segments)) ∙ sized_flags_set change d.page_size (with_flags d.stack_flags image.segments))
+      (ap (λ (n : ℕ). with_page_size d.page_size (with_flags (Some (change (unwrap_or d.stack_flags n))) (segments_with_leave d.moves_dynamic image))) (sym (flags_left d.moves_dynamic image))
+      ∙ ap (with_page_size d.page_size) (sym (flags_set change d.stack_flags (segments_with_leave d.moves_dynamic image))) ∙ sized_flags_set change d.page_size (with_flags d.stack_flags (segments_with_leave d.moves_dynamic image)))
 
 pub stack_cleared : (image : Image) (d : Draft) → IsDraftOf image d → Writes ClearExecStack image d (record d { stack_flags = Some (without_run (flags_now d image.segments)) })
 unfolding image_with after flags_changed new_flags
@@ -371,7 +381,7 @@ list_written edit image d made kind other more free listed is list touched =
 
     -- what the edit makes, by the list with what was written
     edited_parts : edited_image edit (drafted d image) ≡ image_with ((image.changed || is_written d) || is_list_with (touches_entries machine edit) (now_listed image d)) (unwrap_or d.os_abi image.header.os_abi)
-        (with_page_size d.page_size (with_flags d.stack_flags image.segments)) (option_map (edited_entries machine edit) (now_listed image d)) (first_there (text_model d.interpreter) image.interpreter) (first_there d.page_size image.page_size) (based image d)
+        (with_page_size d.page_size (with_flags d.stack_flags (segments_with_leave d.moves_dynamic image))) (option_map (edited_entries machine edit) (now_listed image d)) (first_there (text_model d.interpreter) image.interpreter) (first_there d.page_size image.page_size) (based image d)
     edited_parts = rest_stays edit kind other more (drafted d image)
 
     -- a list that was made marks the image
@@ -388,7 +398,7 @@ list_written edit image d made kind other more free listed is list touched =
           shows =
               same_two (image.changed || is_written new) ((image.changed || is_written d) || is_list_with (touches_entries machine edit) (now_listed image d))
               (Some (map entry_model made.entries.items)) (option_map (edited_entries machine edit) (now_listed image d))
-              (unwrap_or d.os_abi image.header.os_abi) (with_page_size d.page_size (with_flags d.stack_flags image.segments)) (first_there (text_model d.interpreter) image.interpreter) (first_there d.page_size image.page_size) (based image d)
+              (unwrap_or d.os_abi image.header.os_abi) (with_page_size d.page_size (with_flags d.stack_flags (segments_with_leave d.moves_dynamic image))) (first_there (text_model d.interpreter) image.interpreter) (first_there d.page_size image.page_size) (based image d)
               (written_marks image.changed (is_written d) (is_written new) entries_mark ∙ sym (ap (λ b. (image.changed || is_written d) || b) marked))
               (ap Some made_is ∙ sym (ap (option_map (edited_entries machine edit)) now.now))
               ∙ sym edited_parts;
@@ -413,7 +423,7 @@ list_written edit image d made kind other more free listed is list touched =
           shows =
               same_two (image.changed || is_written d) ((image.changed || is_written d) || is_list_with (touches_entries machine edit) (now_listed image d))
               (now_listed image d) (option_map (edited_entries machine edit) (now_listed image d))
-              (unwrap_or d.os_abi image.header.os_abi) (with_page_size d.page_size (with_flags d.stack_flags image.segments)) (first_there (text_model d.interpreter) image.interpreter) (first_there d.page_size image.page_size) (based image d)
+              (unwrap_or d.os_abi image.header.os_abi) (with_page_size d.page_size (with_flags d.stack_flags (segments_with_leave d.moves_dynamic image))) (first_there (text_model d.interpreter) image.interpreter) (first_there d.page_size image.page_size) (based image d)
               (sym (or_false (image.changed || is_written d)) ∙ sym (ap (λ b. (image.changed || is_written d) || b) marked))
               (now.now ∙ sym (ap Some (untouched machine edit es not_touched)) ∙ sym (ap (option_map (edited_entries machine edit)) now.now))
               ∙ sym edited_parts;
@@ -544,13 +554,29 @@ kept_there : (o : Option StringValue) → is_some (text_model o) ≡ is_some o
 kept_there None = refl
 kept_there (Some text) = refl
 
+-- spare segments go before or after other parts are written
+reclaimed_sized : (size : Option ℕ) (f : SpareFacts) → segments_reclaimed (record f { segments = with_page_size size f.segments }) ≡ with_page_size size (segments_reclaimed f)
+reclaimed_sized None f = refl
+reclaimed_sized (Some size) f = reclaimed_aligned size f
+
+reclaimed_with_flags : (flags : Option ℕ) (f : SpareFacts) → segments_reclaimed (record f { segments = with_flags flags f.segments }) ≡ with_flags flags (segments_reclaimed f)
+reclaimed_with_flags None f = refl
+reclaimed_with_flags (Some flags) f = reclaimed_flagged (λ _. flags) f
+
+pub reclaimed_drafted : (size flags : Option ℕ) (f : SpareFacts) → segments_reclaimed (record f { segments = with_page_size size (with_flags flags f.segments) }) ≡ with_page_size size (with_flags flags (segments_reclaimed f))
+reclaimed_drafted size flags f = reclaimed_sized size (record f { segments = with_flags flags f.segments }) ∙ ap (with_page_size size) (reclaimed_with_flags flags f)
+
 -- the leave is given in an image that is marked
-leave_put : (leave changed moves : Bool) (image : Image) → (leave ≡ true → changed ≡ true)
-    → with_leave_put leave (record image { changed = changed; moves_dynamic = moves }) ≡ record image { changed = changed; moves_dynamic = moves || leave }
-leave_put true changed moves image h =
-    ap (λ b. record image { changed = b; moves_dynamic = true }) (sym (h refl))
-    ∙ ap (λ b. record image { changed = changed; moves_dynamic = b }) (sym (or_true moves))
-leave_put false changed moves image h = ap (λ b. record image { changed = changed; moves_dynamic = b }) (sym (or_false moves))
+leave_put : (d : Draft) (image : Image) (leave changed : Bool) → (leave ≡ true → changed ≡ true)
+    → with_leave_put leave (record (drafted d image) { changed = changed; segments = with_page_size d.page_size (with_flags d.stack_flags image.segments); moves_dynamic = image.moves_dynamic })
+    ≡ record (drafted d image) { changed = changed; segments = with_page_size d.page_size (with_flags d.stack_flags (segments_with_leave leave image)); moves_dynamic = image.moves_dynamic || leave }
+unfolding drafted
+leave_put d image true changed h =
+    ap (λ b. record (drafted d image) { changed = b; segments = segments_reclaimed (record (spare_facts image) { segments = with_page_size d.page_size (with_flags d.stack_flags image.segments) }); moves_dynamic = true }) (sym (h refl))
+    ∙ ap (λ (ps : List SegmentHeader). record (drafted d image) { changed = changed; segments = ps; moves_dynamic = true }) (reclaimed_drafted d.page_size d.stack_flags (spare_facts image))
+    ∙ ap (λ b. record (drafted d image) { changed = changed; segments = with_page_size d.page_size (with_flags d.stack_flags (segments_reclaimed (spare_facts image))); moves_dynamic = b }) (sym (or_true image.moves_dynamic))
+leave_put d image false changed h =
+    ap (λ b. record (drafted d image) { changed = changed; segments = with_page_size d.page_size (with_flags d.stack_flags image.segments); moves_dynamic = b }) (sym (or_false image.moves_dynamic))
 
 -- part by part, all of it is put in place
 pub put_together : (d : Draft) (image : Image) → (d.moves_dynamic ≡ true → (image.changed || is_written d) ≡ true)
@@ -559,7 +585,7 @@ unfolding drafted image_with
 put_together d image is_left =
     ap (λ changed. with_leave_put d.moves_dynamic (image_with changed (unwrap_or d.os_abi image.header.os_abi) (with_page_size d.page_size (with_flags d.stack_flags image.segments)) (first_there (entries_drafted d) image.entries) (first_there (text_model d.interpreter) image.interpreter) (first_there d.page_size image.page_size)
     (record image { dynamic_symbols = symbols_drafted d image.dynamic_symbols; needs = needs_drafted d image.needs }))) marked
-    ∙ leave_put d.moves_dynamic (image.changed || is_written d) image.moves_dynamic (drafted d image) is_left
+    ∙ leave_put d image d.moves_dynamic (image.changed || is_written d) is_left
   where
     marked : changed_if d.needs (changed_if d.symbols (changed_if d.entries (changed_if (text_model d.interpreter) (changed_if d.os_abi (changed_if d.page_size (changed_if d.stack_flags image.changed)))))) ≡ (image.changed || is_written d)
     marked =

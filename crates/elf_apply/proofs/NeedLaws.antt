@@ -4,23 +4,27 @@ use Rattle.std.specs.Prelude.{IfSome, IsSome, ◌⊎◌, not, if◌then◌else�
 use Rattle.std.specs.List.{flat_map, list_any}
 use Rattle.std.specs.declared.alloc.Global.{Global}
 use Rattle.std.specs.declared.vec.Vec.{Vec}
+use Rattle.std.proofs.lemmas.Bool.{true≢false}
+use Rattle.elf_format.specs.declared.records.SegmentHeader.{SegmentHeader}
 use Rattle.elf_image.specs.Dynamic.{Entry}
 use Rattle.elf_image.specs.Edited.{AreSameNeeds, IsName, IsSameNeed}
 use Rattle.elf_image.specs.Image.{Image}
 use Rattle.elf_image.specs.ImageModel.{entry_model, needs_model}
 use Rattle.elf_image.specs.Options.{first_there}
+use Rattle.elf_image.specs.Leave.{spare_facts}
 use Rattle.elf_image.specs.Versions.{VersionNeeds}
 use Rattle.elf_image.specs.declared.version.VersionNeed.{VersionNeed}
+use Rattle.elf_image.specs.Spare.{segments_reclaimed}
 use Rattle.elf_edits.specs.declared.list.NewList.{NewList}
 use Rattle.elf_edits.specs.Cause.{facts_of}
 use Rattle.elf_edits.specs.Edit.{AllowDynamicMove, Edit, ReplaceLibrary, ReplaceNeeded, edited_entries, touches_entries}
-use Rattle.elf_edits.specs.Edited.{edited_image, is_list_with}
+use Rattle.elf_edits.specs.Edited.{edited_image, is_list_with, segments_with_leave}
 use Rattle.elf_edits.specs.Symbols.{has_new_name, new_name, with_library_replaced}
 use Rattle.elf_edits.specs.Texts.{holds_nul, value_of}
-use Rattle.elf_edits.proofs.ForCallers.{IsFree, none_replaced, value_whole}
+use Rattle.elf_edits.proofs.ForCallers.{IsFree, none_replaced, reclaimed_again, value_whole}
 use Rattle.elf_apply.specs.declared.draft.Draft.{Draft}
-use Rattle.elf_apply.specs.Drafted.{AreNeedsAfter, CanPutNeeds, IsDraftOf, ListsEntries, Writes, drafted, entries_drafted, is_written, needs_drafted, needs_written, with_leave, with_list, with_needs}
-use Rattle.elf_apply.proofs.DraftLaws.{is_marked, kept_list, list_written, listed_in, or_false, or_true}
+use Rattle.elf_apply.specs.Drafted.{AreNeedsAfter, CanPutNeeds, IsDraftOf, ListsEntries, Writes, drafted, entries_drafted, is_written, needs_drafted, needs_written, with_flags, with_leave, with_list, with_needs, with_page_size}
+use Rattle.elf_apply.proofs.DraftLaws.{is_marked, kept_list, list_written, listed_in, or_false, or_true, reclaimed_drafted}
 
 -- ## Names of libraries
 
@@ -153,12 +157,23 @@ no_list : (o : Option (List Entry)) → is_list_with (λ es. false) o ≡ false
 no_list None = refl
 no_list (Some es) = refl
 
-leave_alone : (image : Image) → edited_image AllowDynamicMove image ≡ record image { moves_dynamic = image.moves_dynamic || image.changed }
+leave_alone : (image : Image) → edited_image AllowDynamicMove image ≡ record image { segments = segments_with_leave image.changed image; moves_dynamic = image.moves_dynamic || image.changed }
 unfolding edited_image edited_entries touches_entries
 leave_alone image =
-    ap (λ b. record image { changed = b; entries = option_map (λ es. es) image.entries; moves_dynamic = image.moves_dynamic || image.changed })
+    ap (λ b. record image { changed = b; segments = segments_with_leave image.changed image; entries = option_map (λ es. es) image.entries; moves_dynamic = image.moves_dynamic || image.changed })
     (ap (λ b. image.changed || b) (no_list image.entries) ∙ or_false image.changed)
-    ∙ ap (λ (o : Option (List Entry)). record image { entries = o; moves_dynamic = image.moves_dynamic || image.changed }) (kept_list image.entries)
+    ∙ ap (λ (o : Option (List Entry)). record image { segments = segments_with_leave image.changed image; entries = o; moves_dynamic = image.moves_dynamic || image.changed }) (kept_list image.entries)
+
+-- upon a draft that may have leave spare segments go as from the image
+leave_again : (size flags : Option ℕ) (leave changed : Bool) (image : Image) → (leave ≡ true → changed ≡ true)
+    → (if changed then segments_reclaimed (record (spare_facts image) { segments = with_page_size size (with_flags flags (segments_with_leave leave image)) }) else with_page_size size (with_flags flags (segments_with_leave leave image)))
+    ≡ with_page_size size (with_flags flags (segments_with_leave (leave || changed) image))
+leave_again size flags true true image h =
+    reclaimed_drafted size flags (record (spare_facts image) { segments = segments_reclaimed (spare_facts image) })
+    ∙ ap (λ (ps : List SegmentHeader). with_page_size size (with_flags flags ps)) (reclaimed_again (spare_facts image))
+leave_again size flags true false image h = absurd (true≢false (sym (h refl)))
+leave_again size flags false true image h = reclaimed_drafted size flags (spare_facts image)
+leave_again size flags false false image h = refl
 
 or_joined : (a b c : Bool) → (a || (b || c)) ≡ ((a || b) || c)
 or_joined true b c = refl
@@ -172,7 +187,9 @@ pub leave_written : (image : Image) (d : Draft) → IsDraftOf image d → Writes
 unfolding drafted
 leave_written image d is = record {
   shows =
-      ap (λ b. record (drafted d image) { moves_dynamic = b }) (or_joined image.moves_dynamic d.moves_dynamic (image.changed || is_written d))
+      ap (λ b. record (drafted (with_leave image d) image) { moves_dynamic = b }) (or_joined image.moves_dynamic d.moves_dynamic (image.changed || is_written d))
+      ∙ ap (λ (ps : List SegmentHeader). record (drafted d image) { segments = ps; moves_dynamic = (image.moves_dynamic || d.moves_dynamic) || (image.changed || is_written d) })
+      (sym (leave_again d.page_size d.stack_flags d.moves_dynamic (image.changed || is_written d) image is.leave))
       ∙ sym (leave_alone (drafted d image));
   draft = record {
     tables = is.tables;

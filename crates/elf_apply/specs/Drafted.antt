@@ -12,6 +12,7 @@ use Rattle.elf_image.specs.ImageModel.{entry_model, needs_model, text_model}
 use Rattle.elf_image.specs.Names.{texts_of_symbols}
 use Rattle.elf_image.specs.Options.{first_there}
 use Rattle.elf_image.specs.Renumbering.{can_renumber}
+use Rattle.elf_image.specs.Leave.{with_dynamic_move}
 use Rattle.elf_image.specs.SymbolsRead.{OfRead}
 use Rattle.elf_image.specs.Versions.{VersionNeeds}
 use Rattle.elf_image.specs.Views.{NamedSymbol}
@@ -19,7 +20,7 @@ use Rattle.elf_image.specs.declared.version.VersionNeed.{VersionNeed}
 use Rattle.elf_image_symbol_edits.specs.EditedList.{EditedList}
 use Rattle.elf_edits.specs.declared.constants.TheConstants.{STACK_FLAGS}
 use Rattle.elf_edits.specs.Edit.{all_but_last, edited_entries}
-use Rattle.elf_edits.specs.Edited.{with_load_align, with_stack_changed}
+use Rattle.elf_edits.specs.Edited.{segments_with_leave, with_load_align, with_stack_changed}
 use Rattle.elf_edits.specs.Entries.{with_tags_changed}
 use Rattle.elf_edits.specs.Symbols.{has_new_name, with_library_replaced}
 use Rattle.elf_edits.specs.Texts.{holds_nul}
@@ -69,7 +70,7 @@ unfoldable pub drafted : Draft → Image → Image
 drafted d image = record image {
   changed = image.changed || is_written d;
   header = record image.header { os_abi = unwrap_or d.os_abi image.header.os_abi };
-  segments = with_page_size d.page_size (with_flags d.stack_flags image.segments);
+  segments = with_page_size d.page_size (with_flags d.stack_flags (segments_with_leave d.moves_dynamic image));
   dynamic_symbols = symbols_drafted d image.dynamic_symbols;
   needs = needs_drafted d image.needs;
   entries = first_there (entries_drafted d) image.entries;
@@ -170,7 +171,7 @@ with_needs_put needs image = record image { changed = changed_if needs image.cha
 
 abbrev pub with_leave_put : Bool → Image → Image
 with_leave_put false image = image
-with_leave_put true image = record image { changed = true; moves_dynamic = true }
+with_leave_put true image = with_dynamic_move image
 
 -- a list is there, and the needed versions are the same, of libraries that may have other names
 pub record CanPutNeeds (image : Image) (needs : Option (Vec VersionNeed Global)) : Type 0 where

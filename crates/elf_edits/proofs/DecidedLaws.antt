@@ -11,6 +11,7 @@ use Rattle.elf_image.specs.Image.{Image}
 use Rattle.elf_image.specs.Options.{first_there}
 use Rattle.elf_image.specs.Names.{texts_of_symbols}
 use Rattle.elf_image.specs.Renumbering.{can_renumber}
+use Rattle.elf_image.specs.Leave.{spare_facts}
 use Rattle.elf_image.specs.Views.{NamedSymbol}
 use Rattle.elf_edits.specs.declared.edit.ElfEdit.{ElfEdit}
 use Rattle.elf_edits.specs.declared.edit.ElfEdit.TheVariants as edits
@@ -18,11 +19,12 @@ use Rattle.elf_edits.specs.declared.constants.TheConstants.{MOST_SEGMENTS}
 use Rattle.elf_edits.specs.Batch.{answer_at, run_from, then_on}
 use Rattle.elf_edits.specs.Cause.{CannotRenumber, Cause, Facts, NoInterpreter, NulInText, MipsImage, TooManyHeaders, cause, cause_if, facts_of, first_cause, fixed_names, has_no_room_for_stack, interpreter_missing, list_missing, own_cause}
 use Rattle.elf_edits.specs.Decided.{all_edited, first_refusal, refusal_or, unless_refused}
-use Rattle.elf_edits.specs.Edit.{ClearExecStack, Edit, RenameDynamicSymbols, SetExecStack, SetInterpreter, SetPageSize, edit_model, edited_entries, edited_symbols, task_of, texts_of}
-use Rattle.elf_edits.specs.Edited.{edited_image, edited_interpreter, edited_segments, step, with_align, with_stack_changed}
+use Rattle.elf_edits.specs.Edit.{AllowDynamicMove, ClearExecStack, Edit, RenameDynamicSymbols, SetExecStack, SetInterpreter, SetPageSize, edit_model, edited_entries, edited_symbols, task_of, texts_of}
+use Rattle.elf_edits.specs.Edited.{edited_image, edited_interpreter, edited_segments, segments_with_leave, step, with_align, with_stack_changed}
 use Rattle.elf_edits.specs.Symbols.{has_new_name, names_behind_first}
 use Rattle.elf_edits.specs.Texts.{holds_nul}
 use Rattle.elf_edits.proofs.ListLaws.{by_test}
+use Rattle.elf_edits.proofs.SpareLaws.{lacks_room, room_left}
 use Rattle.elf_edits.proofs.SymbolLaws.{names_behind, names_stay}
 
 -- ## No cause stands
@@ -103,13 +105,20 @@ lacks_as_before size (p ∷ ps) = by_test (p.p_type == PT_GNU_STACK)
 full : List SegmentHeader → Bool
 full segments = lacks_stack segments && nat_le MOST_SEGMENTS (length segments)
 
-room_stays : (edit : Edit) (image : Image) → IsFree edit (facts_of image) → full (edited_segments edit image.segments) ≡ full image.segments
+-- where spare segments go, there is room before as after
+room_with_leave : (leave : Bool) (image : Image) → full (segments_with_leave leave image) ≡ full image.segments
 unfolding full lacks_stack
-room_stays ClearExecStack image free = ap (λ b. b && nat_le MOST_SEGMENTS (length (edited_segments ClearExecStack image.segments))) (stack_is_there _ image.segments) ∙ sym (stands_not (has_no_room_for_stack image) TooManyHeaders free.own)
-room_stays SetExecStack image free = ap (λ b. b && nat_le MOST_SEGMENTS (length (edited_segments SetExecStack image.segments))) (stack_is_there _ image.segments) ∙ sym (stands_not (has_no_room_for_stack image) TooManyHeaders free.own)
+room_with_leave true image = room_left (spare_facts image)
+room_with_leave false image = refl
+
+room_stays : (edit : Edit) (image : Image) → IsFree edit (facts_of image) → full (edited_segments edit image) ≡ full image.segments
+unfolding full lacks_stack
+room_stays ClearExecStack image free = ap (λ b. b && nat_le MOST_SEGMENTS (length (edited_segments ClearExecStack image))) (stack_is_there _ image.segments) ∙ sym (stands_not (has_no_room_for_stack image) TooManyHeaders free.own)
+room_stays SetExecStack image free = ap (λ b. b && nat_le MOST_SEGMENTS (length (edited_segments SetExecStack image))) (stack_is_there _ image.segments) ∙ sym (stands_not (has_no_room_for_stack image) TooManyHeaders free.own)
 room_stays (SetPageSize size) image free =
     ap (λ b. b && nat_le MOST_SEGMENTS (length (map (with_align size) image.segments))) (lacks_as_before size image.segments)
     ∙ ap (λ n. is_none (segment_of_type PT_GNU_STACK image.segments) && nat_le MOST_SEGMENTS n) (length-map image.segments (with_align size))
+room_stays AllowDynamicMove image free = room_with_leave image.changed image
 room_stays _ image free = refl
 
 -- where names have to stay, an edit has no other one for any of them

@@ -28,3 +28,5 @@ pub use Rattle.elf_edits.proofs.SymbolSteps.{value_whole}
 pub use Rattle.elf_edits.proofs.LookupSteps.{is_some-map}
 -- a run path of which no directory goes is as it was
 pub use Rattle.elf_edits.proofs.ShrunkLaws.{none_gone}
+-- which segments are spare isn't changed by alignments and the stack's flags, and once they have gone no further one is
+pub use Rattle.elf_edits.proofs.SpareLaws.{others_found, reclaimed_again, reclaimed_aligned, reclaimed_flagged}

@@ -8,6 +8,7 @@ pub mod EntryLaws
 pub mod SymbolLaws
 pub mod NeedLaws
 pub mod TwiceLaws
+pub mod SpareLaws
 pub mod ShownLaws
 pub mod BatchLaws
 pub mod TextSteps

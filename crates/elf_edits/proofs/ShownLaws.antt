@@ -8,14 +8,16 @@ use Rattle.elf_format.specs.declared.records.SegmentHeader.{SegmentHeader}
 use Rattle.elf_image.specs.Dynamic.{Entry}
 use Rattle.elf_image.specs.File.{segment_of_type}
 use Rattle.elf_image.specs.Image.{Image, lists_tag, seen_symbol, shown, shown_if}
+use Rattle.elf_image.specs.Leave.{spare_facts}
 use Rattle.elf_image.specs.Versions.{VersionDefinition, VersionNeeds}
 use Rattle.elf_image.specs.Views.{NamedSymbol}
 use Rattle.elf_edits.specs.Cause.{Cause, cause}
-use Rattle.elf_edits.specs.Edit.{ClearExecStack, Edit, SetExecStack, SetPageSize, edited_entries, edited_needs, edited_symbols}
-use Rattle.elf_edits.specs.Edited.{edited_image, edited_leave, edited_segments, edited_view, stack_change, stack_flags_changed, step, touches, with_align, with_stack_changed}
+use Rattle.elf_edits.specs.Edit.{AllowDynamicMove, ClearExecStack, Edit, SetExecStack, SetPageSize, edited_entries, edited_needs, edited_symbols}
+use Rattle.elf_edits.specs.Edited.{edited_image, edited_leave, edited_segments, edited_view, segments_with_leave, stack_change, stack_flags_changed, step, touches, with_align, with_stack_changed}
 use Rattle.elf_edits.specs.Laws.{EditsShow, KeepsTheRest}
 use Rattle.elf_edits.proofs.EditLaws.{IsUntouched, symtab_untouched, tags_kept, verdef_untouched, verdefnum_untouched, verneed_untouched, verneednum_untouched, versym_untouched}
 use Rattle.elf_edits.proofs.ListLaws.{by_test}
+use Rattle.elf_edits.proofs.SpareLaws.{others_found}
 use Rattle.elf_edits.proofs.SymbolLaws.{seen_edited}
 
 -- ## The stack
@@ -50,11 +52,18 @@ stack_aligned size (p ∷ ps) = by_test (p.p_type == PT_GNU_STACK)
     (λ holds. ap flags_of (if_first (p.p_type == PT_GNU_STACK) (with_align size p) (stack_in (map (with_align size) ps)) holds) ∙ sym (ap flags_of (if_first (p.p_type == PT_GNU_STACK) p (stack_in ps) holds)))
     (λ fails. ap flags_of (cond-false (p.p_type == PT_GNU_STACK) (Some (with_align size p)) (stack_in (map (with_align size) ps)) fails) ∙ stack_aligned size ps ∙ sym (ap flags_of (cond-false (p.p_type == PT_GNU_STACK) (Some p) (stack_in ps) fails)))
 
-stack_shown : (edit : Edit) (ps : List SegmentHeader) → flags_of (stack_in (edited_segments edit ps)) ≡ stack_flags_changed (stack_change edit) (flags_of (stack_in ps))
-stack_shown ClearExecStack ps = stack_changed _ ps
-stack_shown SetExecStack ps = stack_changed _ ps
-stack_shown (SetPageSize size) ps = stack_aligned size ps
-stack_shown _ ps = refl
+-- the stack's program header isn't spare
+stack_left : (leave : Bool) (image : Image) → stack_in (segments_with_leave leave image) ≡ stack_in image.segments
+unfolding stack_in
+stack_left true image = others_found (spare_facts image) (λ p. p.p_type == PT_GNU_STACK) (λ p is. ap (λ (n : ℕ). n == PT_GNU_STACK) is)
+stack_left false image = refl
+
+stack_shown : (edit : Edit) (image : Image) → flags_of (stack_in (edited_segments edit image)) ≡ stack_flags_changed (stack_change edit) (flags_of (stack_in image.segments))
+stack_shown ClearExecStack image = stack_changed _ image.segments
+stack_shown SetExecStack image = stack_changed _ image.segments
+stack_shown (SetPageSize size) image = stack_aligned size image.segments
+stack_shown AllowDynamicMove image = ap flags_of (stack_left image.changed image)
+stack_shown _ image = refl
 
 -- ## The tables that the list names
 
@@ -108,7 +117,7 @@ edited_shows : (edit : Edit) (old : Image) → shown (edited_image edit old) ≡
 unfolding edited_image flags_of stack_in symbols_by definitions_by needs_by
 edited_shows edit old =
     let machine = old.header.e_machine in
-    ap (λ (o : Option ℕ). record (shown (edited_image edit old)) { stack_flags = o }) (stack_shown edit old.segments)
+    ap (λ (o : Option ℕ). record (shown (edited_image edit old)) { stack_flags = o }) (stack_shown edit old)
     ∙ ap (λ (o : Option (List NamedSymbol)). record (shown (edited_image edit old)) { stack_flags = stack_flags_changed (stack_change edit) (shown old).stack_flags; symbols = o }) (symbols_edited old machine edit old.entries)
     ∙ ap (λ (o : Option (List VersionDefinition)). record (shown (edited_image edit old)) { stack_flags = stack_flags_changed (stack_change edit) (shown old).stack_flags; symbols = option_map (edited_symbols edit) (shown old).symbols; definitions = o }) (definitions_same old machine edit old.entries)
     ∙ ap (λ (o : Option (List VersionNeeds)). record (shown (edited_image edit old)) { stack_flags = stack_flags_changed (stack_change edit) (shown old).stack_flags; symbols = option_map (edited_symbols edit) (shown old).symbols; definitions = (shown old).definitions; needs = o }) (needs_shown old machine edit old.entries)

@@ -5,7 +5,9 @@ use Rattle.elf_format.specs.declared.constants.TheConstants.{PF_X, PT_GNU_STACK,
 use Rattle.elf_image.specs.Dynamic.{Entry}
 use Rattle.elf_image.specs.Image.{Image}
 use Rattle.elf_format.specs.declared.records.SegmentHeader.{SegmentHeader}
+use Rattle.elf_image.specs.Leave.{spare_facts}
 use Rattle.elf_image.specs.Views.{View}
+use Rattle.elf_image.specs.Spare.{segments_reclaimed}
 use Rattle.elf_edits.specs.declared.constants.TheConstants.{STACK_ALIGN, STACK_FLAGS}
 use Rattle.elf_edits.specs.Abi.{abi_number, with_nul}
 use Rattle.elf_edits.specs.Cause.{Cause, cause}
@@ -57,12 +59,17 @@ with_align size p = record p { p_align = if p.p_type == PT_LOAD then size else p
 abbrev pub with_load_align : ℕ → List SegmentHeader → List SegmentHeader
 with_load_align size segments = map (with_align size) segments
 
--- the program headers
-abbrev pub edited_segments : Edit → List SegmentHeader → List SegmentHeader
-edited_segments ClearExecStack segments = with_stack_changed without_run segments
-edited_segments SetExecStack segments = with_stack_changed with_run segments
-edited_segments (SetPageSize size) segments = with_load_align size segments
-edited_segments _ segments = segments
+-- the program headers, where leave is given without spare segments
+abbrev pub segments_with_leave : Bool → Image → List SegmentHeader
+segments_with_leave leave image = if leave then segments_reclaimed (spare_facts image) else image.segments
+
+-- the program headers after an edit
+abbrev pub edited_segments : Edit → Image → List SegmentHeader
+edited_segments ClearExecStack image = with_stack_changed without_run image.segments
+edited_segments SetExecStack image = with_stack_changed with_run image.segments
+edited_segments (SetPageSize size) image = with_load_align size image.segments
+edited_segments AllowDynamicMove image = segments_with_leave image.changed image
+edited_segments _ image = image.segments
 
 abbrev pub edited_page_size : Edit → Option ℕ → Option ℕ
 edited_page_size (SetPageSize size) old = Some size
@@ -111,7 +118,7 @@ unfoldable pub edited_image : Edit → Image → Image
 edited_image edit image = record image {
   changed = image.changed || touches edit image;
   header = record image.header { os_abi = edited_abi edit image.header.os_abi };
-  segments = edited_segments edit image.segments;
+  segments = edited_segments edit image;
   dynamic_symbols = edited_symbols edit image.dynamic_symbols;
   needs = edited_needs edit image.needs;
   entries = option_map (edited_entries image.header.e_machine edit) image.entries;

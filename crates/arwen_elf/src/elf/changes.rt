@@ -1,8 +1,9 @@
 //! The edits of an ELF file, by the names of the program's commands.
-ghost use Rattle.std.specs.Prelude.{◌≡◌, ◌∷◌, [], IfOk, IsOk, true};
+ghost use Rattle.std.specs.Prelude.{◌≡◌, ◌∷◌, [], IfOk, IsOk};
 ghost use Rattle.elf_edits.specs.Edit.{AddDebugEntry, AddNeeded, AddRunPath, ClearExecStack, ClearSymbolVersion, DeleteNeeded, DeleteRunPath, NoDefaultLibrary, RenameDynamicSymbols, ReplaceLibrary, ReplaceNeeded, SetExecStack, SetInterpreter, SetOsAbi, SetPageSize, SetRunPath, SetSoname, UseRpath};
 ghost use Rattle.elf_edits.specs.EditModel.{pairs_model, texts_model};
 ghost use Rattle.elf_apply.specs.Taken.{RemovedAre, edits_model, shrink_model};
+ghost use Rattle.elf_image.specs.Leave.{with_dynamic_move};
 ghost use Rattle.elf_symbol_edits.specs.EditModel.{edit_model as symbol_edit_model};
 ghost use Rattle.arwen_elf.specs.Contained.{BatchTaken, EditTaken, InPlaceTaken, SymbolEditTaken};
 
@@ -201,10 +202,7 @@ impl<'a> ElfContainer<'a> {
     /// Gives leave that the dynamic section moves where it has grown into what follows it (gABI, Dynamic Section), as
     /// `Builder::allow_dynamic_move` tells. Takes no memory.
     pub fn allow_dynamic_move(&mut self)
-        ensures image { self.new.inner ≡ record self.old.inner {
-          changed = true;
-          moves_dynamic = true;
-        } }
+        ensures image { self.new.inner ≡ with_dynamic_move self.old.inner }
         ensures bytes { self.new.bytes ≡ self.old.bytes }
     {
         self.inner.allow_dynamic_move()
