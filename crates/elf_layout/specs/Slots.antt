@@ -1,9 +1,10 @@
 -- Where sections that move stand, as the code keeps it: by their positions.
-use Rattle.std.specs.Prelude.{ℕ, ◌+◌, ◌-◌, ◌%◌, ◌^◌, ◌≤◌, ◌≡◌, ◌⊎◌, List, [], ◌∷◌, ◌++◌, not, ◌&&◌, length, map, filter, replicate, Bool, true, false, Option, Some, None, slice_get, slice_set, if◌then◌else◌, ◌==◌}
+use Rattle.std.specs.Prelude.{ℕ, ◌+◌, ◌-◌, ◌%◌, ◌^◌, ◌≤◌, ◌≡◌, ◌⊎◌, List, [], ◌∷◌, ◌++◌, not, ◌&&◌, length, map, filter, replicate, Bool, true, false, Option, Some, None, nat_le, slice_get, slice_set, if◌then◌else◌, ◌==◌}
 use Rattle.std.specs.Int.{next_multiple_of}
 use Rattle.std.specs.List.{list_any}
-use Rattle.elf_format.specs.Placement.{file_part}
+use Rattle.elf_format.specs.Placement.{file_part, is_stored}
 use Rattle.elf_format.specs.Ranges.{end_of}
+use Rattle.elf_image.specs.Kept.{place_at_read}
 use Rattle.elf_layout_plan.specs.Added.{AddedLoad, Slot, added_loads, alignment_of, load_at}
 use Rattle.elf_layout_plan.specs.Memory.{Resized, SizedSection, sized_sections, takes_memory}
 use Rattle.elf_layout_plan.specs.Rounds.{flags_for, sections_at}
@@ -70,16 +71,19 @@ with_flag sets (Some flags) = if list_any (λ x. x == flags) sets then sets else
 abbrev pub value_where : {X : Type 0} → (X → Bool) → (X → ℕ) → X → ℕ
 value_where test value x = if test x then value x else 0
 
-abbrev pub has_memory : SizedSection → Bool
-has_memory s = takes_memory s.kept.section && not (s.kept.section.sh_size == 0)
+-- the section had memory where one of the loaded segments that end there may reach
+abbrev pub has_memory : ℕ → SizedSection → Bool
+has_memory end s =
+    takes_memory s.kept.section && not (s.kept.section.sh_size == 0)
+    && not (is_stored (place_at_read s.kept.section) && nat_le end s.kept.section.sh_addr)
 
 abbrev pub section_end : SizedSection → ℕ
 section_end s = s.kept.section.sh_addr + s.kept.section.sh_size
 
 -- the end of the section in memory, 0 without one that has some
-abbrev pub end_at : Option SizedSection → ℕ
-end_at None = 0
-end_at (Some s) = value_where has_memory section_end s
+abbrev pub end_at : ℕ → Option SizedSection → ℕ
+end_at end None = 0
+end_at end (Some s) = value_where (has_memory end) section_end s
 
 -- ## One segment that is added
 

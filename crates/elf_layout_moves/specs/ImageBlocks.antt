@@ -1,13 +1,15 @@
 -- How the blocks of an image are found: what the steps hand to each other.
-use Rattle.std.specs.Prelude.{ℕ, ◌+◌, ◌-◌, ◌≡◌, List, [], ◌∷◌, length, map, filter, drop, Bool, false, Option, Some, ◌==◌, ◌&&◌, ◌||◌, if◌then◌else◌, slice_index}
+use Rattle.std.specs.Prelude.{ℕ, ◌+◌, ◌-◌, ◌≡◌, List, [], length, map, filter, drop, Bool, false, Option, Some, ◌==◌, ◌&&◌, ◌||◌, if◌then◌else◌, nat_le, slice_index}
 use Rattle.std.specs.Option.{option_map}
-use Rattle.elf_format.specs.declared.constants.TheConstants.{SHT_DYNAMIC, SHT_DYNSYM, SHT_GNU_HASH, SHT_GNU_VERDEF, SHT_GNU_VERNEED, SHT_GNU_VERSYM, SHT_HASH, SHT_NOTE, SHT_STRTAB}
+use Rattle.elf_format.specs.declared.constants.TheConstants.{SHT_DYNAMIC, SHT_STRTAB}
 use Rattle.elf_format.specs.Image.{Image, ImageSection}
-use Rattle.elf_format.specs.Options.{is_one_of, is_some_and}
+use Rattle.elf_format.specs.Options.{is_some_and}
+use Rattle.elf_format.specs.Placement.{is_stored}
 use Rattle.elf_format.specs.declared.records.SegmentHeader.{SegmentHeader}
 use Rattle.elf_layout_plan.specs.Blocks.{Block}
-use Rattle.elf_image.specs.Kept.{KeptSection, kept_from}
-use Rattle.elf_layout_plan.specs.Memory.{Resized, SizedSection, is_stray, section_block, sized_from, takes_memory}
+use Rattle.elf_image.specs.Kept.{KeptSection, kept_from, place_at_read}
+pub use Rattle.elf_layout_plan.specs.Memory.{is_movable_type}
+use Rattle.elf_layout_plan.specs.Memory.{Resized, SizedSection, is_out_of_loads, is_stray, section_block, sized_from, takes_memory}
 
 -- each section has a number at read
 abbrev pub AreNumbered : Image → Type 0
@@ -25,13 +27,21 @@ kept_behind image k = kept_from k (drop k image.section_numbers) (drop k image.s
 abbrev pub sized_at : ℕ → ℕ → ImageSection → ℕ → SizedSection
 sized_at position number s size = record { kept = record { position = position; number = number; section = s }; size = size }
 
--- a section that was empty can't stand where it stood
-abbrev pub is_section_stray : Image → ImageSection → ℕ → Bool
-is_section_stray image s size = is_stray (record { read = image; image = image; sizes = [] }) (sized_at 0 0 s size)
+-- a section of an image alone, with a new size
+abbrev pub image_alone : Image → Resized
+image_alone image = record { read = image; image = image; sizes = [] }
 
--- every section of the type can move
-abbrev pub is_movable_type : ℕ → Bool
-is_movable_type type = is_one_of (SHT_NOTE ∷ SHT_DYNSYM ∷ SHT_HASH ∷ SHT_GNU_HASH ∷ SHT_GNU_VERSYM ∷ SHT_GNU_VERDEF ∷ SHT_GNU_VERNEED ∷ []) type
+-- a section that was empty can't stand where it stood
+abbrev pub is_section_out : Image → ImageSection → ℕ → Bool
+is_section_out image s size = is_out_of_loads (image_alone image) (sized_at 0 0 s size)
+
+-- a section with bytes stands behind where the loaded segments end
+abbrev pub is_section_behind : ℕ → ImageSection → Bool
+is_section_behind end s = is_stored (place_at_read s) && nat_le end s.sh_addr
+
+-- a section can't stand where it stood
+abbrev pub is_section_stray : Image → ImageSection → ℕ → Bool
+is_section_stray image s size = is_stray (image_alone image) (sized_at 0 0 s size)
 
 -- how readily a section moves that had a number at read, by the numbers of the interpreter's and of the dynamic strings, and by the
 -- leave that the dynamic section has

@@ -1,5 +1,5 @@
 //! The blocks of memory that an image takes.
-ghost use Rattle.std.specs.Prelude.{ℕ, ◌≡◌, ◌&&◌, ◌+◌, ◌*◌, ◌^◌, ◌<◌, ◌≤◌, ◌∷◌, ◌++◌, [], IfOk, IsTrue, OnOk, ◌==◌, None, Some, false, true, filter, length, slice_get, map, slice_index};
+ghost use Rattle.std.specs.Prelude.{ℕ, ◌≡◌, ◌&&◌, ◌+◌, ◌*◌, ◌^◌, ◌<◌, ◌≤◌, ◌∷◌, ◌++◌, [], IfOk, IsTrue, OnOk, ◌==◌, None, Some, false, true, length, slice_get, map};
 ghost use Rattle.std.specs.List.{flat_map, list_any};
 ghost use Rattle.elf_format.specs.File.{is_loaded, loads_of};
 ghost use Rattle.elf_format.specs.Image.{ImageSection};
@@ -8,18 +8,19 @@ ghost use Rattle.elf_format.specs.Placement.{file_part, shows_at};
 ghost use Rattle.elf_format.specs.Ranges.{lies_in, range};
 ghost use Rattle.elf_format.specs.Records.{segment_header_size};
 ghost use Rattle.elf_image.specs.ImageModel.{section_model, segment_model};
-ghost use Rattle.elf_image.specs.Kept.{dynamic_strings_number, interpreter_number};
+ghost use Rattle.elf_format.specs.Places.{occupies_file};
+ghost use Rattle.elf_image.specs.Kept.{dynamic_strings_number, interpreter_number, place_at_read};
+ghost use Rattle.elf_image.specs.Segments.{loads_end as end_of_loads};
 ghost use Rattle.elf_layout_plan.specs.Memory.{blocks_with, edge_blocks, fixed_block, header_blocks, loaded_over, table_size_with, takes_memory};
-ghost use Rattle.elf_layout_moves.specs.ImageBlocks.{AreNumbered, address_of, is_movable_type, is_section_stray, made_block, priority_with, section_blocks_from};
+ghost use Rattle.elf_layout_moves.specs.ImageBlocks.{AreNumbered, address_of, is_section_behind, is_section_out, is_section_stray, made_block, priority_with, section_blocks_from};
 ghost use Rattle.elf_layout_moves.specs.Growth.{table_start as start_of_table};
 ghost use Rattle.elf_layout_moves.specs.Limits.{end_with};
 
 use crate::resizing::Resizing;
 use elf_format::constants::{
-    PT_LOAD, SHF_ALLOC, SHF_TLS, SHT_DYNAMIC, SHT_DYNSYM, SHT_GNU_HASH, SHT_GNU_VERDEF,
-    SHT_GNU_VERNEED, SHT_GNU_VERSYM, SHT_HASH, SHT_NOBITS, SHT_NOTE, SHT_NULL, SHT_STRTAB,
+    PT_LOAD, SHF_ALLOC, SHF_TLS, SHT_DYNAMIC, SHT_DYNSYM, SHT_NOBITS, SHT_NULL, SHT_STRTAB,
 };
-use elf_image::{Builder, Section, Segment};
+use elf_image::{Builder, Section, Segment, is_movable_type, loads_end};
 use elf_layout_plan::is_numbered;
 use std::alloc::{AllocError, Global};
 use std::marker::Model;
@@ -35,7 +36,7 @@ pub struct MemoryBlock {
     pub priority: u8,
     /// The position of the section whose it is.
     pub section: Option<usize>,
-    /// Whether it was empty, and what it is to hold can't stand where it stood.
+    /// Whether what it is to hold can't stand where it stood: it was empty, or its loaded segment went.
     pub is_stray: bool,
     /// Whether it marks the start of a loaded segment.
     pub is_load_start: bool,
@@ -271,17 +272,41 @@ fn is_shown(segments: &[Segment<'_>], offset: u64, size: u64, address: u64) -> b
     false
 }
 
-// Whether a section of the file was empty, and can't stand with its new size where it stood.
-fn is_stray_at(image: &Builder<'_>, section: &Section<'_>, size: u64) -> bool
-    ensures { result ≡ is_section_stray image.now (section_model section.now) size }
+// Whether a section has its bytes in the file.
+fn is_in_file(section: &Section<'_>) -> bool
+    ensures { result ≡ occupies_file (place_at_read (section_model section.now)) }
+{
+    section.sh_type != SHT_NULL && section.sh_type != SHT_NOBITS
+}
+
+// Whether no loaded segment shows a section that was empty with its new size, or the file header stands in it.
+fn is_out_of_loads(image: &Builder<'_>, section: &Section<'_>, size: u64) -> bool
+    ensures { result ≡ is_section_out image.now (section_model section.now) size }
 {
     let (offset, address) = (section.sh_offset, section.sh_addr);
-    section.sh_type != SHT_NULL
-        && section.sh_type != SHT_NOBITS
-        && section.sh_size == 0
+    !is_shown(image.segments(), offset, size, address)
+        || offset < image.form().file_header_size() as u64
+}
+
+// Whether a section with bytes stands where no loaded segment reaches, by where these end.
+fn is_behind_loads(section: &Section<'_>, loads_end: u128) -> bool
+    ensures { result ≡ is_section_behind loads_end (section_model section.now) }
+{
+    section.sh_flags & SHF_ALLOC != 0
+        && is_in_file(section)
+        && section.sh_size != 0
+        && loads_end <= u128::from(section.sh_addr)
+}
+
+// Whether a section of the file that has bytes now can't stand where it stood.
+fn is_stray_at(image: &Builder<'_>, section: &Section<'_>, size: u64, loads_end: u128) -> bool
+    requires { loads_end ≡ end_of_loads image.now.segments }
+    ensures { result ≡ is_section_stray image.now (section_model section.now) size }
+{
+    is_in_file(section)
         && size != 0
-        && (!is_shown(image.segments(), offset, size, address)
-            || offset < image.form().file_header_size() as u64)
+        && (section.sh_size == 0 && is_out_of_loads(image, section, size)
+            || is_behind_loads(section, loads_end))
 }
 
 // Whether a section takes memory of its own.
@@ -303,23 +328,6 @@ fn number_of_strings(image: &Builder<'_>) -> Option<usize>
     }
 }
 
-// Whether every section of a type can move.
-fn is_table(kind: u32) -> bool
-    ensures { result ≡ is_movable_type kind }
-{
-    [
-        SHT_NOTE,
-        SHT_DYNSYM,
-        SHT_HASH,
-        SHT_GNU_HASH,
-        SHT_GNU_VERSYM,
-        SHT_GNU_VERDEF,
-        SHT_GNU_VERNEED,
-    ]
-    .iter()
-    .any(|other| *other == kind)
-}
-
 // How readily a section moves that had this number at read; the dynamic section does where it has leave.
 fn priority_at(
     section: &Section<'_>,
@@ -332,7 +340,7 @@ fn priority_at(
 {
     if is_numbered(interpreter, number) {
         1
-    } else if is_table(section.sh_type)
+    } else if is_movable_type(section.sh_type)
         || section.sh_type == SHT_STRTAB && is_numbered(strings, number)
         || section.sh_type == SHT_DYNAMIC && leave
     {
@@ -348,7 +356,9 @@ fn block_at(
     position: usize,
     interpreter: Option<usize>,
     strings: Option<usize>,
+    loads_end: u128,
 ) -> MemoryBlock
+    requires end { loads_end ≡ end_of_loads r.now.image.segments }
     requires within { position < length r.now.image.sections }
     requires sized { position < length r.now.sizes }
     ensures { (s : ImageSection) → slice_get r.now.image.sections position ≡ Some s
@@ -368,7 +378,7 @@ fn block_at(
             r.image.may_dynamic_move(),
         ),
         section: Some(position),
-        is_stray: is_stray_at(r.image, section, size),
+        is_stray: is_stray_at(r.image, section, size, loads_end),
         is_load_start: false,
     }
 }
@@ -386,9 +396,10 @@ fn push_sections(
     requires strings { strings ≡ dynamic_strings_number r.now.image }
     ensures { OnOk result (made.new.items ≡ made.old.items ++ section_blocks_from r.now 0) }
 {
+    let end = loads_end(r.image.segments());
     for position in 0..r.image.sections().len() {
         if is_in_memory(&r.image.sections()[position]) {
-            made.push(block_at(r, position, interpreter, strings))?;
+            made.push(block_at(r, position, interpreter, strings, end))?;
         }
     }
     Ok(())

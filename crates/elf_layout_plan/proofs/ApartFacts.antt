@@ -1,5 +1,5 @@
 -- What is known of an edited image and the one that was read: its loaded segments and its sections stand where those stood.
-use Rattle.std.proofs.Common.{◌≡◌, ℕ, ◌≤◌, Bool, true, ◌⊎◌, map, length, Some}
+use Rattle.std.proofs.Common.{◌≡◌, ℕ, ◌≤◌, Bool, true, false, ◌⊎◌, List, map, length, Some}
 use Rattle.std.specs.List.{list_any, slice_get}
 use Rattle.elf_format.specs.declared.constants.TheConstants.{SHT_NOBITS, SHT_NOTE}
 use Rattle.elf_format.specs.declared.records.SegmentHeader.{SegmentHeader}
@@ -10,8 +10,10 @@ use Rattle.elf_format.specs.declared.range.Range.{Range}
 use Rattle.elf_format.specs.Ranges.{apart, end_of, range}
 use Rattle.elf_layout_plan.specs.Anchors.{is_loaded_section}
 use Rattle.elf_image.specs.Complete.{IsComplete}
+use Rattle.elf_image.specs.Edited.{AreUnclaimed}
 use Rattle.elf_image.specs.Kept.{KeptSection, kept_sections, place_at_read}
-use Rattle.elf_layout_plan.specs.Memory.{Resized, sized_sections}
+use Rattle.elf_image.specs.Segments.{loads_end}
+use Rattle.elf_layout_plan.specs.Memory.{Resized, has_lost_load, sized_sections}
 use Rattle.elf_layout_plan.specs.Sizes.{new_size}
 use Rattle.elf_layout_plan.proofs.ApartLists.{Each, Pairs}
 use Rattle.elf_layout_plan.proofs.ApartSections.{sized_of}
@@ -39,13 +41,16 @@ pub record IsOriginal (read : Image) (k : KeptSection) : Type 0 where
 pub record AreFacts (r : Resized) : Type 0 where
   pub form : r.image.form ≡ r.read.form
   pub table : r.image.header.e_phoff ≡ r.read.header.e_phoff
-  pub loads : map bare (loads_of r.image.segments) ≡ map bare (loads_of r.read.segments)
+  -- what is left of the program headers that were read
+  pub left : List SegmentHeader
+  pub are_left : AreUnclaimed r.read.header.e_phoff (loads_end r.image.segments) r.read.segments left
+  pub loads : map bare (loads_of r.image.segments) ≡ map bare (loads_of left)
   pub sized : sized_sections r ≡ map (sized_of r) (kept_sections r.image)
-  pub fit : Each (λ p. p.p_filesz ≤ p.p_memsz) (loads_of r.read.segments)
-  pub in_file : Each (λ p. end_of (file_part p) ≤ length r.image.source) (loads_of r.read.segments)
-  pub bytes_apart : Pairs (λ p q. apart (file_part p) (file_part q) ≡ true) (loads_of r.read.segments)
-  pub held : Each (λ k. was_stored k ≡ true → list_any (λ p. shows_at p (bytes_of k) k.section.sh_addr) (loads_of r.read.segments) ≡ true) (kept_sections r.image)
-  pub something : Each (λ k. is_loaded_section k.section ≡ true → list_any is_loaded r.read.segments ≡ true) (kept_sections r.image)
+  pub fit : Each (λ p. p.p_filesz ≤ p.p_memsz) (loads_of left)
+  pub in_file : Each (λ p. end_of (file_part p) ≤ length r.image.source) (loads_of left)
+  pub bytes_apart : Pairs (λ p q. apart (file_part p) (file_part q) ≡ true) (loads_of left)
+  pub held : Each (λ k. was_stored k ≡ true → has_lost_load r.image k.section ≡ false → list_any (λ p. shows_at p (bytes_of k) k.section.sh_addr) (loads_of left) ≡ true) (kept_sections r.image)
+  pub something : Each (λ k. is_loaded_section k.section ≡ true → list_any is_loaded left ≡ true) (kept_sections r.image)
   pub sections_apart : Pairs (λ k l. was_stored k ≡ true → was_stored l ≡ true → apart (bytes_of k) (bytes_of l) ≡ true) (kept_sections r.image)
   pub read_apart : Pairs (λ k l. was_stored k ≡ true → was_stored l ≡ true → apart (bytes_of k) (bytes_of l) ≡ true) (kept_sections r.read)
   pub keeps_size : Each (λ k. (k.section.sh_type ≡ SHT_NOBITS) ⊎ (k.section.sh_type ≡ SHT_NOTE) → new_size r.read r.image k ≡ k.section.sh_size) (kept_sections r.image)

@@ -1,10 +1,10 @@
 -- The headers of a plan stand in memory where their blocks are.
 use Rattle.std.proofs.Common.{◌≡◌, ℕ, ◌+◌, ◌-◌, ◌*◌, ◌<◌, ◌≤◌, Bool, true, false, not, cond, ◌&&◌, List, [], ◌∷◌, map, length, refl, sym, ap, ◌∙◌, subst, inl, inr, arith, Option, Some, None}
-use Rattle.std.specs.Prelude.{◌==◌, filter, find, is_some, nat_le, if◌then◌else◌}
+use Rattle.std.specs.Prelude.{◌==◌, filter, find, is_some, nat_le, nat_lt, if◌then◌else◌}
 use Rattle.std.specs.List.{list_any, slice_get}
 use Rattle.std.specs.Option.{option_map}
 use Rattle.std.proofs.Math.Nat.{mul-le-mul_right}
-use Rattle.std.proofs.lemmas.Bool.{and_parts, le-leb, leb-true, lt-leb}
+use Rattle.std.proofs.lemmas.Bool.{and_from, and_parts, false≢true, le-leb, leb-true, lt-leb, lt-ltb}
 use Rattle.std.proofs.lemmas.Option.{none-some, same_Some, slice_get_within}
 use Rattle.patch_bytes.specs.declared.number.Wide.{Wide}
 use Rattle.patch_bytes.specs.declared.number.Wide.TheVariants.{W32, W64}
@@ -16,6 +16,8 @@ use Rattle.elf_format.specs.Form.{by_class}
 use Rattle.elf_format.specs.Placement.{file_part}
 use Rattle.elf_format.specs.Ranges.{apart, end_of, lies_in, range}
 use Rattle.elf_format.specs.Records.{file_header_size, segment_header_size}
+use Rattle.elf_image.specs.Edited.{IsReclaimed}
+use Rattle.elf_image.specs.Segments.{loads_end}
 use Rattle.elf_layout_plan.specs.Added.{AddedLoad, added_loads, header_count, keeps_range, keeps_section_range, kept_end, load_alignment, memory_end}
 use Rattle.elf_layout_plan.specs.Apart.{addresses_of}
 use Rattle.elf_layout_plan.specs.Blocks.{Block}
@@ -27,6 +29,7 @@ use Rattle.elf_layout_plan.specs.Written.{written_segments}
 use Rattle.elf_layout_plan.proofs.ApartBlocks.{apart-meet, greatest-each, greatest-start}
 use Rattle.elf_layout_plan.proofs.ApartFacts.{AreFacts, bare}
 use Rattle.elf_layout_plan.proofs.ApartFixed.{file_header_blocks, table_blocks}
+use Rattle.elf_layout_plan.proofs.ApartLeft.{find_left}
 use Rattle.elf_layout_plan.proofs.ApartLists.{Each, at-map, each-at, each-both, each-filter, each-from, each-map, each-more, each-unfilter, each-unmap, filter-at, find-at, find-none, map-at, pairs-at}
 use Rattle.elf_layout_plan.proofs.ApartMemory.{loads_from-headers}
 use Rattle.elf_layout_plan.proofs.ApartStays.{each_load, loads_file_end}
@@ -81,10 +84,10 @@ some-mapped (Some p) q e = (p, refl, same_Some (bare p) (bare q) e)
 
 module _ (r : Resized) (facts : AreFacts r) (moved : List ℕ) where
   found_alike : (test : SegmentHeader → Bool) → ((p : SegmentHeader) → test (bare p) ≡ test p) → (q : SegmentHeader) → find test (loads_of r.image.segments) ≡ Some q
-      → (p : SegmentHeader) × (find test (loads_of r.read.segments) ≡ Some p) × (bare p ≡ bare q)
+      → (p : SegmentHeader) × (find test (loads_of facts.left) ≡ Some p) × (bare p ≡ bare q)
   found_alike test same q e =
-      some-mapped (find test (loads_of r.read.segments)) q
-      (find-alike test same (loads_of r.read.segments) ∙ ap (find test) (sym facts.loads) ∙ sym (find-alike test same (loads_of r.image.segments)) ∙ ap (option_map bare) e)
+      some-mapped (find test (loads_of facts.left)) q
+      (find-alike test same (loads_of facts.left) ∙ ap (find test) (sym facts.loads) ∙ sym (find-alike test same (loads_of r.image.segments)) ∙ ap (option_map bare) e)
 
   -- ## Where segments end in the file
 
@@ -168,6 +171,13 @@ module _ (r : Resized) (facts : AreFacts r) (moved : List ℕ) where
       let low : q.p_vaddr + q.p_filesz ≤ memory_end r = each-at (λ p. p.p_vaddr + p.p_filesz ≤ memory_end r) (loads_of r.image.segments) (loads_file_end r facts) j q at in
       (0, fixed_block (p.p_vaddr + old.start - p.p_offset) old_size, refl, omega (arith, address, offset, start), less, refl, omega (arith, begins, ends, low, sized))
 
+  -- the segment of the file header is left
+  header_left : loaded_over (range 0 (file_header_size r.read.form)) facts.left ≡ loaded_over (range 0 (file_header_size r.read.form)) r.read.segments
+  header_left =
+      let front = range 0 (file_header_size r.read.form) in
+      find_left r.read.header.e_phoff (loads_end r.image.segments) (λ p. lies_in front (file_part p))
+      (λ p went. lies-before front (file_part p) (let no : p.p_offset ≡ 0 → ⊥ = went.no_header in omega arith)) r.read.segments facts.left facts.are_left
+
   file_header_under : Each (IsUnder (file_header_blocks r)) (addresses_of (range 0 (file_header_size r.read.form)) (written_segments r moved))
   file_header_under = by_option (loaded_over part (written_segments r moved)) refl
     where
@@ -185,7 +195,8 @@ module _ (r : Resized) (facts : AreFacts r) (moved : List ℕ) where
           let none : find test (added_headers r moved) ≡ None =
           find-none test (added_headers r moved) (each-more (λ p. kept_end r moved ≤ p.p_offset) (λ p. test p ≡ false) (λ p h. lies-before front (file_part p) (omega (arith, h, header, positive))) (added_headers r moved) added_low) in
           let found : find test (loads_of r.image.segments) ≡ Some q = sym (plan_loads-find test r moved none) ∙ e in
-          let (p, at_p, alike) = found_alike test (λ p. refl) q found in
+          let (p, at_left, alike) = found_alike test (λ p. refl) q found in
+          let at_p : find test (loads_of r.read.segments) ≡ Some p = sym header_left ∙ at_left in
           let (j, at_q, inside) = find-at test (loads_of r.image.segments) q found in
           let P : Option SegmentHeader → Type 0 = λ o. IsUnder (block_in_load front (file_header_size r.read.form) o) (range (q.p_vaddr + 0 - q.p_offset) (file_header_size r.read.form)) in
           (subst P (sym at_p) (under_found front (file_header_size r.read.form) front (file_header_size r.read.form) q p j alike refl (omega arith) at_q inside refl), tt)
@@ -238,20 +249,42 @@ module _ (r : Resized) (facts : AreFacts r) (moved : List ℕ) where
       start_same : table_offset r moved ≡ r.read.header.e_phoff
       start_same = offset_kept p was ∙ facts.table
 
+      -- the table had some bytes
+      some_at_read : 0 < length r.read.segments * segment_header_size r.read.form
+      some_at_read =
+          let (i, at, _) = find-at (λ q. lies_in (table_at_read r) (file_part q)) (loads_of r.read.segments) p was in
+          some_entries r.read.segments (segment_header_size r.read.form) i p (entry-positive r.read.form) at
+
+      -- its segment is left
+      table_left : loaded_over (table_at_read r) facts.left ≡ table_load r
+      table_left =
+          find_left r.read.header.e_phoff (loads_end r.image.segments) (λ q. lies_in (table_at_read r) (file_part q))
+          (λ q went. not_over q went (lies_in (table_at_read r) (file_part q)) refl) r.read.segments facts.left facts.are_left
+        where
+          not_over : (q : SegmentHeader) → IsReclaimed r.read.header.e_phoff (loads_end r.image.segments) q → (b : Bool) → lies_in (table_at_read r) (file_part q) ≡ b → b ≡ false
+          not_over q went false e = refl
+          not_over q went true e =
+              let (begins, ends) = lies (table_at_read r) (file_part q) e in
+              let some = some_at_read in
+              let has : (nat_le q.p_offset r.read.header.e_phoff && nat_lt r.read.header.e_phoff (q.p_offset + q.p_filesz)) ≡ true =
+              and_from (nat_le q.p_offset r.read.header.e_phoff) (nat_lt r.read.header.e_phoff (q.p_offset + q.p_filesz)) (le-leb q.p_offset r.read.header.e_phoff begins)
+              (lt-ltb r.read.header.e_phoff (q.p_offset + q.p_filesz) (omega (arith, ends, some))) in
+              absurd (false≢true (sym went.no_table ∙ has))
+
       -- the segment that had the table, and the table's first byte in it
       record HadTable : Type 0 where
         place : ℕ
-        is_there : slice_get (loads_of r.read.segments) place ≡ Some p
+        is_there : slice_get (loads_of facts.left) place ≡ Some p
         begins : p.p_offset ≤ table_offset r moved
         ends : table_offset r moved < p.p_offset + p.p_filesz
         kept : p.p_offset + p.p_filesz ≤ kept_end r moved
 
       had_table : HadTable
       had_table =
-          let (i, at, inside) = find-at (λ q. lies_in (table_at_read r) (file_part q)) (loads_of r.read.segments) p was in
+          let (i, at, inside) = find-at (λ q. lies_in (table_at_read r) (file_part q)) (loads_of facts.left) p (table_left ∙ was) in
           let (begins, ends) = lies (table_at_read r) (file_part p) inside in
-          let some = some_entries r.read.segments (segment_header_size r.read.form) i p (entry-positive r.read.form) at in
-          let in_image : slice_get (map bare (loads_of r.image.segments)) i ≡ Some (bare p) = subst (λ (l : List SegmentHeader). slice_get l i ≡ Some (bare p)) (sym facts.loads) (at-map bare (loads_of r.read.segments) i p at) in
+          let some = some_at_read in
+          let in_image : slice_get (map bare (loads_of r.image.segments)) i ≡ Some (bare p) = subst (λ (l : List SegmentHeader). slice_get l i ≡ Some (bare p)) (sym facts.loads) (at-map bare (loads_of facts.left) i p at) in
           let (q, at_q, alike) = map-at bare (loads_of r.image.segments) i (bare p) in_image in
           let offset : q.p_offset ≡ p.p_offset = ap (λ (x : SegmentHeader). x.p_offset) alike in
           let size : q.p_filesz ≡ p.p_filesz = ap (λ (x : SegmentHeader). x.p_filesz) alike in
@@ -277,13 +310,13 @@ module _ (r : Resized) (facts : AreFacts r) (moved : List ℕ) where
       same_segment j q at inside some =
           let had = had_table in
           let (begins, ends) = lies plan_table (file_part q) inside in
-          let in_read : slice_get (map bare (loads_of r.read.segments)) j ≡ Some (bare q) = subst (λ (l : List SegmentHeader). slice_get l j ≡ Some (bare q)) facts.loads (at-map bare (loads_of r.image.segments) j q at) in
-          let (old, at_old, alike) = map-at bare (loads_of r.read.segments) j (bare q) in_read in
+          let in_left : slice_get (map bare (loads_of facts.left)) j ≡ Some (bare q) = subst (λ (l : List SegmentHeader). slice_get l j ≡ Some (bare q)) facts.loads (at-map bare (loads_of r.image.segments) j q at) in
+          let (old, at_old, alike) = map-at bare (loads_of facts.left) j (bare q) in_left in
           let offset : old.p_offset ≡ q.p_offset = ap (λ (x : SegmentHeader). x.p_offset) alike in
           let size : old.p_filesz ≡ q.p_filesz = ap (λ (x : SegmentHeader). x.p_filesz) alike in
           let low : old.p_offset ≤ table_offset r moved = omega (arith, begins, offset) in
           let high : table_offset r moved < old.p_offset + old.p_filesz = omega (arith, ends, some, offset, size) in
-          elim (pairs-at (λ p q. apart (file_part p) (file_part q) ≡ true) (loads_of r.read.segments) facts.bytes_apart had.place j p old had.is_there at_old) [
+          elim (pairs-at (λ p q. apart (file_part p) (file_part q) ≡ true) (loads_of facts.left) facts.bytes_apart had.place j p old had.is_there at_old) [
             | inl same ↦ ap bare same ∙ alike
             | inr (inl other) ↦ absurd (apart-meet (file_part p) (file_part old) (table_offset r moved) other had.begins had.ends low high)
             | inr (inr other) ↦ absurd (apart-meet (file_part old) (file_part p) (table_offset r moved) other low high had.begins had.ends)

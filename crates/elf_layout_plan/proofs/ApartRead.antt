@@ -3,7 +3,7 @@ use Rattle.std.proofs.Common.{◌≡◌, ℕ, zero, suc, ◌+◌, ◌<◌, ◌�
 use Rattle.std.specs.Prelude.{◌==◌, Result, Ok, Err, filter, find, nat_le, slice_index, if◌then◌else◌}
 use Rattle.std.specs.List.{list_all, list_any, slice_get}
 use Rattle.std.specs.Option.{option_map, option_to_list}
-use Rattle.std.proofs.lemmas.Bool.{and_parts, eqb-true, false≢true, leb-true, ne_eqb}
+use Rattle.std.proofs.lemmas.Bool.{and_from, and_parts, eqb-true, false≢true, le-leb, leb-true, ne_eqb}
 use Rattle.std.proofs.lemmas.List.{append-nil}
 use Rattle.std.proofs.lemmas.List.Elements.{filter-append}
 use Rattle.std.proofs.lemmas.Option.{get_or_from_slice_get, none-some, same_Some, slice_get_within}
@@ -21,19 +21,21 @@ use Rattle.elf_format.specs.Placement.{addresses_apart, ends_by, file_part, hold
 use Rattle.elf_format.specs.Places.{Place, file_range, occupies_file, occupies_memory, place_of, places_of}
 use Rattle.elf_format.specs.Ranges.{all_apart, apart, end_of}
 use Rattle.elf_format.specs.Rules.{MeetsRules, file_of, header_ranges}
-use Rattle.elf_image.specs.Edited.{AreKept, AreSegments, CanGo, IsEditOf, IsEdited, kept_segment}
+use Rattle.elf_image.specs.Edited.{AreKept, AreSegments, AreUnclaimed, CanGo, IsEditOf, IsEdited, IsReclaimed, kept_segment}
 use Rattle.elf_image.specs.ReadImage.{HoldsParts}
-use Rattle.elf_image.specs.Segments.{added_stack}
+use Rattle.elf_image.specs.Segments.{added_stack, loads_end}
 use Rattle.elf_image.proofs.ForCallers.ReadImageLaws.{read_images_hold_parts}
 use Rattle.elf_layout_plan.specs.Anchors.{is_loaded_section}
 use Rattle.elf_image.specs.Kept.{KeptSection, interpreter_number, kept_from, is_numbered, kept_sections, place_at_read, stands_as_interpreter}
-use Rattle.elf_layout_plan.specs.Memory.{Resized}
+use Rattle.elf_layout_plan.specs.Memory.{Resized, has_lost_load}
 use Rattle.elf_layout_plan.specs.Plan.{resized}
 use Rattle.elf_layout_plan.specs.Sizes.{interpreter_size, new_size, new_sizes, table_size}
 use Rattle.elf_layout_plan.proofs.ApartBlocks.{all_apart_pairs}
 use Rattle.elf_layout_plan.proofs.ApartFacts.{AreFacts, IsOriginal, bare, bytes_of, was_stored}
+use Rattle.elf_layout_plan.proofs.ApartLeft.{any_left, each_left, pairs_left}
 use Rattle.elf_layout_plan.proofs.ApartLists.{Each, Pairs, all-at, any-from, at-map, each-at, each-from, each-more, each-unfilter, each-unmap, find-at, pairs-from, pairs-less, pairs-unfilter, pairs-unmap, same_at}
 use Rattle.elf_layout_plan.proofs.ApartSections.{kept-at, sized_from-map}
+use Rattle.elf_layout_plan.proofs.ApartStays.{shows}
 use Rattle.elf_format.proofs.ForCallers.Lengths.{counted_at, slice_get-counted}
 
 -- ## Loaded segments are kept
@@ -58,11 +60,11 @@ loads-kept size (old ∷ olds) (p ∷ ps) h = elim h [
         by_test true = ap (λ q. q ∷ map bare (loads_of ps)) (ap bare same) ∙ ap (λ qs. bare old ∷ qs) rest
         by_test false = rest
 
-pub loads-edited : (size : Option ℕ) (read now : List SegmentHeader) → AreSegments size read now → map bare (loads_of now) ≡ map bare (loads_of read)
-loads-edited size read now h =
+pub loads-edited : (table : ℕ) (size : Option ℕ) (read now : List SegmentHeader) (h : AreSegments table size read now) → map bare (loads_of now) ≡ map bare (loads_of h.unclaimed)
+loads-edited table size read now h =
     ap (λ ps. map bare (loads_of ps)) h.are_all
     ∙ ap (map bare) (filter-append is_loaded h.kept (option_to_list (option_map added_stack h.added)) ∙ ap (λ ps. loads_of h.kept ++ ps) (no_stack h.added) ∙ append-nil (loads_of h.kept))
-    ∙ loads-kept size read h.kept h.are_kept
+    ∙ loads-kept size h.unclaimed h.kept h.are_kept
   where
     no_stack : (o : Option ℕ) → loads_of (option_to_list (option_map added_stack o)) ≡ []
     no_stack None = refl
@@ -87,6 +89,13 @@ size-note read image k e = rw e refl
 module _ (image read : Image) (edit : IsEditOf read image) (p : Parts) (rules : MeetsRules p) (has : HoldsParts p read) (source : file_of p ≡ image.source) where
   r : Resized
   r = record { read = read; image = image; sizes = new_sizes read image }
+
+  -- what is left of the program headers
+  abbrev left : List SegmentHeader
+  left = edit.segments.unclaimed
+
+  are_left : AreUnclaimed read.header.e_phoff (loads_end image.segments) read.segments left
+  are_left = edit.segments.are_unclaimed
 
   -- a kept section, as it was read, and its section header
   pub record IsFrom (i : ℕ) (k : KeptSection) : Type 0 where
@@ -123,8 +132,8 @@ module _ (image read : Image) (edit : IsEditOf read image) (p : Parts) (rules : 
       let inner = and_parts (sections_held p.segments (places_of p.sections)) (something_loaded p.segments (places_of p.sections)) outer.0 in
       (inner.0, inner.1, outer.1)
 
-  held : Each (λ k. was_stored k ≡ true → list_any (λ q. shows_at q (bytes_of k) k.section.sh_addr) (loads_of read.segments) ≡ true) (kept_sections image)
-  held = each-from (λ k. was_stored k ≡ true → list_any (λ q. shows_at q (bytes_of k) k.section.sh_addr) (loads_of read.segments) ≡ true) (kept_sections image) (λ i k at.
+  read_held : Each (λ k. was_stored k ≡ true → list_any (λ q. shows_at q (bytes_of k) k.section.sh_addr) (loads_of read.segments) ≡ true) (kept_sections image)
+  read_held = each-from (λ k. was_stored k ≡ true → list_any (λ q. shows_at q (bytes_of k) k.section.sh_addr) (loads_of read.segments) ≡ true) (kept_sections image) (λ i k at.
       let from = is_from i k at in
       let test : Place → Bool = λ s. list_any (λ q. holds q s) (loads_of p.segments) && not (s.sh_offset == 0) in
       let Held : Place → Type 0 = λ s. is_stored s ≡ true → test s ≡ true in
@@ -135,8 +144,25 @@ module _ (image read : Image) (edit : IsEditOf read image) (p : Parts) (rules : 
       subst (λ (l : List SegmentHeader). list_any (λ q. shows_at q (bytes_of k) k.section.sh_addr) (loads_of l) ≡ true) (sym has.segments)
       (and_parts (list_any (λ q. holds q (place_at_read k.section)) (loads_of p.segments)) (not (k.section.sh_offset == 0)) (mine stored)).0)
 
-  something : Each (λ k. is_loaded_section k.section ≡ true → list_any is_loaded read.segments ≡ true) (kept_sections image)
-  something = each-from (λ k. is_loaded_section k.section ≡ true → list_any is_loaded read.segments ≡ true) (kept_sections image) (λ i k at takes.
+  -- a section that went with its segment has lost it
+  held : Each (λ k. was_stored k ≡ true → has_lost_load image k.section ≡ false → list_any (λ q. shows_at q (bytes_of k) k.section.sh_addr) (loads_of left) ≡ true) (kept_sections image)
+  held = each-more (λ k. was_stored k ≡ true → list_any (λ q. shows_at q (bytes_of k) k.section.sh_addr) (loads_of read.segments) ≡ true)
+      (λ k. was_stored k ≡ true → has_lost_load image k.section ≡ false → list_any (λ q. shows_at q (bytes_of k) k.section.sh_addr) (loads_of left) ≡ true)
+      (λ k was stored there.
+      any_left read.header.e_phoff (loads_end image.segments) (λ q. shows_at q (bytes_of k) k.section.sh_addr)
+      (λ q went. shows_none k q stored there went (shows_at q (bytes_of k) k.section.sh_addr) refl) read.segments left are_left ∙ was stored) (kept_sections image) read_held
+    where
+      shows_none : (k : KeptSection) (q : SegmentHeader) → was_stored k ≡ true → has_lost_load image k.section ≡ false
+          → IsReclaimed read.header.e_phoff (loads_end image.segments) q → (b : Bool) → shows_at q (bytes_of k) k.section.sh_addr ≡ b → b ≡ false
+      shows_none k q stored there went false e = refl
+      shows_none k q stored there went true e =
+          let (begins, ends, distance) = shows q k.section.sh_offset k.section.sh_size k.section.sh_addr e in
+          let behind : loads_end image.segments ≤ q.p_vaddr = went.behind in
+          let far : nat_le (loads_end image.segments) k.section.sh_addr ≡ true = le-leb (loads_end image.segments) k.section.sh_addr (omega (arith, begins, distance, behind)) in
+          absurd (false≢true (sym there ∙ and_from (was_stored k) (nat_le (loads_end image.segments) k.section.sh_addr) stored far))
+
+  read_something : Each (λ k. is_loaded_section k.section ≡ true → list_any is_loaded read.segments ≡ true) (kept_sections image)
+  read_something = each-from (λ k. is_loaded_section k.section ≡ true → list_any is_loaded read.segments ≡ true) (kept_sections image) (λ i k at takes.
       let from = is_from i k at in
       let in_places : slice_get (places_of p.sections) k.number ≡ Some (place_of from.header) = at-map place_of p.sections k.number from.header from.at_header in
       let some : list_any occupies_memory (places_of p.sections) ≡ true = any-from occupies_memory (places_of p.sections) k.number (place_of from.header) in_places (ap occupies_memory (sym from.place) ∙ takes) in
@@ -145,6 +171,10 @@ module _ (image read : Image) (edit : IsEditOf read image) (p : Parts) (rules : 
       then_so : (a b : Bool) → a ≡ true → (not a || b) ≡ true → b ≡ true
       then_so true b e h = h
       then_so false b e h = absurd (false≢true e)
+
+  something : Each (λ k. is_loaded_section k.section ≡ true → list_any is_loaded left ≡ true) (kept_sections image)
+  something = each-more (λ k. is_loaded_section k.section ≡ true → list_any is_loaded read.segments ≡ true) (λ k. is_loaded_section k.section ≡ true → list_any is_loaded left ≡ true)
+      (λ k was takes. edit.segments.loaded (was takes)) (kept_sections image) read_something
 
   -- two sections of the file that are stored share no byte
   headers_apart : (i j : ℕ) (h l : SectionHeader) → i < j → slice_get p.sections i ≡ Some h → slice_get p.sections j ≡ Some l → is_stored (place_of h) ≡ true → is_stored (place_of l) ≡ true
@@ -228,13 +258,13 @@ module _ (image read : Image) (edit : IsEditOf read image) (p : Parts) (rules : 
 
   -- ## Loaded segments
 
-  fit : Each (λ q. q.p_filesz ≤ q.p_memsz) (loads_of read.segments)
-  fit =
+  read_fit : Each (λ q. q.p_filesz ≤ q.p_memsz) (loads_of read.segments)
+  read_fit =
       subst (λ (l : List SegmentHeader). Each (λ q. q.p_filesz ≤ q.p_memsz) (loads_of l)) (sym has.segments)
       (each-more (λ q. nat_le q.p_filesz q.p_memsz ≡ true) (λ q. q.p_filesz ≤ q.p_memsz) (λ q h. leb-true q.p_filesz q.p_memsz h) (loads_of p.segments) (all-at (λ q. nat_le q.p_filesz q.p_memsz) (loads_of p.segments) rules.fit))
 
-  in_file : Each (λ q. end_of (file_part q) ≤ length image.source) (loads_of read.segments)
-  in_file =
+  read_in_file : Each (λ q. end_of (file_part q) ≤ length image.source) (loads_of read.segments)
+  read_in_file =
       let lie = (and_parts (list_all (λ s. ends_by (length (file_of p)) (file_range s)) (filter occupies_file (places_of p.sections))) (list_all (λ q. ends_by (length (file_of p)) (file_part q)) (loads_of p.segments)) rules.in_file).1 in
       let within : Each (λ q. end_of (file_part q) ≤ length (file_of p)) (loads_of p.segments) =
       each-more (λ q. ends_by (length (file_of p)) (file_part q) ≡ true) (λ q. end_of (file_part q) ≤ length (file_of p)) (λ q h. leb-true (end_of (file_part q)) (length (file_of p)) h) (loads_of p.segments)
@@ -242,8 +272,8 @@ module _ (image read : Image) (edit : IsEditOf read image) (p : Parts) (rules : 
       let P : List ℕ → Type 0 = λ file. Each (λ q. end_of (file_part q) ≤ length file) (loads_of read.segments) in
       subst P source (subst (λ (l : List SegmentHeader). Each (λ q. end_of (file_part q) ≤ length (file_of p)) (loads_of l)) (sym has.segments) within)
 
-  bytes_apart : Pairs (λ q o. apart (file_part q) (file_part o) ≡ true) (loads_of read.segments)
-  bytes_apart =
+  read_bytes_apart : Pairs (λ q o. apart (file_part q) (file_part o) ≡ true) (loads_of read.segments)
+  read_bytes_apart =
       subst (λ (l : List SegmentHeader). Pairs (λ q o. apart (file_part q) (file_part o) ≡ true) (loads_of l)) (sym has.segments)
       (pairs-unmap (λ a b. apart a b ≡ true) file_part (loads_of p.segments) (all_apart_pairs (map file_part (loads_of p.segments)) (and_parts (addresses_apart p.segments) (all_apart (map file_part (loads_of p.segments))) rules.segments).1))
 
@@ -273,11 +303,13 @@ module _ (image read : Image) (edit : IsEditOf read image) (p : Parts) (rules : 
   facts = record {
     form = edit.form;
     table = ap (λ (h : Header). h.e_phoff) edit.header;
-    loads = loads-edited image.page_size read.segments image.segments edit.segments;
+    left = left;
+    are_left = are_left;
+    loads = loads-edited read.header.e_phoff image.page_size read.segments image.segments edit.segments;
     sized = sized_from-map (new_size read image) (kept_sections image);
-    fit = fit;
-    in_file = in_file;
-    bytes_apart = bytes_apart;
+    fit = each_left read.header.e_phoff (loads_end image.segments) (λ q. q.p_filesz ≤ q.p_memsz) read.segments left are_left read_fit;
+    in_file = each_left read.header.e_phoff (loads_end image.segments) (λ q. end_of (file_part q) ≤ length image.source) read.segments left are_left read_in_file;
+    bytes_apart = pairs_left read.header.e_phoff (loads_end image.segments) (λ q o. apart (file_part q) (file_part o) ≡ true) read.segments left are_left read_bytes_apart;
     held = held;
     something = something;
     sections_apart = sections_apart;

@@ -11,11 +11,12 @@ use Rattle.elf_format.specs.Placement.{file_part, memory_part, shows_at}
 use Rattle.elf_format.specs.Places.{occupies_file, occupies_memory}
 use Rattle.elf_format.specs.Records.{file_header_size}
 use Rattle.elf_format.specs.Ranges.{end_of, lies_in, range}
-use Rattle.elf_layout_plan.specs.Added.{greatest, memory_end}
+use Rattle.elf_layout_plan.specs.Added.{greatest, had_memory, memory_end}
 use Rattle.elf_layout_plan.specs.Blocks.{overlaps, stay_apart}
 use Rattle.elf_layout_plan.specs.Anchors.{is_loaded_section}
 use Rattle.elf_image.specs.Kept.{kept_sections, place_at_read}
-use Rattle.elf_layout_plan.specs.Memory.{Resized, SizedSection, blocks_with, edge_blocks, fixed_block, header_blocks, is_stray, is_uninitialized_of_threads, section_block, sized_sections, takes_memory}
+use Rattle.elf_image.specs.Segments.{loads_end}
+use Rattle.elf_layout_plan.specs.Memory.{Resized, SizedSection, blocks_with, edge_blocks, fixed_block, has_lost_load, header_blocks, is_out_of_loads, is_stray, is_uninitialized_of_threads, section_block, sized_sections, takes_memory}
 use Rattle.elf_layout_plan.specs.Sizes.{new_size}
 use Rattle.elf_layout_plan.proofs.ApartBlocks.{Neither, greatest-each, greatest-start, neither-before, neither-stray, or-false, stay_neither, stay_over, stay_pairs}
 use Rattle.elf_layout_plan.proofs.ApartFacts.{AreFacts, bare, bytes_of, was_stored}
@@ -34,25 +35,25 @@ module _ (r : Resized) (facts : AreFacts r) where
   abbrev pub taking : List SizedSection
   taking = filter (λ t. takes_memory t.kept.section) (sized_sections r)
 
-  -- ## Loaded segments as they were read
+  -- ## Loaded segments as they were read, of those that are left
 
-  pub each_load : (Q : SegmentHeader → Type 0) → Each (λ p. Q (bare p)) (loads_of r.read.segments) → Each (λ p. Q (bare p)) (loads_of r.image.segments)
-  each_load Q h = each-unmap Q bare (loads_of r.image.segments) (subst (λ (l : List SegmentHeader). Each Q l) (sym facts.loads) (each-map Q bare (loads_of r.read.segments) h))
+  pub each_load : (Q : SegmentHeader → Type 0) → Each (λ p. Q (bare p)) (loads_of facts.left) → Each (λ p. Q (bare p)) (loads_of r.image.segments)
+  each_load Q h = each-unmap Q bare (loads_of r.image.segments) (subst (λ (l : List SegmentHeader). Each Q l) (sym facts.loads) (each-map Q bare (loads_of facts.left) h))
 
-  pub some_load : (Q : SegmentHeader → Type 0) → Some_in (λ p. Q (bare p)) (loads_of r.read.segments) → Some_in (λ p. Q (bare p)) (loads_of r.image.segments)
+  pub some_load : (Q : SegmentHeader → Type 0) → Some_in (λ p. Q (bare p)) (loads_of facts.left) → Some_in (λ p. Q (bare p)) (loads_of r.image.segments)
   some_load Q (i, p, at, h) =
-      let there : slice_get (map bare (loads_of r.image.segments)) i ≡ Some (bare p) = subst (λ (l : List SegmentHeader). slice_get l i ≡ Some (bare p)) (sym facts.loads) (at-map bare (loads_of r.read.segments) i p at) in
+      let there : slice_get (map bare (loads_of r.image.segments)) i ≡ Some (bare p) = subst (λ (l : List SegmentHeader). slice_get l i ≡ Some (bare p)) (sym facts.loads) (at-map bare (loads_of facts.left) i p at) in
       let (q, at_q, same) = map-at bare (loads_of r.image.segments) i (bare p) there in
       (i, q, at_q, subst Q (sym same) h)
 
   pub loads_fit : Each (λ p. p.p_filesz ≤ p.p_memsz) (loads_of r.image.segments)
   loads_fit = each_load (λ p. p.p_filesz ≤ p.p_memsz) facts.fit
 
-  pub loads_end : Each (λ p. p.p_vaddr + p.p_memsz ≤ memory_end r) (loads_of r.image.segments)
+  pub loads_memory_end : Each (λ p. p.p_vaddr + p.p_memsz ≤ memory_end r) (loads_of r.image.segments)
   unfolding memory_end
-  loads_end =
+  loads_memory_end =
       let ends = map (λ p. end_of (memory_part p)) (loads_of r.image.segments) in
-      let sections = filter (λ s. takes_memory s.kept.section && not (s.kept.section.sh_size == 0)) (sized_sections r) in
+      let sections = filter (λ s. had_memory r.image s.kept.section) (sized_sections r) in
       let more = greatest-start (greatest 0 ends) (map (λ s. s.kept.section.sh_addr + s.kept.section.sh_size) sections) in
       each-more (λ p. p.p_vaddr + p.p_memsz ≤ greatest 0 ends) (λ p. p.p_vaddr + p.p_memsz ≤ memory_end r) (λ p h. omega (arith, h, more)) (loads_of r.image.segments)
       (each-unmap (λ m. m ≤ greatest 0 ends) (λ (p : SegmentHeader). end_of (memory_part p)) (loads_of r.image.segments) (greatest-each 0 ends))
@@ -60,15 +61,15 @@ module _ (r : Resized) (facts : AreFacts r) where
   pub loads_file_end : Each (λ p. p.p_vaddr + p.p_filesz ≤ memory_end r) (loads_of r.image.segments)
   loads_file_end =
       each-more (λ p. (p.p_filesz ≤ p.p_memsz) × (p.p_vaddr + p.p_memsz ≤ memory_end r)) (λ p. p.p_vaddr + p.p_filesz ≤ memory_end r) (λ p h. let a = h.0 in let b = h.1 in omega (arith, a, b)) (loads_of r.image.segments)
-      (each-both (λ p. p.p_filesz ≤ p.p_memsz) (λ p. p.p_vaddr + p.p_memsz ≤ memory_end r) (loads_of r.image.segments) loads_fit loads_end)
+      (each-both (λ p. p.p_filesz ≤ p.p_memsz) (λ p. p.p_vaddr + p.p_memsz ≤ memory_end r) (loads_of r.image.segments) loads_fit loads_memory_end)
 
   -- the end of a section that had memory
-  sections_end : Each (λ t. (takes_memory t.kept.section && not (t.kept.section.sh_size == 0)) ≡ true → t.kept.section.sh_addr + t.kept.section.sh_size ≤ memory_end r) (sized_sections r)
+  sections_end : Each (λ t. had_memory r.image t.kept.section ≡ true → t.kept.section.sh_addr + t.kept.section.sh_size ≤ memory_end r) (sized_sections r)
   unfolding memory_end
   sections_end =
-      let sections = filter (λ s. takes_memory s.kept.section && not (s.kept.section.sh_size == 0)) (sized_sections r) in
+      let sections = filter (λ s. had_memory r.image s.kept.section) (sized_sections r) in
       let start = greatest 0 (map (λ p. end_of (memory_part p)) (loads_of r.image.segments)) in
-      each-unfilter (λ t. t.kept.section.sh_addr + t.kept.section.sh_size ≤ memory_end r) (λ t. takes_memory t.kept.section && not (t.kept.section.sh_size == 0)) (sized_sections r)
+      each-unfilter (λ t. t.kept.section.sh_addr + t.kept.section.sh_size ≤ memory_end r) (λ t. had_memory r.image t.kept.section) (sized_sections r)
       (each-unmap (λ m. m ≤ memory_end r) (λ (t : SizedSection). t.kept.section.sh_addr + t.kept.section.sh_size) sections (greatest-each start (map (λ (t : SizedSection). t.kept.section.sh_addr + t.kept.section.sh_size) sections)))
 
   -- ## Sections beside the edges of loaded segments
@@ -130,19 +131,28 @@ module _ (r : Resized) (facts : AreFacts r) where
               ap (λ (u : SizedSection). u.size) (sym (sized-at r facts.sized i t at_i).2)
               ∙ each-at (λ k. (k.section.sh_type ≡ SHT_NOBITS) ⊎ (k.section.sh_type ≡ SHT_NOTE) → new_size r.read r.image k ≡ k.section.sh_size) (kept_sections r.image) facts.keeps_size i t.kept at_kept (inl type)
 
+          none_lost : has_lost_load r.image t.kept.section ≡ false
+          none_lost = none_stored (occupies_memory (place_at_read t.kept.section)) (occupies_file (place_at_read t.kept.section)) none
+            where
+              none_stored : (a b : Bool) → b ≡ false → (a && b && not (t.kept.section.sh_size == 0) && nat_le (loads_end r.image.segments) t.kept.section.sh_addr) ≡ false
+              none_stored true b e = ap (λ c. c && not (t.kept.section.sh_size == 0) && nat_le (loads_end r.image.segments) t.kept.section.sh_addr) e
+              none_stored false b e = refl
+
           by_size : (b : Bool) → (t.kept.section.sh_size == 0) ≡ b → IsLow t
           by_size true e = inl (same_size ∙ eqb-true t.kept.section.sh_size 0 e)
           by_size false e =
-              let ends = each-at (λ t. (takes_memory t.kept.section && not (t.kept.section.sh_size == 0)) ≡ true → t.kept.section.sh_addr + t.kept.section.sh_size ≤ memory_end r) (sized_sections r) sections_end i t at_i
-              (and_from (takes_memory t.kept.section) (not (t.kept.section.sh_size == 0)) takes (ap (λ b. not b) e)) in
+              let ends = each-at (λ t. had_memory r.image t.kept.section ≡ true → t.kept.section.sh_addr + t.kept.section.sh_size ≤ memory_end r) (sized_sections r) sections_end i t at_i
+              (and_from (takes_memory t.kept.section && not (t.kept.section.sh_size == 0)) (not (has_lost_load r.image t.kept.section))
+              (and_from (takes_memory t.kept.section) (not (t.kept.section.sh_size == 0)) takes (ap (λ b. not b) e)) (ap (λ b. not b) none_lost)) in
               inr (omega (arith, ends, same_size))
 
       -- where it had bytes, it ends by the end of the file part that held it
-      low_stored : was_stored t.kept ≡ true → 0 < t.kept.section.sh_size → IsLow t
-      low_stored stored some =
+      low_stored : was_stored t.kept ≡ true → has_lost_load r.image t.kept.section ≡ false → 0 < t.kept.section.sh_size → IsLow t
+      low_stored stored there some =
           let s = t.kept.section in
-          let held = each-at (λ k. was_stored k ≡ true → list_any (λ p. shows_at p (bytes_of k) k.section.sh_addr) (loads_of r.read.segments) ≡ true) (kept_sections r.image) facts.held i t.kept at_kept stored in
-          let (j, p, at_p, shown) = some_load (λ p. shows_at p (bytes_of t.kept) s.sh_addr ≡ true) (any-at (λ p. shows_at p (bytes_of t.kept) s.sh_addr) (loads_of r.read.segments) held) in
+          let held = each-at (λ k. was_stored k ≡ true → has_lost_load r.image k.section ≡ false → list_any (λ p. shows_at p (bytes_of k) k.section.sh_addr) (loads_of facts.left) ≡ true)
+          (kept_sections r.image) facts.held i t.kept at_kept stored there in
+          let (j, p, at_p, shown) = some_load (λ p. shows_at p (bytes_of t.kept) s.sh_addr ≡ true) (any-at (λ p. shows_at p (bytes_of t.kept) s.sh_addr) (loads_of facts.left) held) in
           let (begins, ends, distance) = shows p s.sh_offset s.sh_size s.sh_addr shown in
           let edges = each-at (λ p. Each (λ b. b.section ≡ None → Neither overlaps b (section_block r t)) (edge_blocks p)) (loads_of r.image.segments) (edges_clear k t at stays) j p at_p in
           let clear : Neither overlaps (fixed_block (p.p_vaddr + p.p_filesz) 0) (section_block r t) = edges.1.0 refl in
@@ -150,16 +160,26 @@ module _ (r : Resized) (facts : AreFacts r) where
           let low : p.p_vaddr + p.p_filesz ≤ memory_end r = each-at (λ p. p.p_vaddr + p.p_filesz ≤ memory_end r) (loads_of r.image.segments) loads_file_end j p at_p in
           inr (omega (arith, before, low))
 
+      -- with bytes of the file it isn't out of loaded segments where it was empty, and its own didn't go
+      stands : is_stray r t ≡ false → occupies_file (place_at_read t.kept.section) ≡ true → not (t.size == 0) ≡ true
+          → ((t.kept.section.sh_size == 0 && is_out_of_loads r t) ≡ false) × (has_lost_load r.image t.kept.section ≡ false)
+      stands not_stray in_file some =
+          let s = t.kept.section in
+          let out : Bool = s.sh_size == 0 && is_out_of_loads r t in
+          let lost : Bool = has_lost_load r.image s in
+          elim (and_cases (occupies_file (place_at_read s) && not (t.size == 0)) (out || lost) not_stray) [
+            | inl other ↦ absurd (false≢true (sym other ∙ and_from (occupies_file (place_at_read s)) (not (t.size == 0)) in_file some))
+            | inr e ↦ or-false out lost e
+          ]
+
       -- where it was empty, a loaded segment shows its new range
       low_grown : is_stray r t ≡ false → occupies_file (place_at_read t.kept.section) ≡ true → t.kept.section.sh_size ≡ 0 → not (t.size == 0) ≡ true → IsLow t
       low_grown not_stray in_file empty some =
           let s = t.kept.section in
           let shown_by : Bool = list_any (λ p. shows_at p (range s.sh_offset t.size) s.sh_addr) (loads_of r.image.segments) in
           let early : Bool = nat_lt s.sh_offset (file_header_size r.image.form) in
-          let grown : (occupies_file (place_at_read s) && s.sh_size == 0 && not (t.size == 0)) ≡ true =
-          and_from (occupies_file (place_at_read s) && s.sh_size == 0) (not (t.size == 0)) (and_from (occupies_file (place_at_read s)) (s.sh_size == 0) in_file (eq-eqb s.sh_size 0 empty)) some in
-          let placed : (not shown_by || early) ≡ false = elim (and_cases (occupies_file (place_at_read s) && s.sh_size == 0 && not (t.size == 0)) (not shown_by || early) not_stray) [
-            | inl other ↦ absurd (false≢true (sym other ∙ grown))
+          let placed : (not shown_by || early) ≡ false = elim (and_cases (s.sh_size == 0) (not shown_by || early) (stands not_stray in_file some).0) [
+            | inl other ↦ absurd (false≢true (sym other ∙ eq-eqb s.sh_size 0 empty))
             | inr e ↦ e
           ] in
           let (j, p, at_p, shown) = any-at (λ p. shows_at p (range s.sh_offset t.size) s.sh_addr) (loads_of r.image.segments) (not-false shown_by (or-false (not shown_by) early placed).0) in
@@ -170,9 +190,9 @@ module _ (r : Resized) (facts : AreFacts r) where
       -- it is no stray one: those move
       isnt_stray : is_stray r t ≡ true → ⊥
       isnt_stray stray =
-          let something = each-at (λ k. is_loaded_section k.section ≡ true → list_any is_loaded r.read.segments ≡ true) (kept_sections r.image) facts.something i t.kept at_kept occupies in
-          let (m, q, at_q, loaded) = any-at is_loaded r.read.segments something in
-          let (n, at_n) = at-filter is_loaded r.read.segments m q at_q loaded in
+          let something = each-at (λ k. is_loaded_section k.section ≡ true → list_any is_loaded facts.left ≡ true) (kept_sections r.image) facts.something i t.kept at_kept occupies in
+          let (m, q, at_q, loaded) = any-at is_loaded facts.left something in
+          let (n, at_n) = at-filter is_loaded facts.left m q at_q loaded in
           let (j, p, at_p, _) = some_load (λ p. Unit {0}) (n, q, at_n, tt) in
           let edges = each-at (λ p. Each (λ b. b.section ≡ None → Neither overlaps b (section_block r t)) (edge_blocks p)) (loads_of r.image.segments) (edges_clear k t at stays) j p at_p in
           neither-stray (record (fixed_block p.p_vaddr 0) { is_load_start = true }) (section_block r t) (edges.0 refl) refl stray
@@ -182,10 +202,11 @@ module _ (r : Resized) (facts : AreFacts r) where
         where
           by_file : (a : Bool) → occupies_file (place_at_read t.kept.section) ≡ a → (b : Bool) → (t.kept.section.sh_size == 0) ≡ b → (c : Bool) → (t.size == 0) ≡ c → (d : Bool) → is_stray r t ≡ d → IsLow t
           by_file false ea b eb c ec d ed = low_uninitialized ea
-          by_file true ea true eb true ec d ed = inl (eqb-true t.size 0 ec)
-          by_file true ea true eb false ec true ed = absurd (isnt_stray ed)
+          by_file true ea b eb true ec d ed = inl (eqb-true t.size 0 ec)
+          by_file true ea b eb false ec true ed = absurd (isnt_stray ed)
           by_file true ea true eb false ec false ed = low_grown ed ea (eqb-true t.kept.section.sh_size 0 eb) (ap (λ x. not x) ec)
-          by_file true ea false eb c ec d ed =
+          by_file true ea false eb false ec false ed =
               low_stored (and_from (occupies_memory (place_at_read t.kept.section) && occupies_file (place_at_read t.kept.section)) (not (t.kept.section.sh_size == 0))
               (and_from (occupies_memory (place_at_read t.kept.section)) (occupies_file (place_at_read t.kept.section)) occupies ea) (ap (λ x. not x) eb))
+              (stands ed ea (ap (λ x. not x) ec)).1
               (let no : t.kept.section.sh_size ≡ 0 → ⊥ = eqb-false t.kept.section.sh_size 0 eb in omega arith)

@@ -28,6 +28,7 @@ pub mod ApartPlaces
 pub mod ApartFixed
 pub mod ApartBlocks
 pub mod ApartFacts
+pub mod ApartLeft
 pub mod ApartMemory
 pub mod ApartStays
 pub mod ApartWritten

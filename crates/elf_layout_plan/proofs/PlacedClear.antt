@@ -1,6 +1,6 @@
 -- Uninitialized sections cross no end of a loaded segment's file part.
 use Rattle.std.proofs.Common.{◌≡◌, ◌≤◌, ℕ, ◌+◌, Bool, true, false, List, refl, sym, ap, ◌∙◌, subst, inl, inr, arith}
-use Rattle.std.specs.Prelude.{◌&&◌, not, ◌==◌, filter, nat_lt}
+use Rattle.std.specs.Prelude.{◌&&◌, not, ◌==◌, filter, nat_le, nat_lt}
 use Rattle.std.specs.List.{list_all}
 use Rattle.std.proofs.lemmas.Bool.{and_from, and_parts, both_ways, cases_Bool, eq-eqb, eqb-true, not-true, not_from_false}
 use Rattle.std.proofs.lemmas.Bool.Decides.{nat_tests}
@@ -11,7 +11,8 @@ use Rattle.elf_format.specs.Placement.{crosses_file_end, file_end, is_uninitiali
 use Rattle.elf_format.specs.Places.{Place, is_set, occupies_file, occupies_memory}
 use Rattle.elf_layout_plan.specs.Added.{AddedLoad, added_loads, memory_end}
 use Rattle.elf_image.specs.Kept.{place_at_read}
-use Rattle.elf_layout_plan.specs.Memory.{Resized, SizedSection, sized_sections, takes_memory}
+use Rattle.elf_image.specs.Segments.{loads_end}
+use Rattle.elf_layout_plan.specs.Memory.{Resized, SizedSection, has_lost_load, sized_sections, takes_memory}
 use Rattle.elf_layout_plan.specs.Standing.{is_unloaded, place_in, places}
 use Rattle.elf_layout_plan.specs.Written.{written_segments}
 use Rattle.elf_layout_plan.proofs.PlacedLists.{Has, MadeOf, all-from, filter-at, map-at, pairs-two}
@@ -113,6 +114,18 @@ module _ (r : Resized) (moved : List ℕ) (reads : ReadsPlaced r)
       by_first true = refl
       by_first false = refl
 
+  -- without bytes in the file it lost no loaded segment
+  not_lost : (s : SizedSection) → IsWhereItWas s → has_lost_load r.image s.kept.section ≡ false
+  not_lost s is =
+      let x : Place = place_at_read s.kept.section in
+      by_tests (occupies_memory x) (occupies_file x) (not (x.sh_size == 0)) (nat_le (loads_end r.image.segments) s.kept.section.sh_addr)
+      (no_file x is.type)
+    where
+      by_tests : (takes stored some behind : Bool) → stored ≡ false → (((takes && stored) && some) && behind) ≡ false
+      by_tests true false some behind h = refl
+      by_tests false false some behind h = refl
+      by_tests takes true some behind h = absurd (both_ways true h refl)
+
   kept_clear : (s : SizedSection) → Has s (sized_sections r) → IsWhereItWas s → (q : SegmentHeader) → Has q (loads_of (written_segments r moved))
       → crosses_file_end q (place_in r moved s) ≡ false
   kept_clear s here is q q_here = elim (load_cases r moved reads q q_here) [
@@ -128,7 +141,7 @@ module _ (r : Resized) (moved : List ℕ) (reads : ReadsPlaced r)
           | inl empty ↦ no_size q x (omega (arith, is.size, eqb-true s.kept.section.sh_size 0 empty))
           | inr some ↦ below_end q x (omega (
             arith,
-            section_before_memory_end r moved reads s here (takes_own s is) some,
+            section_before_memory_end r moved reads s here (takes_own s is) some (not_lost s is),
             low,
             q_address,
             is.address,

@@ -1,10 +1,11 @@
 -- What the image that was read meets: where its loaded segments and its sections stand.
-use Rattle.std.proofs.Common.{◌≡◌, ◌≤◌, ◌<◌, ℕ, zero, suc, ◌+◌, ◌*◌, Bool, true, false, eqb, List, ◌∷◌, map, length, refl, sym, ap, ◌∙◌, subst, inl, inr, Some, None, Result, Ok, Err, arith, []}
-use Rattle.std.specs.Prelude.{◌&&◌, not, ◌==◌, filter, nat_le}
+use Rattle.std.proofs.Common.{◌≡◌, ◌≤◌, ◌<◌, ◌⊎◌, ℕ, zero, suc, ◌+◌, ◌*◌, Bool, true, false, eqb, List, ◌∷◌, map, length, refl, sym, ap, ◌∙◌, subst, inl, inr, Some, None, Result, Ok, Err, arith, []}
+use Rattle.std.specs.Prelude.{◌&&◌, not, ◌==◌, filter, nat_le, nat_lt}
 use Rattle.std.specs.List.{list_all, list_any, slice_get, slice_index}
-use Rattle.std.proofs.lemmas.Bool.{and_parts, both_ways, leb-true, not-true, not_from_true, or_cases}
+use Rattle.std.proofs.lemmas.Bool.{and_from, and_parts, both_ways, eqb-true, le-leb, leb-true, lt-ltb, not-true, not_from_true, or_cases}
 use Rattle.std.proofs.lemmas.Bool.Decides.{nat_tests}
 use Rattle.std.proofs.lemmas.Option.{get_or_from_slice_get}
+use Rattle.std.proofs.Math.Nat.{mul-le-mul_right}
 use Rattle.patch_bytes.specs.declared.number.Wide.{Wide}
 use Rattle.patch_bytes.specs.declared.number.Wide.TheVariants.{W32, W64}
 use Rattle.elf_format.specs.declared.header.Header.{Header}
@@ -21,14 +22,16 @@ use Rattle.elf_format.specs.Places.{Place, file_range, occupies_file, occupies_m
 use Rattle.elf_format.specs.Ranges.{all_apart, apart, end_of, lies_in, range}
 use Rattle.elf_format.specs.Records.{file_header_size, segment_header_size}
 use Rattle.elf_format.specs.Rules.{ArePartsOf, MeetsRules, file_of, header_ranges, segment_table_range}
-use Rattle.elf_image.specs.Edited.{ArePicked, IsEditOf, IsEdited, IsSameSection}
+use Rattle.elf_image.specs.Edited.{ArePicked, AreUnclaimed, IsEditOf, IsEdited, IsReclaimed, IsSameSection}
+use Rattle.elf_image.specs.Segments.{loads_end}
+use Rattle.elf_image.specs.Spare.{has_place}
 use Rattle.elf_image.specs.ReadImage.{AreSectionsOf, HoldsParts}
 use Rattle.elf_image.proofs.ForCallers.ReadImageLaws.{read_images_hold_parts}
 use Rattle.elf_image.specs.Kept.{KeptSection, image_at_read, kept_from, kept_sections, place_at_read}
-use Rattle.elf_layout_plan.specs.Memory.{Resized, table_at_read, table_load}
+use Rattle.elf_layout_plan.specs.Memory.{Resized, has_lost_load, table_at_read, table_load}
 use Rattle.elf_layout_plan.specs.Plan.{resized}
-use Rattle.elf_layout_plan.proofs.PlacedLists.{Has, MadeOf, Pairs, all-at, any-at, any-from, filter-at, filter-from, find-at, find-none, has_cases, has_here, has_none, map-at, map-from, pairs-unmap, slice_get-at}
-use Rattle.elf_layout_plan.proofs.PlacedLoads.{plain, same_loads, same_type}
+use Rattle.elf_layout_plan.proofs.PlacedLists.{Has, MadeOf, Pairs, all-at, any-at, any-from, filter-at, filter-from, find-at, find-none, has_cases, has_here, has_none, map-at, map-from, pairs-map, pairs-unmap, slice_get-at}
+use Rattle.elf_layout_plan.proofs.PlacedLoads.{left_or_went, loads_unclaimed, pairs_left, plain, same_loads, same_type, was_there}
 use Rattle.elf_layout_plan.proofs.PlacedRanges.{Apart, all_apart-at, lies_in-at}
 use Rattle.elf_format.proofs.ForCallers.Lengths.{length-segments}
 use Rattle.elf_format.proofs.ForCallers.{apart-tells}
@@ -96,7 +99,7 @@ pub record TableIn (r : Resized) (q : SegmentHeader) : Type 0 where
   pub ends : r.read.header.e_phoff + length r.read.segments * segment_header_size r.read.form ≤ load.p_offset + load.p_filesz
   pub filled : 0 < length r.read.segments
 
--- A stored section at read: held by a loaded segment, and behind the file header.
+-- A stored section that didn't lose its loaded segment: held by that, and behind the file header.
 pub record WasHeld (r : Resized) (s : ImageSection) : Type 0 where
   pub load : SegmentHeader
   pub here : Has load (loads_of r.image.segments)
@@ -111,7 +114,8 @@ pub record ReadsPlaced (r : Resized) : Type 0 where
   pub memory_apart : Pairs (λ p q. Apart (memory_part p) (memory_part q)) (loads_of r.image.segments)
   pub file_apart : Pairs (λ p q. Apart (file_part p) (file_part q)) (loads_of r.image.segments)
   pub in_file : (p : SegmentHeader) → Has p (loads_of r.image.segments) → end_of (file_part p) ≤ length r.image.source
-  pub held : (k : KeptSection) → Has k (kept_sections r.image) → is_stored (place_at_read k.section) ≡ true → WasHeld r k.section
+  pub held : (k : KeptSection) → Has k (kept_sections r.image) → is_stored (place_at_read k.section) ≡ true
+      → has_lost_load r.image k.section ≡ false → WasHeld r k.section
   pub something : (k : KeptSection) → Has k (kept_sections r.image) → occupies_memory (place_at_read k.section) ≡ true
       → list_any is_loaded r.image.segments ≡ true
   pub clear : (k : KeptSection) → Has k (kept_sections r.image) → is_uninitialized (place_at_read k.section) ≡ true
@@ -161,18 +165,41 @@ stored_filled s h = positive s.sh_size (and_parts (occupies_memory s && occupies
 
 module _ (r : Resized) (edit : IsEditOf r.read r.image) (p : Parts) (parts : ArePartsOf r.image.source p) (rules : MeetsRules p)
     (holding : HoldsParts p r.read) where
-  loads_same : map plain (loads_of r.image.segments) ≡ map plain (loads_of p.segments)
-  loads_same = same_loads r.image.page_size r.read.segments r.image.segments edit.segments
-      ∙ ap (λ (ps : List SegmentHeader). map plain (loads_of ps)) holding.segments
+  -- what is left of those that were read
+  abbrev left : List SegmentHeader
+  left = edit.segments.unclaimed
 
-  -- a loaded segment of the image, as it was read, and the other way round
+  abbrev table : ℕ
+  table = r.read.header.e_phoff
+
+  abbrev end : ℕ
+  end = loads_end r.image.segments
+
+  are_left : AreUnclaimed table end (loads_of p.segments) (loads_of left)
+  are_left = subst (λ (ps : List SegmentHeader). AreUnclaimed table end (loads_of ps) (loads_of left)) holding.segments
+      (loads_unclaimed table end r.read.segments left edit.segments.are_unclaimed)
+
+  loads_same : map plain (loads_of r.image.segments) ≡ map plain (loads_of left)
+  loads_same = same_loads table r.image.page_size r.read.segments r.image.segments edit.segments
+
+  -- a loaded segment of the image, as it was read
   as_read : (q : SegmentHeader) → Has q (loads_of r.image.segments) → MadeOf plain (loads_of p.segments) (plain q)
-  as_read q here = map-at plain (loads_of p.segments) (plain q)
-      (subst (λ (l : List SegmentHeader). Has (plain q) l) loads_same (map-from plain (loads_of r.image.segments) q here))
+  as_read q here =
+      let m = map-at plain (loads_of left) (plain q)
+      (subst (λ (l : List SegmentHeader). Has (plain q) l) loads_same (map-from plain (loads_of r.image.segments) q here)) in
+      record { source = m.source; here = was_there table end (loads_of p.segments) (loads_of left) are_left m.source m.here; made = m.made }
 
-  as_now : (q : SegmentHeader) → Has q (loads_of p.segments) → MadeOf plain (loads_of r.image.segments) (plain q)
-  as_now q here = map-at plain (loads_of r.image.segments) (plain q)
-      (subst (λ (l : List SegmentHeader). Has (plain q) l) (sym loads_same) (map-from plain (loads_of p.segments) q here))
+  -- one that is left, as the image has it
+  left_now : (q : SegmentHeader) → Has q (loads_of left) → MadeOf plain (loads_of r.image.segments) (plain q)
+  left_now q here = map-at plain (loads_of r.image.segments) (plain q)
+      (subst (λ (l : List SegmentHeader). Has (plain q) l) (sym loads_same) (map-from plain (loads_of left) q here))
+
+  -- one that was read, as the image has it, where it didn't go
+  as_now : (q : SegmentHeader) → Has q (loads_of p.segments) → MadeOf plain (loads_of r.image.segments) (plain q) ⊎ IsReclaimed table end q
+  as_now q here = elim (left_or_went table end (loads_of p.segments) (loads_of left) are_left q here) [
+    | inl stays ↦ inl (left_now q stays)
+    | inr went ↦ inr went
+  ]
 
   fits : (q : SegmentHeader) → Has q (loads_of r.image.segments) → q.p_filesz ≤ q.p_memsz
   fits q here =
@@ -182,14 +209,19 @@ module _ (r : Resized) (edit : IsEditOf r.read r.image) (p : Parts) (parts : Are
       omega (arith, t, ap (λ (x : SegmentHeader). x.p_filesz) m.made, ap (λ (x : SegmentHeader). x.p_memsz) m.made)
 
   same_parts : (f : SegmentHeader → Range) → ((q : SegmentHeader) → f (plain q) ≡ f q)
-      → map f (loads_of r.image.segments) ≡ map f (loads_of p.segments)
+      → map f (loads_of r.image.segments) ≡ map f (loads_of left)
   same_parts f same =
-      sym (parts_plain f same (loads_of r.image.segments)) ∙ ap (map f) loads_same ∙ parts_plain f same (loads_of p.segments)
+      sym (parts_plain f same (loads_of r.image.segments)) ∙ ap (map f) loads_same ∙ parts_plain f same (loads_of left)
 
   parts_apart : (f : SegmentHeader → Range) → ((q : SegmentHeader) → f (plain q) ≡ f q) → all_apart (map f (loads_of p.segments)) ≡ true
       → Pairs (λ x y. Apart (f x) (f y)) (loads_of r.image.segments)
-  parts_apart f same h = pairs-unmap f Apart (loads_of r.image.segments)
-      (all_apart-at (map f (loads_of r.image.segments)) (ap all_apart (same_parts f same) ∙ h))
+  parts_apart f same h =
+      let read : Pairs (λ x y. Apart (f x) (f y)) (loads_of p.segments) = pairs-unmap f Apart (loads_of p.segments)
+      (all_apart-at (map f (loads_of p.segments)) h) in
+      let stay : Pairs (λ x y. Apart (f x) (f y)) (loads_of left) = pairs_left table end (λ x y. Apart (f x) (f y)) (loads_of p.segments)
+      (loads_of left) are_left read in
+      pairs-unmap f Apart (loads_of r.image.segments)
+      (subst (λ (l : List Range). Pairs Apart l) (sym (same_parts f same)) (pairs-map f Apart (loads_of left) stay))
 
   lie_in_file : (q : SegmentHeader) → Has q (loads_of r.image.segments) → end_of (file_part q) ≤ length r.image.source
   lie_in_file q here =
@@ -223,8 +255,22 @@ module _ (r : Resized) (edit : IsEditOf r.read r.image) (p : Parts) (parts : Are
       let last = and_parts (all_apart (stored_ranges (places_of p.sections))) (stored_clear_of (header_ranges p) (places_of p.sections)) outer.1 in
       (inner.0, inner.1, last.1)
 
-  was_held : (k : KeptSection) → Has k (kept_sections r.image) → is_stored (place_at_read k.section) ≡ true → WasHeld r k.section
-  was_held k here stored =
+  -- where the loaded segment that held a section went, it has lost that
+  loses_load : (k : KeptSection) (q : SegmentHeader) → is_stored (place_at_read k.section) ≡ true → holds q (place_at_read k.section) ≡ true
+      → IsReclaimed table end q → has_lost_load r.image k.section ≡ true
+  loses_load k q stored held went =
+      let place : Place = place_at_read k.section in
+      let both = and_parts (lies_in (file_range place) (file_part q)) (eqb (place.sh_addr + q.p_offset) (q.p_vaddr + place.sh_offset)) held in
+      let begins : q.p_offset ≤ k.section.sh_offset = (lies_in-at (file_range place) (file_part q) both.0).0 in
+      let distance : k.section.sh_addr + q.p_offset ≡ q.p_vaddr + k.section.sh_offset =
+      eqb-true (place.sh_addr + q.p_offset) (q.p_vaddr + place.sh_offset) both.1 in
+      let behind : end ≤ q.p_vaddr = went.behind in
+      and_from (is_stored place) (nat_le end k.section.sh_addr) stored
+      (le-leb end k.section.sh_addr (omega (arith, begins, distance, behind)))
+
+  was_held : (k : KeptSection) → Has k (kept_sections r.image) → is_stored (place_at_read k.section) ≡ true
+      → has_lost_load r.image k.section ≡ false → WasHeld r k.section
+  was_held k here stored not_lost =
       let place : Place = place_at_read k.section in
       let found : Has place (filter is_stored (places_of p.sections)) = filter-from is_stored (places_of p.sections) place
       (place_read k here) stored in
@@ -232,7 +278,6 @@ module _ (r : Resized) (edit : IsEditOf r.read r.image) (p : Parts) (parts : Are
       (all-at (λ s. list_any (λ x. holds x s) (loads_of p.segments) && not (eqb s.sh_offset 0)) (filter is_stored (places_of p.sections))
       place loaded_rule.0 found) in
       let holder = any-at (λ x. holds x place) (loads_of p.segments) both.0 in
-      let now = as_now holder.element holder.here in
       let start : Range = range 0 (file_header_size p.opened.form) in
       let clear = all-at (λ h. list_all (λ x. apart h x) (stored_ranges (places_of p.sections))) (header_ranges p) start loaded_rule.2
       (has_here start (segment_table_range p ∷ [])) in
@@ -240,12 +285,15 @@ module _ (r : Resized) (edit : IsEditOf r.read r.image) (p : Parts) (parts : Are
       (map-from file_range (filter is_stored (places_of p.sections)) place found) in
       let behind : file_header_size p.opened.form ≤ place.sh_offset =
       behind_start (file_header_size p.opened.form) (file_range place) (header_filled p.opened.form) (stored_filled place stored) apart_here in
-      record {
-        load = now.source;
-        here = now.here;
-        holds_it = subst (λ (x : SegmentHeader). holds x place ≡ true) (sym now.made) holder.passes;
-        behind_header = subst (λ (f : Form). file_header_size f ≤ place.sh_offset) (sym (edit.form ∙ holding.form)) behind;
-      }
+      elim (as_now holder.element holder.here) [
+        | inl now ↦ record {
+          load = now.source;
+          here = now.here;
+          holds_it = subst (λ (x : SegmentHeader). holds x place ≡ true) (sym now.made) holder.passes;
+          behind_header = subst (λ (f : Form). file_header_size f ≤ place.sh_offset) (sym (edit.form ∙ holding.form)) behind;
+        }
+        | inr went ↦ absurd (both_ways (has_lost_load r.image k.section) not_lost (loses_load k holder.element stored holder.passes went))
+      ]
 
   is_something : (k : KeptSection) → Has k (kept_sections r.image) → occupies_memory (place_at_read k.section) ≡ true
       → list_any is_loaded r.image.segments ≡ true
@@ -256,8 +304,8 @@ module _ (r : Resized) (edit : IsEditOf r.read r.image) (p : Parts) (parts : Are
         | inl none ↦ absurd (both_ways (not (list_any occupies_memory (places_of p.sections)))
             (not_from_true (list_any occupies_memory (places_of p.sections)) some) none)
         | inr any ↦
-            let found = any-at is_loaded p.segments any in
-            let now = as_now found.element (filter-from is_loaded p.segments found.element found.here found.passes) in
+            let found = any-at is_loaded left (edit.segments.loaded (ap (list_any is_loaded) holding.segments ∙ any)) in
+            let now = left_now found.element (filter-from is_loaded left found.element found.here found.passes) in
             let back = filter-at is_loaded r.image.segments now.source now.here in
             any-from is_loaded r.image.segments now.source back.0 back.1
       ]
@@ -275,21 +323,37 @@ module _ (r : Resized) (edit : IsEditOf r.read r.image) (p : Parts) (parts : Are
       (all-at (λ x. not (crosses_file_end x place)) (loads_of p.segments) m.source all m.here) in
       subst (λ (x : SegmentHeader). crosses_file_end x place ≡ false) m.made old
 
+  -- one with the table in its file part didn't go
+  keeps_table : (q : SegmentHeader) → 0 < length r.read.segments → q.p_offset ≤ table
+      → table + length r.read.segments * segment_header_size r.read.form ≤ q.p_offset + q.p_filesz → IsReclaimed table end q → ⊥
+  keeps_table q filled begins ends went =
+      let unit : ℕ = segment_header_size r.read.form in
+      let unit_filled : 0 < unit = entry_filled r.read.form in
+      let one : 1 * unit ≤ length r.read.segments * unit = mul-le-mul_right unit filled in
+      let inside : table < q.p_offset + q.p_filesz = omega (arith, unit_filled, one, ends) in
+      both_ways (has_place table q) went.no_table
+      (and_from (nat_le q.p_offset table) (nat_lt table (q.p_offset + q.p_filesz)) (le-leb q.p_offset table begins)
+      (lt-ltb table (q.p_offset + q.p_filesz) inside))
+
   table_is_in : (q : SegmentHeader) → table_load r ≡ Some q → TableIn r q
   table_is_in q h =
       let found = find-at (λ x. lies_in (table_at_read r) (file_part x)) (loads_of r.read.segments) q h in
-      let now = as_now q (subst (λ (l : List SegmentHeader). Has q (loads_of l)) holding.segments found.0) in
       let lies = lies_in-at (table_at_read r) (file_part q) found.1 in
-      let offset : now.source.p_offset ≡ q.p_offset = ap (λ (x : SegmentHeader). x.p_offset) now.made in
-      let size : now.source.p_filesz ≡ q.p_filesz = ap (λ (x : SegmentHeader). x.p_filesz) now.made in
-      record {
-        load = now.source;
-        here = now.here;
-        same = now.made;
-        begins = omega (arith, lies.0, offset);
-        ends = omega (arith, lies.1, offset, size);
-        filled = has-length q r.read.segments (filter-at is_loaded r.read.segments q found.0).0;
-      }
+      let filled = has-length q r.read.segments (filter-at is_loaded r.read.segments q found.0).0 in
+      elim (as_now q (subst (λ (l : List SegmentHeader). Has q (loads_of l)) holding.segments found.0)) [
+        | inl now ↦
+            let offset : now.source.p_offset ≡ q.p_offset = ap (λ (x : SegmentHeader). x.p_offset) now.made in
+            let size : now.source.p_filesz ≡ q.p_filesz = ap (λ (x : SegmentHeader). x.p_filesz) now.made in
+            record {
+              load = now.source;
+              here = now.here;
+              same = now.made;
+              begins = omega (arith, lies.0, offset);
+              ends = omega (arith, lies.1, offset, size);
+              filled = filled;
+            }
+        | inr went ↦ absurd (keeps_table q filled lies.0 lies.1 went)
+      ]
 
   table_same : segment_table_range p ≡ table_at_read r
   table_same =
@@ -302,7 +366,7 @@ module _ (r : Resized) (edit : IsEditOf r.read r.image) (p : Parts) (parts : Are
   table_is_there any none =
       let was : list_any (λ x. x.p_type == PT_PHDR) p.segments ≡ true =
       ap (list_any (λ x. x.p_type == PT_PHDR)) (sym holding.segments)
-      ∙ same_type PT_PHDR r.image.page_size r.read.segments r.image.segments refl edit.segments any in
+      ∙ same_type PT_PHDR table r.image.page_size r.read.segments r.image.segments refl refl edit.segments any in
       let inside : SegmentHeader → Bool = λ x. lies_in (segment_table_range p) (file_part x) in
       elim (or_cases (not (list_any (λ x. x.p_type == PT_PHDR) p.segments)) (list_any inside (loads_of p.segments)) rules.header_table) [
         | inl none_was ↦ both_ways (not (list_any (λ x. x.p_type == PT_PHDR) p.segments))

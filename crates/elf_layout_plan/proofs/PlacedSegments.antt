@@ -8,9 +8,9 @@ use Rattle.elf_format.specs.File.{is_loaded, loads_of}
 use Rattle.elf_format.specs.Placement.{addresses_apart, file_part, file_parts_fit, memory_part, segments_apart}
 use Rattle.elf_format.specs.Ranges.{all_apart, end_of}
 use Rattle.elf_format.specs.Records.{file_header_size, segment_header_size}
-use Rattle.elf_layout_plan.specs.Added.{AddedLoad, added_loads, greatest, header_count, keeps_range, keeps_section_range, kept_end, memory_end}
+use Rattle.elf_layout_plan.specs.Added.{AddedLoad, added_loads, greatest, had_memory, header_count, keeps_range, keeps_section_range, kept_end, memory_end}
 use Rattle.elf_layout_plan.specs.Anchors.{HeaderTable, Itself, Anchor, Notes, OneSection, is_moved, anchor_of}
-use Rattle.elf_layout_plan.specs.Memory.{Resized, SizedSection, sized_sections, table_load, takes_memory}
+use Rattle.elf_layout_plan.specs.Memory.{Resized, SizedSection, has_lost_load, sized_sections, table_load, takes_memory}
 use Rattle.elf_layout_plan.specs.Standing.{UnloadedSlot, content_end, unloaded_slots, unloaded_start, next_table, sections_offset, segments_end, table_offset}
 use Rattle.elf_layout_plan.specs.Written.{written_segments}
 use Rattle.elf_layout_plan.proofs.PlacedLists.{Has, MadeOf, Pairs, all-from, append-at, append-left, append-right, filter-at, filter-from, greatest-at, greatest-first, has_none, map-at, map-from, pairs-append, pairs-map, pairs-none, pairs-weaker}
@@ -49,7 +49,7 @@ module _ (r : Resized) (moved : List ℕ) (reads : ReadsPlaced r) where
 
   abbrev section_ends : List ℕ
   section_ends = map (λ s. s.kept.section.sh_addr + s.kept.section.sh_size)
-      (filter (λ s. takes_memory s.kept.section && not (s.kept.section.sh_size == 0)) (sized_sections r))
+      (filter (λ s. had_memory r.image s.kept.section) (sized_sections r))
 
   pub before_memory_end : (p : SegmentHeader) → Has p (loads_of r.image.segments) → end_of (memory_part p) ≤ memory_end r
   unfolding memory_end
@@ -60,13 +60,14 @@ module _ (r : Resized) (moved : List ℕ) (reads : ReadsPlaced r) where
       omega (arith, first, greatest-first (greatest 0 ends) section_ends)
 
   pub section_before_memory_end : (s : SizedSection) → Has s (sized_sections r) → takes_memory s.kept.section ≡ true
-      → (s.kept.section.sh_size == 0) ≡ false
+      → (s.kept.section.sh_size == 0) ≡ false → has_lost_load r.image s.kept.section ≡ false
       → s.kept.section.sh_addr + s.kept.section.sh_size ≤ memory_end r
   unfolding memory_end
-  section_before_memory_end s h takes filled =
-      let test : SizedSection → Bool = λ x. takes_memory x.kept.section && not (x.kept.section.sh_size == 0) in
+  section_before_memory_end s h takes filled not_lost =
+      let test : SizedSection → Bool = λ x. had_memory r.image x.kept.section in
       let there = filter-from test (sized_sections r) s h
-      (and_from (takes_memory s.kept.section) (not (s.kept.section.sh_size == 0)) takes (ap not filled)) in
+      (and_from (takes_memory s.kept.section && not (s.kept.section.sh_size == 0)) (not (has_lost_load r.image s.kept.section))
+      (and_from (takes_memory s.kept.section) (not (s.kept.section.sh_size == 0)) takes (ap not filled)) (ap not not_lost)) in
       greatest-at (greatest 0 (map (λ q. end_of (memory_part q)) (loads_of r.image.segments))) section_ends
       (s.kept.section.sh_addr + s.kept.section.sh_size)
       (map-from (λ x. x.kept.section.sh_addr + x.kept.section.sh_size) (filter test (sized_sections r)) s there)

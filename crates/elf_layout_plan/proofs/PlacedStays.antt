@@ -2,7 +2,7 @@
 use Rattle.std.proofs.Common.{◌≡◌, ◌≤◌, ◌<◌, ◌⊎◌, ℕ, ◌+◌, ◌-◌, ◌*◌, Bool, true, false, eqb, List, [], ◌∷◌, length, refl, sym, ap, subst, inl, inr, Option, Some, arith}
 use Rattle.std.specs.Prelude.{◌&&◌, ◌||◌, not, ◌==◌, nat_lt}
 use Rattle.std.specs.List.{list_any}
-use Rattle.std.proofs.lemmas.Bool.{and_from, and_parts, both_ways, cases_Bool, eqb-false, eqb-true, false_from_ne_true, false≢true, ltb-false, not_from_false}
+use Rattle.std.proofs.lemmas.Bool.{and_from, and_parts, both_ways, cases_Bool, eqb-false, eqb-true, false_from_ne_true, false≢true, ltb-false, not_from_false, or_parts}
 use Rattle.std.proofs.Math.Nat.{mul-le-mul_right}
 use Rattle.elf_format.specs.declared.constants.TheConstants.{SHT_NOBITS, SHT_NULL}
 use Rattle.elf_format.specs.declared.range.Range.{Range}
@@ -16,7 +16,7 @@ use Rattle.elf_format.specs.Ranges.{lies_in, range}
 use Rattle.elf_format.specs.Records.{file_header_size, segment_header_size}
 use Rattle.elf_layout_plan.specs.Blocks.{Block, is_block_of_some, stay_apart}
 use Rattle.elf_image.specs.Kept.{place_at_read}
-use Rattle.elf_layout_plan.specs.Memory.{Resized, SizedSection, block_in_load, blocks_with, edge_blocks, fixed_block, header_blocks, is_stray, loaded_over, section_block, sized_sections, table_at_read, table_load, table_size_with, takes_memory}
+use Rattle.elf_layout_plan.specs.Memory.{Resized, SizedSection, block_in_load, blocks_with, edge_blocks, fixed_block, has_lost_load, header_blocks, is_out_of_loads, is_stray, loaded_over, section_block, sized_sections, table_at_read, table_load, table_size_with, takes_memory}
 use Rattle.elf_layout_plan.proofs.PlacedLists.{Has, any-at, append-right, filter-from, has_here, has_there, pairs-two}
 use Rattle.elf_layout_plan.proofs.PlacedRanges.{Apart, apart-before, apart-behind, apart-swap, apart-within, lies_in-at}
 use Rattle.elf_layout_plan.proofs.PlacedRead.{ReadsPlaced, entry_filled}
@@ -64,14 +64,18 @@ not_zero : (n : ℕ) → 0 < n → (n == 0) ≡ false
 not_zero n h = false_from_ne_true (n == 0) (λ e. omega (arith, h, eqb-true n 0 e))
 
 -- what isn't stray
-unstray : (stored was now shows low : Bool) → (stored && was && not now && (not shows || low)) ≡ false → stored ≡ true → was ≡ true → now ≡ false
-    → (shows ≡ true) × (low ≡ false)
-unstray true true false true false h a b c = (refl, refl)
-unstray true true false true true h a b c = absurd (both_ways true h refl)
-unstray true true false false low h a b c = absurd (both_ways true h refl)
-unstray true true true shows low h a b c = absurd (both_ways true c refl)
-unstray true false now shows low h a b c = absurd (false≢true b)
-unstray false was now shows low h a b c = absurd (false≢true a)
+unstray : (stored now out lost : Bool) → (stored && not now && (out || lost)) ≡ false → stored ≡ true → now ≡ false
+    → (out ≡ false) × (lost ≡ false)
+unstray true false out lost h a b = or_parts out lost h
+unstray true true out lost h a b = absurd (both_ways true b refl)
+unstray false now out lost h a b = absurd (false≢true a)
+
+-- a section that was empty and isn't out of the loaded segments
+not_out : (was shows low : Bool) → (was && (not shows || low)) ≡ false → was ≡ true → (shows ≡ true) × (low ≡ false)
+not_out true true false h a = (refl, refl)
+not_out true true true h a = absurd (both_ways true h refl)
+not_out true false low h a = absurd (both_ways true h refl)
+not_out false shows low h a = absurd (false≢true a)
 
 module _ (r : Resized) (moved : List ℕ) (looked : ℕ) (reads : ReadsPlaced r) (apart : stay_apart moved (blocks_with r looked) ≡ true) where
   -- a section is apart from an edge of a loaded segment
@@ -81,6 +85,21 @@ module _ (r : Resized) (moved : List ℕ) (looked : ℕ) (reads : ReadsPlaced r)
   from_edge s is p p_here b b_here b_stays =
       section_and_edge r moved looked apart s b p is.here (takes_own s.kept.section is.takes is.stored) is.stays p_here b_here b_stays
 
+  -- one that stays isn't stray
+  tests_fail : (s : SizedSection) → StaysStored r moved s
+      → ((s.kept.section.sh_size == 0 && is_out_of_loads r s) ≡ false) × (has_lost_load r.image s.kept.section ≡ false)
+  tests_fail s is =
+      let x : ImageSection = s.kept.section in
+      let some = any-at is_loaded r.image.segments (reads.something s.kept (is_kept r s is.here) is.takes) in
+      let q : SegmentHeader = some.element in
+      let q_here = filter-from is_loaded r.image.segments q some.here some.passes in
+      let start : Block = record (fixed_block q.p_vaddr 0) { is_load_start = true } in
+      let clear = from_edge s is q q_here start (has_here start
+      (fixed_block (q.p_vaddr + q.p_filesz) 0 ∷ fixed_block (q.p_vaddr + q.p_memsz) 0 ∷ [])) refl in
+      let no_stray : is_stray r s ≡ false = isnt_stray (section_block r s) start clear refl in
+      unstray (occupies_file (place_at_read x)) (s.size == 0) (x.sh_size == 0 && is_out_of_loads r s) (has_lost_load r.image x) no_stray
+      is.stored (not_zero s.size is.filled)
+
   -- a section that was there: what it grew by has room in its segment
   filled_before : (s : SizedSection) → StaysStored r moved s → (s.kept.section.sh_size == 0) ≡ false
       → IsKeptIn r s.kept.section.sh_offset s.size s.kept.section.sh_addr × (file_header_size r.image.form ≤ s.kept.section.sh_offset)
@@ -89,7 +108,7 @@ module _ (r : Resized) (moved : List ℕ) (looked : ℕ) (reads : ReadsPlaced r)
       let stored : is_stored (place_at_read x) ≡ true =
       and_from (occupies_memory (place_at_read x) && occupies_file (place_at_read x)) (not (x.sh_size == 0))
       (and_from (occupies_memory (place_at_read x)) (occupies_file (place_at_read x)) is.takes is.stored) (not_from_false (x.sh_size == 0) was) in
-      let held = reads.held s.kept (is_kept r s is.here) stored in
+      let held = reads.held s.kept (is_kept r s is.here) stored (tests_fail s is).1 in
       let p : SegmentHeader = held.load in
       let (begins, old_end, distance) = shown p (file_range (place_at_read x)) x.sh_addr held.holds_it in
       let begins' : p.p_offset ≤ x.sh_offset = begins in
@@ -110,16 +129,8 @@ module _ (r : Resized) (moved : List ℕ) (looked : ℕ) (reads : ReadsPlaced r)
   empty_before s is was =
       let x : ImageSection = s.kept.section in
       let part : Range = range x.sh_offset s.size in
-      let some = any-at is_loaded r.image.segments (reads.something s.kept (is_kept r s is.here) is.takes) in
-      let q : SegmentHeader = some.element in
-      let q_here = filter-from is_loaded r.image.segments q some.here some.passes in
-      let start : Block = record (fixed_block q.p_vaddr 0) { is_load_start = true } in
-      let clear = from_edge s is q q_here start (has_here start
-      (fixed_block (q.p_vaddr + q.p_filesz) 0 ∷ fixed_block (q.p_vaddr + q.p_memsz) 0 ∷ [])) refl in
-      let no_stray : is_stray r s ≡ false = isnt_stray (section_block r s) start clear refl in
-      let tests = unstray (occupies_file (place_at_read x)) (x.sh_size == 0) (s.size == 0)
-      (list_any (λ p. shows_at p part x.sh_addr) (loads_of r.image.segments))
-      (nat_lt x.sh_offset (file_header_size r.image.form)) no_stray is.stored was (not_zero s.size is.filled) in
+      let tests = not_out (x.sh_size == 0) (list_any (λ p. shows_at p part x.sh_addr) (loads_of r.image.segments))
+      (nat_lt x.sh_offset (file_header_size r.image.form)) (tests_fail s is).0 was in
       let holder = any-at (λ p. shows_at p part x.sh_addr) (loads_of r.image.segments) tests.0 in
       let (begins, end, distance) = shown holder.element part x.sh_addr holder.passes in (
         record { load = holder.element; here = holder.here; begins = begins; ends = end; distance = distance },

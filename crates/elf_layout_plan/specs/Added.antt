@@ -10,8 +10,10 @@ use Rattle.elf_format.specs.Ranges.{end_of}
 use Rattle.elf_format.specs.declared.records.SegmentHeader.{SegmentHeader}
 use Rattle.elf_format.specs.Records.{file_header_size, segment_header_size}
 use Rattle.elf_layout_plan.specs.Anchors.{HeaderTable, Itself, Notes, OneSection, is_loaded_section, is_moved, anchor_of}
+use Rattle.elf_format.specs.Image.{Image, ImageSection}
+use Rattle.elf_image.specs.Segments.{loads_end}
 use Rattle.elf_image.specs.Kept.{KeptSection}
-use Rattle.elf_layout_plan.specs.Memory.{Resized, SizedSection, sized_sections, takes_memory}
+use Rattle.elf_layout_plan.specs.Memory.{Resized, SizedSection, has_lost_load, sized_sections, takes_memory}
 use Rattle.elf_layout_plan.specs.Rounds.{added_flags, flags_for, headers_needed, sections_at}
 
 -- the greatest of a number and others
@@ -48,12 +50,15 @@ kept_end r moved =
 
 -- ## Where memory ends
 
--- the ends of the loaded segments, and of the sections that take memory and had some at read
+-- the section takes memory, had some at read, and didn't lose the loaded segment that it stood in
+abbrev pub had_memory : Image → ImageSection → Bool
+had_memory image s = takes_memory s && not (s.sh_size == 0) && not (has_lost_load image s)
+
+-- the ends of the loaded segments, and of those sections
 unfoldable pub memory_end : Resized → ℕ
 memory_end r =
-    let sections = filter (λ s. takes_memory s.kept.section && not (s.kept.section.sh_size == 0)) (sized_sections r) in
-    greatest (greatest 0 (map (λ p. end_of (memory_part p)) (loads_of r.image.segments)))
-    (map (λ s. s.kept.section.sh_addr + s.kept.section.sh_size) sections)
+    let sections = filter (λ s. had_memory r.image s.kept.section) (sized_sections r) in
+    greatest (loads_end r.image.segments) (map (λ s. s.kept.section.sh_addr + s.kept.section.sh_size) sections)
 
 -- ## The alignment of what is loaded
 

@@ -1,17 +1,19 @@
 -- What takes memory of an image: its headers, the ends of its loaded segments, its sections.
-use Rattle.std.specs.Prelude.{ℕ, ◌+◌, ◌-◌, ◌*◌, List, [], ◌∷◌, ◌++◌, length, map, Bool, true, false, ◌&&◌, ◌||◌, not, Option, Some, None, filter, find, nat_lt, ◌==◌, if◌then◌else◌}
+use Rattle.std.specs.Prelude.{ℕ, ◌+◌, ◌-◌, ◌*◌, List, [], ◌∷◌, ◌++◌, length, map, Bool, true, false, ◌&&◌, ◌||◌, not, Option, Some, None, filter, find, nat_lt, nat_le, ◌==◌, if◌then◌else◌}
 use Rattle.std.specs.List.{flat_map, list_any}
-use Rattle.elf_format.specs.declared.constants.TheConstants.{SHF_TLS, SHT_DYNAMIC, SHT_DYNSYM, SHT_GNU_HASH, SHT_GNU_VERDEF, SHT_GNU_VERNEED, SHT_GNU_VERSYM, SHT_HASH, SHT_NOBITS, SHT_NOTE, SHT_NULL, SHT_STRTAB}
+use Rattle.elf_format.specs.declared.constants.TheConstants.{SHF_TLS, SHT_DYNAMIC, SHT_NOBITS, SHT_NULL, SHT_STRTAB}
 use Rattle.elf_format.specs.File.{loads_of}
 use Rattle.elf_format.specs.Image.{Image, ImageSection}
-use Rattle.elf_format.specs.Options.{is_one_of, list_at}
-use Rattle.elf_format.specs.Placement.{file_part, shows_at}
+use Rattle.elf_format.specs.Options.{list_at}
+use Rattle.elf_format.specs.Placement.{file_part, is_stored, shows_at}
 use Rattle.elf_format.specs.declared.range.Range.{Range}
 use Rattle.elf_format.specs.Ranges.{lies_in, range}
 use Rattle.elf_format.specs.declared.records.SegmentHeader.{SegmentHeader}
 use Rattle.elf_format.specs.Records.{file_header_size, segment_header_size}
 use Rattle.elf_format.specs.Places.{is_set, occupies_file, occupies_memory}
 use Rattle.elf_layout_plan.specs.Blocks.{Block}
+use Rattle.elf_image.specs.Segments.{loads_end}
+pub use Rattle.elf_image.specs.Spare.{is_movable_type}
 use Rattle.elf_image.specs.Kept.{KeptSection, dynamic_strings_number, interpreter_number, is_numbered, kept_sections, place_at_read}
 
 -- An image whose sections have new sizes, and the image that was read from its source.
@@ -88,22 +90,30 @@ takes_memory s = occupies_memory (place_at_read s) && not (s.sh_type == SHT_NULL
 -- nothing but tags and headers points to what is in it, so it may stand elsewhere; the dynamic section may where leave was given
 abbrev pub is_movable : Image → KeptSection → Bool
 is_movable image s =
-    is_one_of (SHT_NOTE ∷ SHT_DYNSYM ∷ SHT_HASH ∷ SHT_GNU_HASH ∷ SHT_GNU_VERSYM ∷ SHT_GNU_VERDEF ∷ SHT_GNU_VERNEED ∷ []) s.section.sh_type
-    || s.section.sh_type == SHT_STRTAB && is_numbered (dynamic_strings_number image) s
+    is_movable_type s.section.sh_type || s.section.sh_type == SHT_STRTAB && is_numbered (dynamic_strings_number image) s
     || s.section.sh_type == SHT_DYNAMIC && image.moves_dynamic
 
 -- how readily a section moves: tables and notes first, with the dynamic section where it may, then the interpreter, nothing else
 abbrev pub priority_of : Resized → KeptSection → ℕ
 priority_of r s = if is_numbered (interpreter_number r.read) s then 1 else if is_movable r.image s then 2 else 0
 
--- a section of the file was empty and no longer is, and no loaded segment shows its range at its address, or the file header
--- stands in it
-abbrev pub is_stray : Resized → SizedSection → Bool
-is_stray r s =
+-- no loaded segment that is there reaches as far as the address of a section with bytes: the one that it stood in went
+abbrev pub has_lost_load : Image → ImageSection → Bool
+has_lost_load image s = is_stored (place_at_read s) && nat_le (loads_end image.segments) s.sh_addr
+
+-- no loaded segment shows the range of a section that was empty at its address, or the file header stands in it
+abbrev pub is_out_of_loads : Resized → SizedSection → Bool
+is_out_of_loads r s =
     let section = s.kept.section in
     let part = range section.sh_offset s.size in
-    occupies_file (place_at_read section) && section.sh_size == 0 && not (s.size == 0)
-    && (not (list_any (λ p. shows_at p part section.sh_addr) (loads_of r.image.segments)) || nat_lt section.sh_offset (file_header_size r.image.form))
+    not (list_any (λ p. shows_at p part section.sh_addr) (loads_of r.image.segments)) || nat_lt section.sh_offset (file_header_size r.image.form)
+
+-- a section of the file that has bytes now can't stand where it stood: it had none, and no loaded segment shows them there, or it lost
+-- the loaded segment that it stood in
+abbrev pub is_stray : Resized → SizedSection → Bool
+is_stray r s =
+    occupies_file (place_at_read s.kept.section) && not (s.size == 0)
+    && (s.kept.section.sh_size == 0 && is_out_of_loads r s || has_lost_load r.image s.kept.section)
 
 abbrev pub section_block : Resized → SizedSection → Block
 section_block r s = record {

@@ -63,7 +63,7 @@ none_chosen false false m n none = refl
 
 -- what is kept of the source is what stays of it
 same_byte : (r : Resized) (k : ℕ)
-    → kept_byte r.image.source (load_spans (length r.image.source) r.read.segments)
+    → kept_byte r.image.source (load_spans (length r.image.source) r.image.segments)
     (map (span_in (length r.image.source)) (old_places r.read r.image)) k ≡ base_byte r k
 same_byte r k = by_length (cases_lt k len)
   where
@@ -74,7 +74,7 @@ same_byte r k = by_length (cases_lt k len)
     len = length source
 
     kept : Bool
-    kept = is_in_spans (load_spans len r.read.segments) k
+    kept = is_in_spans (load_spans len r.image.segments) k
 
     cleared : Bool
     cleared = is_in_spans (map (span_in len) (old_places r.read r.image)) k
@@ -84,8 +84,8 @@ same_byte r k = by_length (cases_lt k len)
     by_length (inl below) =
         ap (λ (b : Bool). if kept && not cleared && b then slice_index source k else 0) (lt-ltb k len below)
         ∙ chosen (kept && not cleared) (slice_index source k)
-        ∙ ap (λ (b : Bool). if b && not cleared then slice_index source k else 0) (same_spans file_part len k (loads_of r.read.segments) below)
-        ∙ ap (λ (b : Bool). if is_in_load r.read.segments k && not b then slice_index source k else 0)
+        ∙ ap (λ (b : Bool). if b && not cleared then slice_index source k else 0) (same_spans file_part len k (loads_of r.image.segments) below)
+        ∙ ap (λ (b : Bool). if is_in_load r.image.segments k && not b then slice_index source k else 0)
         (same_spans (λ x. x) len k (old_places r.read r.image) below)
     by_length (inr past) =
         ap (λ (b : Bool). if kept && not cleared && b then slice_index source k else 0) (le-ltb k len past)
@@ -94,7 +94,7 @@ same_byte r k = by_length (cases_lt k len)
 -- so bytes over what stays are composed of it
 pub composed_of : (r : Resized) (source : List ℕ) (len : ℕ) (segments : List SegmentHeader) (places : List Range) (kept cleared : List Span)
     (patches : List Patch) (size : ℕ) (bytes : List ℕ)
-    → source ≡ r.image.source → len ≡ length source → segments ≡ r.read.segments → places ≡ old_places r.read r.image
+    → source ≡ r.image.source → len ≡ length source → segments ≡ r.image.segments → places ≡ old_places r.read r.image
     → kept ≡ load_spans len segments → cleared ≡ map (span_in len) places
     → IsOverBase r patches size bytes → IsComposed source kept cleared patches size bytes
 composed_of r source len segments places kept cleared patches size bytes is_source is_len is_segments is_places is_kept is_cleared is = record {
@@ -109,7 +109,7 @@ composed_of r source len segments places kept cleared patches size bytes is_sour
     long : len ≡ length read
     long = is_len ∙ ap length is_source
 
-    kept_is : kept ≡ load_spans (length read) r.read.segments
+    kept_is : kept ≡ load_spans (length read) r.image.segments
     kept_is = is_kept ∙ ap (λ (n : ℕ). load_spans n segments) long ∙ ap (load_spans (length read)) is_segments
 
     cleared_is : cleared ≡ map (span_in (length read)) (old_places r.read r.image)
@@ -119,7 +119,7 @@ composed_of r source len segments places kept cleared patches size bytes is_sour
     byte k =
         ap (λ (l : List ℕ). kept_byte l kept cleared k) is_source
         ∙ ap (λ (l : List Span). kept_byte read l cleared k) kept_is
-        ∙ ap (λ (l : List Span). kept_byte read (load_spans (length read) r.read.segments) l k) cleared_is
+        ∙ ap (λ (l : List Span). kept_byte read (load_spans (length read) r.image.segments) l k) cleared_is
         ∙ same_byte r k
 
 -- ## A written file

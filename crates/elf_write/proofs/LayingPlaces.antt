@@ -155,7 +155,7 @@ stays source k true false = elim (cases_lt k (length source)) [
 
 pub based : (r : Resized) (size : ℕ) (zeros copied cleared : List ℕ) → zeros ≡ replicate size 0
     → length copied ≡ length zeros → length cleared ≡ length copied
-    → TakesFrom r.image.source (is_in_load r.read.segments) zeros copied
+    → TakesFrom r.image.source (is_in_load r.image.segments) zeros copied
     → IsCleared (is_in_range (old_places r.read r.image)) copied cleared
     → cleared ≡ base r size
 unfolding base
@@ -173,7 +173,7 @@ based r size zeros copied cleared are_zeros copied_long cleared_long takes clear
     long = ap length are_zeros ∙ length-replicate {A = ℕ} size 0
 
     taken : ℕ → Bool
-    taken k = is_in_load r.read.segments k
+    taken k = is_in_load r.image.segments k
 
     old : ℕ → Bool
     old k = is_in_range (old_places r.read r.image) k
@@ -183,14 +183,14 @@ based r size zeros copied cleared are_zeros copied_long cleared_long takes clear
 
 -- the same by equal lists
 pub based_by : (r : Resized) (source : List ℕ) (segments : List SegmentHeader) (places : List Range) (zeros copied cleared : List ℕ)
-    → source ≡ r.image.source → segments ≡ r.read.segments → places ≡ old_places r.read r.image
+    → source ≡ r.image.source → segments ≡ r.image.segments → places ≡ old_places r.read r.image
     → zeros ≡ replicate (length zeros) 0 → length copied ≡ length zeros → length cleared ≡ length copied
     → TakesFrom source (is_in_load segments) zeros copied
     → IsCleared (is_in_range places) copied cleared
     → cleared ≡ base r (length zeros)
 based_by r source segments places zeros copied cleared same_source same_segments same_places are_zeros copied_long cleared_long takes clears =
     based r (length zeros) zeros copied cleared are_zeros copied_long cleared_long
-    (subst (λ (l : List ℕ). TakesFrom l (is_in_load r.read.segments) zeros copied) same_source
+    (subst (λ (l : List ℕ). TakesFrom l (is_in_load r.image.segments) zeros copied) same_source
     (subst (λ (l : List SegmentHeader). TakesFrom source (is_in_load l) zeros copied)
     same_segments takes))
     (subst (λ (l : List Range). IsCleared (is_in_range l) copied cleared) same_places clears)

@@ -145,18 +145,12 @@ pub(crate) fn old_places<'data>(
 }
 
 // Gives zeros the bytes that stay, where these are the old places of what is written anew.
-fn write_base<'data>(
-    bytes: &mut [u8],
-    read: &Builder<'data>,
-    image: &Builder<'data>,
-    places: &[Range],
-)
-    requires ready { IsEditedReady read.now image.now }
+fn write_base(bytes: &mut [u8], image: &Builder<'_>, places: &[Range])
     requires zeros { bytes.old ≡ replicate (length bytes.old) 0 }
     requires places { places.now ≡ places_rewritten (image_at_read image.now) image.now }
     ensures { bytes.new ≡ base (resized image.now) (length bytes.old) }
 {
-    copy_loads(bytes, image.source(), read.segments());
+    copy_loads(bytes, image.source(), image.segments());
     clear_ranges(bytes, places);
 }
 
@@ -172,6 +166,6 @@ pub(crate) fn base_bytes<'data>(
 {
     let places = old_places(alloc, read, image)?;
     let mut bytes = zeros(alloc, size)?;
-    write_base(&mut bytes, read, image, &places);
+    write_base(&mut bytes, image, &places);
     Ok(bytes)
 }

@@ -70,7 +70,7 @@ pub(crate) fn differing<'data>(
 {
     let source = image.source();
     let places = old_places(alloc, read, image)?;
-    let kept = kept_spans(alloc, read.segments(), source.len())?;
+    let kept = kept_spans(alloc, image.segments(), source.len())?;
     let cleared = spans_of(alloc, &places, source.len())?;
     let difference = composed_difference(alloc, source, size, &kept, &cleared, pieces)?;
     Ok(difference)

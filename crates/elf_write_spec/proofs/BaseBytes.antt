@@ -7,7 +7,6 @@ use Rattle.std.proofs.lemmas.Option.{same_Some, slice_get_within}
 use Rattle.patch_bytes.specs.Number.{field}
 use Rattle.elf_format.specs.declared.constants.TheConstants.{SHT_DYNAMIC}
 use Rattle.elf_format.specs.declared.range.Range.{Range}
-use Rattle.elf_format.specs.declared.records.SegmentHeader.{SegmentHeader}
 use Rattle.elf_format.specs.declared.form.Form.{Form}
 use Rattle.elf_format.specs.File.{loads_of}
 use Rattle.elf_format.specs.Image.{Image, ImageSection}
@@ -21,12 +20,12 @@ use Rattle.elf_image.specs.Kept.{KeptSection, image_at_read, kept_sections, plac
 use Rattle.elf_layout_plan.specs.Memory.{Resized, table_at_read}
 use Rattle.elf_layout_plan.specs.Plan.{resized}
 use Rattle.elf_layout_plan.proofs.ForCallers.ApartBlocks.{all_apart_pairs, apart-meet}
-use Rattle.elf_layout_plan.proofs.ForCallers.ApartLists.{all-at, any-at, any-from, at-map, each-at, each-from, each-map, each-unfilter, each-unmap, filter-at, none-from, pairs-less, pairs-unfilter, pairs-unmap}
+use Rattle.elf_layout_plan.proofs.ForCallers.ApartLists.{all-at, any-from, at-map, each-at, each-from, each-map, each-unfilter, each-unmap, filter-at, none-from, pairs-less, pairs-unfilter, pairs-unmap}
 use Rattle.elf_layout_plan.proofs.ForCallers.ApartSections.{kept-at}
-use Rattle.elf_layout_plan.proofs.ForCallers.ApartStays.{shows}
+use Rattle.elf_layout_plan.proofs.ForCallers.PlacedLists.{any-from as any-has}
 use Rattle.elf_write_spec.specs.Base.{base, base_byte, does_byte_stay, has_position, is_data, is_opaque, is_rewritten, leaves_place, old_places}
 use Rattle.elf_write_spec.specs.Output.{IsPlannedOutput, Output, written_bytes}
-use Rattle.elf_write_spec.proofs.DataStays.{DataFacts, IsNoTable, data_facts, data_keeps_size, fixed_keeps_offset, no_table}
+use Rattle.elf_write_spec.proofs.DataStays.{DataFacts, IsNoTable, data_facts, data_keeps_size, fixed_in_load, fixed_keeps_offset, no_table}
 use Rattle.elf_write_spec.proofs.Laying.{AreApart, field-values}
 use Rattle.elf_write_spec.proofs.Patches.{data_is_apart, keeps_base, places_in_file, swapped}
 use Rattle.elf_write_spec.proofs.WholeFacts.{ReadFacts, SectionAt, read_at, section_at}
@@ -121,26 +120,28 @@ module _ (w : Output) (is : IsPlannedOutput w) (f : ReadFacts w) where
   pub section_place : (i : ℕ) (at : SectionAt w f.parts i) → place_at_read at.section ≡ place_of at.old
   section_place i at = ap place_at_read at.of_old.fields
 
+  -- its type is none of a table's
+  not_table : (i : ℕ) (at : SectionAt w f.parts i) → is_data r.read (kept_as i at.number at.section) ≡ true → IsNoTable at.section.sh_type
+  not_table i at is_it =
+      let facts = data_facts r (kept_as i at.number at.section) is_it in
+      subst (λ (n : ℕ). IsNoTable n) (ap (λ (x : ImageSection). x.sh_type) (sym at.of_old.fields))
+      (no_table f.parts at.old (ap (λ (x : ImageSection). is_opaque x.kind) (sym at.of_old.fields) ∙ facts.opaque))
+
   -- ## Bytes that stay
 
-  -- a stored section at read was in a loaded segment
-  in_load : (i : ℕ) (at : SectionAt w f.parts i) → is_stored (place_of at.old) ≡ true → (k : ℕ) → at.old.sh_offset ≤ k
-      → k < at.old.sh_offset + at.old.sh_size
-      → list_any (λ p. has_position k (file_part p)) (loads_of r.read.segments) ≡ true
-  in_load i at stored k begins ends =
-      let s : Place = place_of at.old in
-      let is_held : Place → Bool = λ x. list_any (λ p. holds p x) (loads_of f.parts.segments) && not (eqb x.sh_offset 0) in
-      let held : is_held s ≡ true = each-at (λ x. is_stored x ≡ true → is_held x ≡ true) read_places
-      (each-unfilter (λ x. is_held x ≡ true) is_stored read_places (all-at is_held (filter is_stored read_places) loaded_rules.0))
-      at.number s (place_was i at) stored in
-      let (j, p, at_p, shown) = any-at (λ p. holds p s) (loads_of f.parts.segments)
-      (and_parts (list_any (λ p. holds p s) (loads_of f.parts.segments)) (not (eqb s.sh_offset 0)) held).0 in
-      let is_shown = shows p s.sh_offset s.sh_size s.sh_addr shown in
-      let low : p.p_offset ≤ at.old.sh_offset = is_shown.0 in
-      let high : at.old.sh_offset + at.old.sh_size ≤ p.p_offset + p.p_filesz = is_shown.1 in
-      subst (λ (l : List SegmentHeader). list_any (λ q. has_position k (file_part q)) (loads_of l) ≡ true) (sym f.holds.segments)
-      (any-from (λ q. has_position k (file_part q)) (loads_of f.parts.segments) j p at_p
-      (has_from (file_part p) k (omega arith) (omega arith)))
+  -- data is in a loaded segment that is still there
+  in_load : (i : ℕ) (at : SectionAt w f.parts i) → is_data r.read (kept_as i at.number at.section) ≡ true → is_stored (place_of at.old) ≡ true
+      → (k : ℕ) → at.old.sh_offset ≤ k → k < at.old.sh_offset + at.old.sh_size
+      → list_any (λ p. has_position k (file_part p)) (loads_of r.image.segments) ≡ true
+  in_load i at is_it stored k begins ends =
+      let x : KeptSection = kept_as i at.number at.section in
+      let facts = data_facts r x is_it in
+      let held = fixed_in_load w.image w.plan is.edited is.planned i x at.is_kept facts.other (not_table i at is_it)
+      (ap is_stored (section_place i at) ∙ stored) in
+      let offset : at.section.sh_offset ≡ at.old.sh_offset = ap (λ (s : ImageSection). s.sh_offset) at.of_old.fields in
+      let size : at.section.sh_size ≡ at.old.sh_size = ap (λ (s : ImageSection). s.sh_size) at.of_old.fields in
+      any-has (λ q. has_position k (file_part q)) (loads_of r.image.segments) held.load held.here
+      (has_from (file_part held.load) k (omega (arith, begins, held.begins, offset)) (omega (arith, ends, held.ends, offset, size)))
 
   -- what is written anew didn't have a byte of data
   not_rewritten : (i : ℕ) (at : SectionAt w f.parts i) → is_data r.read (kept_as i at.number at.section) ≡ true → is_stored (place_of at.old) ≡ true
@@ -210,20 +211,13 @@ module _ (w : Output) (is : IsPlannedOutput w) (f : ReadFacts w) where
   pub base_has : (i : ℕ) (at : SectionAt w f.parts i) → is_data r.read (kept_as i at.number at.section) ≡ true → is_stored (place_of at.old) ≡ true
       → (k : ℕ) → at.old.sh_offset ≤ k → k < at.old.sh_offset + at.old.sh_size → base_byte r k ≡ slice_index w.image.source k
   base_has i at is_it stored k begins ends =
-      let loaded : Bool = list_any (λ p. has_position k (file_part p)) (loads_of r.read.segments) in
+      let loaded : Bool = list_any (λ p. has_position k (file_part p)) (loads_of r.image.segments) in
       let old : Bool = list_any (has_position k) (old_places r.read r.image) in
       cond-true (does_byte_stay r k) (slice_index w.image.source k) 0
-      (and_from loaded (not old) (in_load i at stored k begins ends)
+      (and_from loaded (not old) (in_load i at is_it stored k begins ends)
       (not_from_false old (in_no_old_place i at is_it stored k begins ends)))
 
   -- ## Data in the written file
-
-  -- its type is none of a table's
-  not_table : (i : ℕ) (at : SectionAt w f.parts i) → is_data r.read (kept_as i at.number at.section) ≡ true → IsNoTable at.section.sh_type
-  not_table i at is_it =
-      let facts = data_facts r (kept_as i at.number at.section) is_it in
-      subst (λ (n : ℕ). IsNoTable n) (ap (λ (x : ImageSection). x.sh_type) (sym at.of_old.fields))
-      (no_table f.parts at.old (ap (λ (x : ImageSection). is_opaque x.kind) (sym at.of_old.fields) ∙ facts.opaque))
 
   -- where it was
   pub data_offset : (i : ℕ) (at : SectionAt w f.parts i) → is_data r.read (kept_as i at.number at.section) ≡ true → is_stored (place_of at.old) ≡ true

@@ -1,5 +1,5 @@
 -- Data of the program never moves, and keeps its size.
-use Rattle.std.proofs.Common.{◌≡◌, ◌≤◌, ◌<◌, ℕ, ◌+◌, ◌*◌, Bool, true, false, eqb, List, [], ◌∷◌, length, refl, sym, ap, ◌∙◌, inl, inr, Some, arith}
+use Rattle.std.proofs.Common.{◌≡◌, ◌≤◌, ◌<◌, ℕ, ◌+◌, ◌*◌, Bool, true, false, eqb, List, [], ◌∷◌, length, refl, sym, ap, ◌∙◌, subst, inl, inr, Some, arith}
 use Rattle.std.specs.Prelude.{◌==◌, ◌&&◌, ◌||◌, not, if◌then◌else◌}
 use Rattle.std.specs.List.{slice_get}
 use Rattle.std.proofs.lemmas.Bool.Decides.{nat_tests}
@@ -17,21 +17,23 @@ use Rattle.elf_format.specs.Rules.{data_of, is_opaque_relocation}
 use Rattle.elf_image.specs.Edited.{IsEdited}
 use Rattle.elf_layout_plan.specs.Added.{memory_end}
 use Rattle.elf_layout_plan.specs.Anchors.{is_loaded_section}
+use Rattle.elf_layout_plan.specs.Blocks.{have_causes, stay_apart}
 use Rattle.elf_image.specs.Kept.{KeptSection, dynamic_strings_number, interpreter_number, is_numbered, kept_sections, place_at_read}
-use Rattle.elf_layout_plan.specs.Memory.{Resized, SizedSection, is_movable, priority_of, sized_sections}
+use Rattle.elf_layout_plan.specs.Memory.{Resized, SizedSection, blocks_with, is_movable, priority_of, sized_sections}
 use Rattle.elf_layout_plan.specs.Needs.{written_needs}
 use Rattle.elf_layout_plan.specs.Plan.{IsPlan, Layout, layout_for, resized}
+use Rattle.elf_layout_plan.specs.Rounds.{are_in_old_order, sections_at}
 use Rattle.elf_layout_plan.specs.Sizes.{definitions_size, dynamic_size, hash_size, interpreter_size, needs_size, new_size, strings_size, table_size}
 use Rattle.elf_layout_plan.specs.Standing.{place_in, places}
-use Rattle.elf_layout_plan.proofs.ForCallers.ApartFixed.{fixed_sections_stay, resized_sections}
+use Rattle.elf_layout_plan.proofs.ForCallers.ApartFixed.{fixed_isnt_moved, fixed_sections_stay, resized_sections}
 use Rattle.elf_layout_plan.proofs.ForCallers.ApartLists.{at-map, none-from}
 use Rattle.elf_layout_plan.proofs.ForCallers.ApartSections.{at-sized, sized_of}
-use Rattle.elf_layout_plan.proofs.ForCallers.ApartStays.{shows}
 use Rattle.elf_layout_plan.proofs.ForCallers.PlacedAdded.{is_added}
 use Rattle.elf_layout_plan.proofs.ForCallers.PlacedLists.{Has, slice_get-at}
 use Rattle.elf_layout_plan.proofs.ForCallers.PlacedPlaces.{StandsAdded, stored_stands}
 use Rattle.elf_layout_plan.proofs.ForCallers.PlacedRead.{ReadsPlaced, reads_placed}
 use Rattle.elf_layout_plan.proofs.ForCallers.PlacedSegments.{before_memory_end}
+use Rattle.elf_layout_plan.proofs.ForCallers.PlacedStays.{IsKeptIn, kept_in}
 use Rattle.elf_write_spec.specs.Base.{is_data, is_interpreter, is_opaque}
 use Rattle.elf_write_spec.proofs.SectionKinds.{kind_by, kind_is}
 
@@ -155,20 +157,54 @@ module _ (image : Image) (plan : Layout) (edited : IsEdited image) (planned : Is
   abbrev r : Resized
   r = resized image
 
+  -- it doesn't move
+  stays_there : (i : ℕ) (k : KeptSection) → slice_get (kept_sections image) i ≡ Some k → priority_of r k ≡ 0 → is_one_of planned.moved k.position ≡ false
+  stays_there i k at fixed_there = false_from_ne_true (is_one_of planned.moved k.position) (λ among.
+      absurd (fixed_isnt_moved r (resized_sections image) plan.looked planned.moved planned.ended.move i k at fixed_there among))
+
+  all_apart_there : stay_apart planned.moved (blocks_with r plan.looked) ≡ true
+  all_apart_there =
+      let causes : Bool = have_causes (blocks_with r plan.looked) planned.moved in
+      let apart : Bool = stay_apart planned.moved (blocks_with r plan.looked) in
+      (and_parts causes apart (and_parts (causes && apart) (are_in_old_order (sections_at r planned.moved)) planned.ended.move).0).1
+
+  -- it is in a loaded segment that is still there
+  pub fixed_in_load : (i : ℕ) (k : KeptSection) → slice_get (kept_sections image) i ≡ Some k → is_interpreter r.read k ≡ false
+      → IsNoTable k.section.sh_type → is_stored (place_at_read k.section) ≡ true
+      → IsKeptIn r k.section.sh_offset k.section.sh_size k.section.sh_addr
+  fixed_in_load i k at other none stored =
+      let t : SizedSection = sized_of r k in
+      let at_t : slice_get (sized_sections r) i ≡ Some t = at-sized r (resized_sections image) i k at in
+      let here : Has t (sized_sections r) = slice_get-at (sized_sections r) i t at_t in
+      let parts = and_parts (occupies_memory (place_at_read k.section) && occupies_file (place_at_read k.section)) (not (eqb k.section.sh_size 0))
+      stored in
+      let inner = and_parts (occupies_memory (place_at_read k.section)) (occupies_file (place_at_read k.section)) parts.0 in
+      let size : t.size ≡ k.section.sh_size = data_keeps_size r.read image k other none in
+      let some : 0 < k.section.sh_size = some_bytes k.section.sh_size parts.1 in
+      subst (λ (n : ℕ). IsKeptIn r k.section.sh_offset n k.section.sh_addr) size
+      (kept_in r planned.moved plan.looked (reads_placed image edited) all_apart_there t (record {
+        here = here;
+        stays = stays_there i k at (fixed r k other none);
+        takes = inner.0;
+        stored = inner.1;
+        filled = omega (arith, size, some);
+      }))
+    where
+      some_bytes : (n : ℕ) → not (eqb n 0) ≡ true → 0 < n
+      some_bytes n h = grind (arith, nat_tests)
+
   -- in an added segment it would stand behind all memory
-  not_added : (moved : List ℕ) (s : SizedSection) → Has s.kept (kept_sections image) → is_stored (place_at_read s.kept.section) ≡ true
+  not_added : (moved : List ℕ) (s : SizedSection) → IsKeptIn r s.kept.section.sh_offset s.kept.section.sh_size s.kept.section.sh_addr
       → 0 < s.kept.section.sh_size → (place_in r moved s).sh_addr ≡ s.kept.section.sh_addr → StandsAdded r moved s → ⊥
-  not_added moved s here stored filled same added =
+  not_added moved s held filled same added =
       let reads : ReadsPlaced r = reads_placed image edited in
       let is = is_added r moved added.is_moved.load added.is_moved.here in
       let slot = is.slots added.slot added.is_moved.among in
       let address : (place_in r moved s).sh_addr ≡ added.slot.address = ap (λ (x : Place). x.sh_addr) added.place in
-      let held = reads.held s.kept here stored in
-      let shown = shows held.load s.kept.section.sh_offset s.kept.section.sh_size s.kept.section.sh_addr held.holds_it in
       let fits : held.load.p_filesz ≤ held.load.p_memsz = reads.fit held.load held.here in
       let low : held.load.p_vaddr + held.load.p_memsz ≤ memory_end r = before_memory_end r moved reads held.load held.here in
       let high : memory_end r ≤ added.is_moved.load.header.p_vaddr = is.in_memory in
-      absurd (omega (arith, same, address, shown.0, shown.1, shown.2, fits, low, high, slot.begins, slot.distance, filled))
+      absurd (omega (arith, same, address, held.begins, held.ends, held.distance, fits, low, high, slot.begins, slot.distance, filled))
 
   pub fixed_keeps_offset : (i : ℕ) (k : KeptSection) (place : Place) → slice_get (kept_sections image) i ≡ Some k
       → slice_get plan.places i ≡ Some place
@@ -193,7 +229,7 @@ module _ (image : Image) (plan : Layout) (edited : IsEdited image) (planned : Is
       (and_parts (occupies_memory (place_at_read k.section) && occupies_file (place_at_read k.section)) (not (eqb k.section.sh_size 0))
       stored).1 in
       elim (stored_stands r moved t here (ap is_stored (sym same) ∙ stored_now)) [
-        | inl added ↦ absurd (not_added moved t (slice_get-at (kept_sections image) i k at_k) stored filled address added)
+        | inl added ↦ absurd (not_added moved t (fixed_in_load i k at_k other none stored) filled address added)
         | inr on ↦ ap (λ (x : Place). x.sh_offset) (same ∙ on.place)
       ]
     where

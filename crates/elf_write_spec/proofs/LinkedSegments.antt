@@ -10,6 +10,8 @@ use Rattle.elf_format.specs.declared.constants.TheConstants.{PT_DYNAMIC, PT_GNU_
 use Rattle.elf_format.specs.declared.records.SegmentHeader.{SegmentHeader}
 use Rattle.elf_format.specs.File.{is_loaded}
 use Rattle.elf_image.specs.Edited.{AreKept, AreSegments}
+use Rattle.elf_image.specs.Segments.{loads_end}
+use Rattle.elf_image.proofs.ForCallers.Unclaimed.{count_unclaimed}
 use Rattle.elf_image.specs.Segments.{added_stack}
 use Rattle.elf_layout_plan.specs.Anchors.{HeaderTable, Itself, Anchor, Notes, OneSection, anchor_by_range, anchor_of, anchor_or_itself, section_or_table, section_under}
 use Rattle.elf_image.specs.Kept.{KeptSection, interpreter_number, is_numbered, kept_of_type, kept_sections}
@@ -204,16 +206,18 @@ count-stack type None other = refl
 count-stack type (Some flags) other =
     omega (arith, count-cons (λ (q : SegmentHeader). q.p_type == type) (added_stack flags) [], ap one_if other)
 
-count-whole : (type : ℕ) (page_size : Option ℕ) (read now : List SegmentHeader) → AreSegments page_size read now
-    → (PT_GNU_STACK == type) ≡ false
+count-whole : (type table : ℕ) (page_size : Option ℕ) (read now : List SegmentHeader) → AreSegments table page_size read now
+    → (PT_LOAD == type) ≡ false → (PT_GNU_STACK == type) ≡ false
     → count_of type now ≤ count_of type read
-count-whole type page_size read now h other =
+count-whole type table page_size read now h loaded other =
     omega (
       arith,
       ap (count_of type) h.are_all,
       count-append (λ (q : SegmentHeader). q.p_type == type) h.kept (option_to_list (option_map added_stack h.added)),
       count-stack type h.added other,
-      count-kept type page_size read h.kept h.are_kept,
+      count-kept type page_size h.unclaimed h.kept h.are_kept,
+      count_unclaimed table (loads_end now) (λ (q : SegmentHeader). q.p_type == type)
+          (λ p load. ap (λ (n : ℕ). n == type) load ∙ loaded) read h.unclaimed h.are_unclaimed,
     )
 
 -- ## A plan's
@@ -224,13 +228,14 @@ planned_segments r plan planned = ap (λ (l : Layout). l.segments) planned.follo
 
 pub count-planned : (r : Resized) (plan : Layout) → IsPlan r plan → (type : ℕ) → (PT_LOAD == type) ≡ false → (PT_GNU_STACK == type) ≡ false
     → ((p : SegmentHeader) → p.p_type ≡ type → is_notes (anchor_of r p) ≡ false)
-    → (read : List SegmentHeader) → AreSegments r.image.page_size read r.image.segments → count_of type plan.segments ≤ count_of type read
-count-planned r plan planned type loaded stack plain read whole =
+    → (table : ℕ) (read : List SegmentHeader) → AreSegments table r.image.page_size read r.image.segments
+    → count_of type plan.segments ≤ count_of type read
+count-planned r plan planned type loaded stack plain table read whole =
     omega (
       arith,
       ap (count_of type) (planned_segments r plan planned),
       count-written r planned.moved type loaded plain,
-      count-whole type r.image.page_size read r.image.segments whole stack,
+      count-whole type table r.image.page_size read r.image.segments whole loaded stack,
     )
 
 -- no more of the types that may come once
@@ -239,11 +244,11 @@ pub record NoMoreSingles (read now : List SegmentHeader) : Type 0 where
   pub interpreter : count_of PT_INTERP now ≤ count_of PT_INTERP read
   pub table : count_of PT_PHDR now ≤ count_of PT_PHDR read
 
-pub no_more_singles : (r : Resized) (plan : Layout) → IsPlan r plan → (read : List SegmentHeader)
-    → AreSegments r.image.page_size read r.image.segments
+pub no_more_singles : (r : Resized) (plan : Layout) → IsPlan r plan → (table : ℕ) (read : List SegmentHeader)
+    → AreSegments table r.image.page_size read r.image.segments
     → NoMoreSingles read plan.segments
-no_more_singles r plan planned read whole = record {
-  dynamic = count-planned r plan planned PT_DYNAMIC refl refl (plain-dynamic r) read whole;
-  interpreter = count-planned r plan planned PT_INTERP refl refl (plain-interpreter r) read whole;
-  table = count-planned r plan planned PT_PHDR refl refl (plain-table r) read whole;
+no_more_singles r plan planned table read whole = record {
+  dynamic = count-planned r plan planned PT_DYNAMIC refl refl (plain-dynamic r) table read whole;
+  interpreter = count-planned r plan planned PT_INTERP refl refl (plain-interpreter r) table read whole;
+  table = count-planned r plan planned PT_PHDR refl refl (plain-table r) table read whole;
 }

@@ -59,13 +59,16 @@ module _ (w : Output) (is : IsPlannedOutput w) (f : ReadFacts w) where
   sections_single =
       all_of_them (λ type. nat_le (count_by (λ (s : SectionHeader). s.sh_type == type) w.headers) 1) single_section_types section_once
 
-  kept_all : AreSegments w.image.page_size f.parts.segments w.image.segments
-  kept_all = subst (λ (l : List SegmentHeader). AreSegments w.image.page_size l w.image.segments) f.holds.segments f.edit.segments
+  abbrev table : ℕ
+  table = (image_at_read w.image).header.e_phoff
+
+  kept_all : AreSegments table w.image.page_size f.parts.segments w.image.segments
+  kept_all = subst (λ (l : List SegmentHeader). AreSegments table w.image.page_size l w.image.segments) f.holds.segments f.edit.segments
 
   pub segments_single : list_all (λ type. nat_le (count_of type f.parts.segments) 1) single_segment_types ≡ true
       → list_all (λ type. nat_le (count_of type w.plan.segments) 1) single_segment_types ≡ true
   segments_single h =
-      let less = no_more_singles (resized w.image) w.plan is.planned f.parts.segments kept_all in
+      let less = no_more_singles (resized w.image) w.plan is.planned table f.parts.segments kept_all in
       let first = and_parts (nat_le (count_of PT_DYNAMIC f.parts.segments) 1) _ h in
       let second = and_parts (nat_le (count_of PT_INTERP f.parts.segments) 1) _ first.1 in
       let third = and_parts (nat_le (count_of PT_PHDR f.parts.segments) 1) _ second.1 in

@@ -28,9 +28,7 @@ use Rattle.elf_image.specs.Kept.{KeptSection, kept_sections, place_at_read}
 use Rattle.elf_layout_plan.specs.Memory.{Resized}
 use Rattle.elf_layout_plan.specs.Plan.{Layout, layout_for, resized}
 use Rattle.elf_layout_plan.specs.Written.{written_segments}
-use Rattle.elf_layout_plan.proofs.ForCallers.ApartFacts.{bare}
-use Rattle.elf_layout_plan.proofs.ForCallers.ApartLists.{Each, all-at, any-from, at-map, each-append, each-at, map-at}
-use Rattle.elf_layout_plan.proofs.ForCallers.ApartRead.{edited_facts}
+use Rattle.elf_layout_plan.proofs.ForCallers.ApartLists.{Each, all-at, any-from, each-append, each-at}
 use Rattle.elf_layout_plan.proofs.ForCallers.PlacedLists.{Has, any-from as any-has, filter-at, has_cases, has_none, slice_get-at}
 use Rattle.elf_layout_plan.proofs.ForCallers.PlacedPlans.{plans_are_placed}
 use Rattle.elf_layout_plan.proofs.ForCallers.PlacedRanges.{lies_in-from}
@@ -112,14 +110,10 @@ new_place test r (x ∷ ks) (y ∷ ps) none (suc i) k p at_k at_p is = new_place
 
 -- ## The segment
 
--- a loaded segment that was read, as it is written
+-- a loaded segment of the image is written
 record LoadNow (w : Output) (p : SegmentHeader) : Type 0 where
-  load : SegmentHeader
   index : ℕ
-  here : slice_get (loads_of w.plan.segments) index ≡ Some load
-  offset : load.p_offset ≡ p.p_offset
-  address : load.p_vaddr ≡ p.p_vaddr
-  size : load.p_filesz ≡ p.p_filesz
+  here : slice_get (loads_of w.plan.segments) index ≡ Some p
 
 -- where an element is
 found_at : {A : Type 0} (xs : List A) (x : A) → Has x xs → (i : ℕ) × (slice_get xs i ≡ Some x)
@@ -134,29 +128,17 @@ there_too : (segments others : List SegmentHeader) (i : ℕ) (q : SegmentHeader)
     → slice_get (loads_of segments) i ≡ Some q
 there_too segments others i q same at = subst (λ (l : List SegmentHeader). slice_get (loads_of l) i ≡ Some q) (sym same) at
 
-load_now : (w : Output) → IsPlannedOutput w → (i : ℕ) (p : SegmentHeader) → slice_get (loads_of (resized w.image).read.segments) i ≡ Some p
-    → LoadNow w p
+load_now : (w : Output) → IsPlannedOutput w → (i : ℕ) (p : SegmentHeader) → slice_get (loads_of w.image.segments) i ≡ Some p → LoadNow w p
 unfolding layout_for
 load_now w is i p at =
     let r : Resized = resized w.image in
     let moved : List ℕ = is.planned.moved in
-    let facts = edited_facts w.image is.edited in
-    let there : slice_get (map bare (loads_of r.image.segments)) i ≡ Some (bare p) =
-    ap (λ (l : List SegmentHeader). slice_get l i) facts.loads ∙ at-map bare (loads_of r.read.segments) i p at in
-    let (q, at_q, same) = map-at bare (loads_of r.image.segments) i (bare p) there in
-    let here : Has q (loads_of r.image.segments) = slice_get-at (loads_of r.image.segments) i q at_q in
-    let back = filter-at is_loaded r.image.segments q here in
-    let any = any-has is_loaded r.image.segments q back.0 back.1 in
+    let here : Has p (loads_of r.image.segments) = slice_get-at (loads_of r.image.segments) i p at in
+    let back = filter-at is_loaded r.image.segments p here in
+    let any = any-has is_loaded r.image.segments p back.0 back.1 in
     let segments : w.plan.segments ≡ written_segments r moved = ap (λ (l : Layout). l.segments) is.planned.follows in
-    let (j, at_j) = found_at (loads_of (written_segments r moved)) q (load_written r moved (reads_placed w.image is.edited) any q here) in
-    record {
-      load = q;
-      index = j;
-      here = there_too w.plan.segments (written_segments r moved) j q segments at_j;
-      offset = ap (λ (x : SegmentHeader). x.p_offset) same;
-      address = ap (λ (x : SegmentHeader). x.p_vaddr) same;
-      size = ap (λ (x : SegmentHeader). x.p_filesz) same;
-    }
+    let (j, at_j) = found_at (loads_of (written_segments r moved)) p (load_written r moved (reads_placed w.image is.edited) any p here) in
+    record { index = j; here = there_too w.plan.segments (written_segments r moved) j p segments at_j }
 
 -- ## The sections
 
@@ -182,7 +164,7 @@ same_kind w is j k x at_k at_x =
 -- ## The byte
 
 module _ (w : Output) (is : IsPlannedOutput w) (i : ℕ) (p : SegmentHeader) (position : ℕ)
-    (at : slice_get (loads_of (resized w.image).read.segments) i ≡ Some p) (inside : has_position position (file_part p) ≡ true)
+    (at : slice_get (loads_of w.image.segments) i ≡ Some p) (inside : has_position position (file_part p) ≡ true)
     (other : list_any (has_position position) (written_places w.image (written_headers (resized w.image) w.plan) w.plan.places) ≡ false) where
   abbrev r : Resized
   r = resized w.image
@@ -202,7 +184,7 @@ module _ (w : Output) (is : IsPlannedOutput w) (i : ℕ) (p : SegmentHeader) (po
   in_source : position < length w.image.source
   in_source =
       let end : p.p_offset + p.p_filesz ≤ length w.image.source =
-      each-at (λ q. end_of (file_part q) ≤ length w.image.source) (loads_of r.read.segments) (edited_facts w.image is.edited).in_file i p at in
+      (reads_placed w.image is.edited).in_file p (slice_get-at (loads_of r.image.segments) i p at) in
       omega (arith, ends, end)
 
   in_file : position < length (written_bytes w)
@@ -210,11 +192,11 @@ module _ (w : Output) (is : IsPlannedOutput w) (i : ℕ) (p : SegmentHeader) (po
       let both = and_parts (list_all (λ s. ends_by (written_size r w.plan) (file_range s)) (filter occupies_file w.plan.places))
       (list_all (λ q. ends_by (written_size r w.plan) (file_part q)) (loads_of w.plan.segments))
       (plans_are_placed w.image w.plan is.edited is.planned).in_file in
-      let end : now.load.p_offset + now.load.p_filesz ≤ written_size r w.plan =
-      leb-true (end_of (file_part now.load)) (written_size r w.plan)
+      let end : p.p_offset + p.p_filesz ≤ written_size r w.plan =
+      leb-true (end_of (file_part p)) (written_size r w.plan)
       (each-at (λ q. ends_by (written_size r w.plan) (file_part q) ≡ true) (loads_of w.plan.segments)
-      (all-at (λ q. ends_by (written_size r w.plan) (file_part q)) (loads_of w.plan.segments) both.1) now.index now.load now.here) in
-      omega (arith, ends, end, now.offset, now.size, length-written w is)
+      (all-at (λ q. ends_by (written_size r w.plan) (file_part q)) (loads_of w.plan.segments) both.1) now.index p now.here) in
+      omega (arith, ends, end, length-written w is)
 
   -- ## It isn't written anew
 
@@ -236,9 +218,9 @@ module _ (w : Output) (is : IsPlannedOutput w) (i : ℕ) (p : SegmentHeader) (po
     | inr unloaded ↦ elim (cases_Bool (eqb x.sh_size 0)) [
       | inl empty ↦ apart-from_empty one (file_range x) (eqb-true x.sh_size 0 empty)
       | inr some ↦
-          let behind : now.load.p_offset + now.load.p_filesz ≤ x.sh_offset =
-          (stands_behind w.image w.plan is.edited is.planned).sections now.index j now.load x now.here at_x unloaded there some in
-          apart-before one (file_range x) (omega (arith, ends, behind, now.offset, now.size))
+          let behind : p.p_offset + p.p_filesz ≤ x.sh_offset =
+          (stands_behind w.image w.plan is.edited is.planned).sections now.index j p x now.here at_x unloaded there some in
+          apart-before one (file_range x) (omega (arith, ends, behind))
     ]
     | inl takes ↦
         let same = same_kind w is j k x at_k at_x in
@@ -254,9 +236,9 @@ module _ (w : Output) (is : IsPlannedOutput w) (i : ℕ) (p : SegmentHeader) (po
 
   behind_apart : (x : Range) → x.start ≡ w.plan.e_shoff → (q : Patch) → range_of q ≡ x → AreApart one (range_of q)
   behind_apart x start q same =
-      let behind : now.load.p_offset + now.load.p_filesz ≤ w.plan.e_shoff =
-      (stands_behind w.image w.plan is.edited is.planned).table now.index now.load now.here in
-      subst (λ (y : Range). AreApart one y) (sym same) (apart-before one x (omega (arith, ends, behind, now.offset, now.size, start)))
+      let behind : p.p_offset + p.p_filesz ≤ w.plan.e_shoff =
+      (stands_behind w.image w.plan is.edited is.planned).table now.index p now.here in
+      subst (λ (y : Range). AreApart one y) (sym same) (apart-before one x (omega (arith, ends, behind, start)))
 
   patches_apart : Each (λ q. AreApart one (range_of q)) (patches w)
   patches_apart =
@@ -280,9 +262,9 @@ module _ (w : Output) (is : IsPlannedOutput w) (i : ℕ) (p : SegmentHeader) (po
   -- ## What was there is still there
 
   stays : does_byte_stay r position ≡ true
-  stays = and_from (list_any (λ q. has_position position (file_part q)) (loads_of r.read.segments))
+  stays = and_from (list_any (λ q. has_position position (file_part q)) (loads_of r.image.segments))
       (not (list_any (has_position position) (old_places r.read r.image)))
-      (any-from (λ q. has_position position (file_part q)) (loads_of r.read.segments) i p at inside)
+      (any-from (λ q. has_position position (file_part q)) (loads_of r.image.segments) i p at inside)
       (not_from_false (list_any (has_position position) (old_places r.read r.image)) other_parts.0)
 
   base_there : (k : ℕ) → position ≡ k → base_byte r k ≡ slice_index w.image.source k
@@ -300,10 +282,10 @@ module _ (w : Output) (is : IsPlannedOutput w) (i : ℕ) (p : SegmentHeader) (po
   abbrev address : ℕ
   address = p.p_vaddr + (position - p.p_offset)
 
-  shown_by : shows_at now.load one address ≡ true
-  shown_by = and_from (lies_in one (file_part now.load)) (eqb (address + now.load.p_offset) (now.load.p_vaddr + position))
-      (lies_in-from one (file_part now.load) (omega (arith, begins, now.offset)) (omega (arith, ends, now.offset, now.size)))
-      (eq-eqb (address + now.load.p_offset) (now.load.p_vaddr + position) (omega (arith, begins, now.offset, now.address)))
+  shown_by : shows_at p one address ≡ true
+  shown_by = and_from (lies_in one (file_part p)) (eqb (address + p.p_offset) (p.p_vaddr + position))
+      (lies_in-from one (file_part p) (omega (arith, begins)) (omega (arith, ends)))
+      (eq-eqb (address + p.p_offset) (p.p_vaddr + position) (omega (arith, begins)))
 
   seen : byte_at w.plan.segments (written_bytes w) address ≡ slice_get w.image.source position
   seen =
@@ -313,7 +295,7 @@ module _ (w : Output) (is : IsPlannedOutput w) (i : ℕ) (p : SegmentHeader) (po
       let there : slice_get (field 1 position file) 0 ≡ Some x =
       ap (λ (l : List ℕ). slice_get l 0) same_byte ∙ field-one w.image.source position in_source ∙ was in
       let placed = plans_are_placed w.image w.plan is.edited is.planned in
-      let any = any-from (λ q. shows_at q one address) (loads_of w.plan.segments) now.index now.load now.here shown_by in
+      let any = any-from (λ q. shows_at q one address) (loads_of w.plan.segments) now.index p now.here shown_by in
       let apart_there = (and_parts (addresses_apart w.plan.segments) (all_apart (map file_part (loads_of w.plan.segments))) placed.apart).0 in
       let first_place : address ≡ address + 0 = omega arith in
       ap (λ (a : ℕ). byte_at w.plan.segments file a) first_place

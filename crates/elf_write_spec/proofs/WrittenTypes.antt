@@ -12,6 +12,8 @@ use Rattle.elf_format.specs.Options.{is_one_of}
 use Rattle.elf_format.specs.Places.{Place}
 use Rattle.elf_format.specs.Rules.{single_segment_types}
 use Rattle.elf_image.specs.Edited.{AreKept, AreSegments, CanGo, kept_segment}
+use Rattle.elf_image.specs.Segments.{loads_end}
+use Rattle.elf_image.proofs.ForCallers.Unclaimed.{count_unclaimed, find_unclaimed}
 use Rattle.elf_image.specs.Segments.{added_stack}
 use Rattle.elf_layout_plan.specs.Anchors.{HeaderTable, Itself, Anchor, Notes, OneSection, is_note_in, is_over_notes, anchor_by_range, anchor_of, anchor_or_itself, notes_under, section_or_table, section_under, sharers}
 use Rattle.elf_image.specs.Kept.{KeptSection, image_at_read, interpreter_number, is_numbered, kept_of_type, kept_sections}
@@ -264,7 +266,7 @@ find-kept page_size (old ∷ olds) (p ∷ ps) type (inr (can, rest)) few =
     found-gone page_size old olds (p ∷ ps) type can few
     (find-kept page_size olds (p ∷ ps) type rest (omega (arith, few, count-cons (has_type type) old olds))) (has_type type old) refl
 
-module _ (page_size : Option ℕ) (type : ℕ) (other : (PT_GNU_STACK == type) ≡ false) where
+module _ (table : ℕ) (page_size : Option ℕ) (type : ℕ) (no_load : (PT_LOAD == type) ≡ false) (other : (PT_GNU_STACK == type) ≡ false) where
   -- what is added for the stack is of another type
   stack-none : (added : Option ℕ) → segment_of_type type (option_to_list (option_map added_stack added)) ≡ None
   stack-none None = refl
@@ -274,20 +276,25 @@ module _ (page_size : Option ℕ) (type : ℕ) (other : (PT_GNU_STACK == type) �
   or-none None = refl
   or-none (Some p) = refl
 
-  pub find-segment : (olds news : List SegmentHeader) → AreSegments page_size olds news → count_by (has_type type) olds ≤ 1
+  pub find-segment : (olds news : List SegmentHeader) → AreSegments table page_size olds news → count_by (has_type type) olds ≤ 1
       → Found page_size olds news type
   find-segment olds news all few =
+      let is_other : (p : SegmentHeader) → p.p_type ≡ PT_LOAD → has_type type p ≡ false = λ p load. ap (λ (n : ℕ). n == type) load ∙ no_load in
+      let were : segment_of_type type olds ≡ segment_of_type type all.unclaimed =
+      sym (find_unclaimed table (loads_end news) (has_type type) is_other olds all.unclaimed all.are_unclaimed) in
+      let fewer : count_by (has_type type) all.unclaimed ≤ 1 =
+      subst (λ (n : ℕ). n ≤ 1) (sym (count_unclaimed table (loads_end news) (has_type type) is_other olds all.unclaimed all.are_unclaimed)) few in
       let stack : List SegmentHeader = option_to_list (option_map added_stack all.added) in
       let same : segment_of_type type news ≡ segment_of_type type all.kept =
       ap (segment_of_type type) all.are_all ∙ find-append (has_type type) all.kept stack
       ∙ ap (option_or (segment_of_type type all.kept)) (stack-none all.added) ∙ or-none (segment_of_type type all.kept) in
-      by_found same (find-kept page_size olds all.kept type all.are_kept few)
+      by_found were same (find-kept page_size all.unclaimed all.kept type all.are_kept fewer)
     where
-      by_found : segment_of_type type news ≡ segment_of_type type all.kept → Found page_size olds all.kept type
-          → Found page_size olds news type
-      by_found same (Neither no_old none) = Neither no_old (same ∙ none)
-      by_found same (Both old p at_old at_p like) = Both old p at_old (same ∙ at_p) like
-      by_found same (Gone old at_old can none) = Gone old at_old can (same ∙ none)
+      by_found : segment_of_type type olds ≡ segment_of_type type all.unclaimed → segment_of_type type news ≡ segment_of_type type all.kept
+          → Found page_size all.unclaimed all.kept type → Found page_size olds news type
+      by_found were same (Neither no_old none) = Neither (were ∙ no_old) (same ∙ none)
+      by_found were same (Both old p at_old at_p like) = Both old p (were ∙ at_old) (same ∙ at_p) like
+      by_found were same (Gone old at_old can none) = Gone old (were ∙ at_old) can (same ∙ none)
 
 -- ## The program headers of a plan
 
@@ -315,7 +322,7 @@ all_places_are w is = ap (λ (l : Layout). l.places) is.planned.follows
 pub segment_at : (w : Output) (is : IsPlannedOutput w) (f : ReadFacts w) (type : ℕ) → (PT_LOAD == type) ≡ false
     → (PT_GNU_STACK == type) ≡ false → is_one_of single_segment_types type ≡ true → SegmentAt w is f type
 segment_at w is f type no_load no_stack single =
-    by_found (find-segment w.image.page_size type no_stack (image_at_read w.image).segments w.image.segments f.edit.segments
+    by_found (find-segment (image_at_read w.image).header.e_phoff w.image.page_size type no_load no_stack (image_at_read w.image).segments w.image.segments f.edit.segments
     (subst (λ (l : List SegmentHeader). count_by (has_type type) l ≤ 1) (sym f.holds.segments) (one_segment f.parts f.rules type single)))
   where
     were : segment_of_type type f.parts.segments ≡ segment_of_type type (image_at_read w.image).segments

@@ -40,10 +40,10 @@ old_places read image =
 abbrev pub has_position : ℕ → Range → Bool
 has_position position r = nat_le r.start position && nat_lt position (end_of r)
 
--- a loaded segment that was read has the byte, and it isn't in an old place
+-- a loaded segment that was read and is still there has the byte, and it isn't in an old place
 abbrev pub does_byte_stay : Resized → ℕ → Bool
 does_byte_stay r position =
-    list_any (λ p. has_position position (file_part p)) (loads_of r.read.segments)
+    list_any (λ p. has_position position (file_part p)) (loads_of r.image.segments)
     && not (list_any (has_position position) (old_places r.read r.image))
 
 abbrev pub base_byte : Resized → ℕ → ℕ

@@ -37,10 +37,11 @@ abbrev pub written_places : Image → List Range → List Place → List Range
 written_places image headers places =
     old_places (image_at_read image) image ++ headers ++ new_places_from (image_at_read image) (kept_sections image) places
 
--- Every other byte that a loaded segment of the read file had keeps its value and its address.
+-- Every other byte that a loaded segment of the read file had keeps its value and its address, but for spare segments, which go with the
+-- leave that the dynamic section moves.
 abbrev pub AreOthersSeen : Image → List SegmentHeader → List Range → List ℕ → Type 0
 AreOthersSeen image segments written file = (i : ℕ) (p : SegmentHeader) (position : ℕ)
-    → slice_get (loads_of (image_at_read image).segments) i ≡ Some p
+    → slice_get (loads_of image.segments) i ≡ Some p
     → IsTrue (has_position position (file_part p))
     → list_any (has_position position) written ≡ false
     → byte_at segments file (p.p_vaddr + (position - p.p_offset)) ≡ slice_get image.source position

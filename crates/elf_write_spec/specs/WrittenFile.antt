@@ -223,7 +223,7 @@ pub record IsWrittenOf (image : Image) (file : List ℕ) : Type 0 where
   pub stay : EachSection image again (λ s now.
       IsTrue (is_fixed image s && is_copied image s && is_loaded_with_bytes s.section)
       → IsSeenAt again.segments file s.section.sh_addr s.section.content)
-  -- every other byte that a loaded segment had keeps its value and its address, where nothing is written anew
+  -- every other byte that a loaded segment had which is still there keeps its value and its address, where nothing is written anew
   pub others : AreOthersSeen image again.segments
       (written_places image (file_header_of again ∷ segment_table_of again ∷ []) (places_in again)) file
   -- program headers that are still there show the notes that they showed

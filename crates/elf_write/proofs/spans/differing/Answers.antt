@@ -1,7 +1,6 @@
 use Rattle.std.proofs.Common.{◌∙◌, List, ℕ, ap, length, map, refl, sym}
 use Rattle.byte_store.specs.Composed.{made_of}
 use Rattle.byte_store.specs.Laid.{patches_of}
-use Rattle.elf_format.specs.Image.{Image}
 use Rattle.elf_image.specs.ImageModel.{segment_model}
 use Rattle.elf_layout_plan.specs.Plan.{resized}
 use Rattle.elf_write.proofs.Composing.{composed_of}
@@ -14,6 +13,6 @@ returns-clause-makes c bytes is =
     ∙ c.in_ok-difference.ensures.makes bytes
     (composed_of (resized c.args.image.now) source (length source) (map segment_model c.segments.result.now) c.deref.result.now
     c.deref-2.result.now c.deref-3.result.now (patches_of c.args.pieces.now) c.args.size bytes c.source-source.ensures.source refl
-    (c.segments.ensures ∙ ap (λ (m : Image). m.segments) c.requires.ready.at_read)
+    c.segments.ensures
     (c.deref.ensures.value ∙ c.in_ok-places.ensures) (c.deref-2.ensures.value ∙ c.in_ok-kept.ensures)
     (c.deref-3.ensures.value ∙ c.in_ok-cleared.ensures) is)
