@@ -2,8 +2,8 @@
 //!
 //! A line `= NAME ..` names the files that the lines below it speak of. Any other line but an empty one and one that
 //! begins with `#` is a row of edits, WORD or WORD=NUMBER: `path`, `name` and `interpreter` set a text of so many letters,
-//! `debug` adds an entry, `stack` sets the permission of the stack, `page` the page size. Printed is for each file whether
-//! both ways found the same.
+//! `debug` adds an entry, `stack` sets the permission of the stack, `page` the page size, `leave` lets the dynamic section move;
+//! before `again` the file is written, and read again. Printed is for each file whether both ways found the same.
 mod compared;
 mod edits;
 

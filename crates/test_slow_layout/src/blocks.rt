@@ -1,8 +1,8 @@
 //! Blocks of memory, each looked at beside each other one.
 use crate::plain::{Facts, Part, Piece, Plain};
 use elf_format::constants::{
-    SHT_DYNSYM, SHT_GNU_HASH, SHT_GNU_VERDEF, SHT_GNU_VERNEED, SHT_GNU_VERSYM, SHT_HASH, SHT_NOTE,
-    SHT_STRTAB,
+    SHT_DYNAMIC, SHT_DYNSYM, SHT_GNU_HASH, SHT_GNU_VERDEF, SHT_GNU_VERNEED, SHT_GNU_VERSYM,
+    SHT_HASH, SHT_NOTE, SHT_STRTAB,
 };
 use std::alloc::{AllocError, Global};
 
@@ -89,6 +89,7 @@ fn priority_of(facts: &Facts, part: &Part) -> u8 {
         SHT_NOTE | SHT_DYNSYM | SHT_HASH | SHT_GNU_HASH => true,
         SHT_GNU_VERSYM | SHT_GNU_VERDEF | SHT_GNU_VERNEED => true,
         SHT_STRTAB => matches!(facts.strings, Some(it) if it == part.number),
+        SHT_DYNAMIC => facts.moves_dynamic,
         _ => false,
     };
     if matches!(facts.interpreter, Some(it) if it == part.number) {
@@ -100,22 +101,16 @@ fn priority_of(facts: &Facts, part: &Part) -> u8 {
     }
 }
 
-/// The section was empty, and what it is to hold can't stand where it stood, where anything is loaded.
+/// What the section is to hold can't stand where it stood, where anything is loaded: nothing shows the bytes that it had there, or,
+/// where it was empty, those that it gets.
 fn is_stray(plain: &Plain, part: &Part) -> bool {
-    if !part.is_in_file() || part.old != 0 || part.size == 0 {
+    if !part.is_in_file() || part.size == 0 {
         return false;
     }
-    let is_in_header = part.offset < plain.facts.file_header;
-    let mut is_any_loaded = false;
-    for piece in &plain.pieces {
-        if piece.is_loaded() {
-            if !is_in_header && piece.shows(part.offset, part.size, part.address) {
-                return false;
-            }
-            is_any_loaded = true;
-        }
-    }
-    is_any_loaded
+    let is_in_header = part.old == 0 && part.offset < plain.facts.file_header;
+    let size = if part.old == 0 { part.size } else { part.old };
+    let is_any_loaded = plain.pieces.iter().any(|piece| piece.is_loaded());
+    is_any_loaded && (is_in_header || !plain.shows(part.offset, size, part.address))
 }
 
 /// The block of a section.

@@ -133,6 +133,18 @@ pub struct Plain {
     pub(crate) facts: Facts,
 }
 
+impl Plain {
+    /// Some loaded segment of the edited image has a range, and shows it at the address.
+    pub(crate) fn shows(&self, offset: u128, size: u128, address: u128) -> bool {
+        for piece in &self.pieces {
+            if piece.is_loaded() && piece.shows(offset, size, address) {
+                return true;
+            }
+        }
+        false
+    }
+}
+
 /// What else is asked of an image.
 #[derive(Clone, Copy)]
 pub(crate) struct Facts {
@@ -152,6 +164,8 @@ pub(crate) struct Facts {
     pub(crate) interpreter: Option<usize>,
     /// The number of the dynamic strings.
     pub(crate) strings: Option<usize>,
+    /// The dynamic section may move.
+    pub(crate) moves_dynamic: bool,
 }
 
 fn part_of(section: &Section<'_>, position: usize, number: usize, size: u64) -> Part
@@ -266,6 +280,7 @@ fn facts_of(image: &Builder<'_>, interpreter: Option<usize>, strings: Option<usi
         source_size: image.source().len() as u128,
         interpreter,
         strings,
+        moves_dynamic: image.may_dynamic_move(),
     }
 }
 

@@ -89,7 +89,8 @@ fn memory_end(plain: &Plain) -> u128 {
         }
     }
     for part in &plain.parts {
-        if part.takes_memory() && part.old != 0 {
+        let is_left = part.is_in_file() && !plain.shows(part.offset, part.old, part.address);
+        if part.takes_memory() && part.old != 0 && !is_left {
             end = part.address.saturating_add(part.old).max(end);
         }
     }

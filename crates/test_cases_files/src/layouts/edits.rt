@@ -3,17 +3,49 @@ use crate::layouts::compared::compare_image;
 use elf_commands::files::{ElfError, Writer};
 use std::alloc::{AllocError, Global};
 
-/// Edits a file by words, and lays it out both ways.
+/// Edits a file by words, and lays it out both ways. Before each word `again` the file is written, and read again.
 pub(crate) fn compare(
     alloc: Global,
     bytes: &[u8],
     words: &str,
 ) -> Result<&'static str, AllocError> {
+    let (before, last) = words.rsplit_once(" again ").unwrap_or(("", words));
+    if before.is_empty() {
+        return compare_once(alloc, bytes, last);
+    }
+    match write_all(alloc, bytes, before)? {
+        Some(bytes) => compare_once(alloc, &bytes, last),
+        None => Ok("not written"),
+    }
+}
+
+/// Edits a file by words, and lays it out both ways.
+fn compare_once(alloc: Global, bytes: &[u8], words: &str) -> Result<&'static str, AllocError> {
     match Writer::read(alloc, bytes) {
         Ok(mut file) => edit_and_compare(alloc, &mut file, words),
         Err(ElfError::Memory) => Err(AllocError),
         Err(_) => Ok("not read"),
     }
+}
+
+/// The bytes of a file after edits by words, written before each word `again` and at the end; `None` where it isn't written.
+fn write_all(alloc: Global, bytes: &[u8], words: &str) -> Result<Option<Vec<u8>>, AllocError> {
+    let mut file = Vec::from_slice(alloc, bytes)?;
+    for part in words.split(" again ") {
+        match write_once(alloc, &file, part) {
+            Ok(written) => file = written,
+            Err(ElfError::Memory) => return Err(AllocError),
+            Err(_) => return Ok(None),
+        }
+    }
+    Ok(Some(file))
+}
+
+/// The bytes of a file after edits by words.
+fn write_once(alloc: Global, bytes: &[u8], words: &str) -> Result<Vec<u8>, ElfError> {
+    let mut file = Writer::read(alloc, bytes)?;
+    edit_all(alloc, &mut file, words)?;
+    file.image_bytes(alloc)
 }
 
 /// Does the edits that are words, and lays the file out both ways.
@@ -43,6 +75,10 @@ fn edit(alloc: Global, file: &mut Writer<'_>, word: &str) -> Result<(), ElfError
     match name {
         "debug" => file.elf_add_dynamic_debug(alloc),
         "stack" => file.elf_set_exec_stack(alloc),
+        "leave" => {
+            file.allow_dynamic_move();
+            Ok(())
+        }
         "page" => file.elf_set_page_size(number),
         _ => set_letters(alloc, file, name, number),
     }
