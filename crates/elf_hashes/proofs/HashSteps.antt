@@ -91,10 +91,6 @@ unfolding hashed_names
 own-behind hash [] found some is = absurd (omega (arith, some))
 own-behind hash (y ∷ ys) found some is = ap (λ l. None ∷ drop 1 l) is ∙ ap (λ l. None ∷ l) (sym (map-twice (option_map hash) found_name ys))
 
--- what is made of the symbol there
-pub made-at : {X Y : Type 0} (f : X → Y) (xs : List X) (i : ℕ) (x : X) (y : Y) → slice_get xs i ≡ Some x → y ≡ f x → slice_get (map f xs) i ≡ Some y
-made-at {X} {Y} f xs i x y at is = slice_get-map f xs i ∙ ap (option_map f) at ∙ ap (λ (z : Y). Some z) (sym is)
-
 -- a part of what stands there is a part of something
 pub with_part : {X Y : Type 0} (f : X → Y) (o : Option X) (t : Y) → option_map f o ≡ Some t → (x : X) × (o ≡ Some x) × (f x ≡ t)
 with_part f None t is = absurd (none-some t is)

@@ -1,15 +1,13 @@
 //! The hashes of symbols that look-ups find.
-ghost use Rattle.std.specs.Prelude.{◌≡◌, ◌<◌, ◌++◌, ◌∷◌, All, None as none, drop, length, option_map, slice_get, IfOk, OnOk};
+ghost use Rattle.std.specs.Prelude.{◌≡◌, ◌<◌, ◌++◌, ◌∷◌, All, None as none, Some, drop, length, option_map, slice_get, IfOk, OnOk};
 ghost use Rattle.std.specs.List.{filter_map};
 ghost use Rattle.elf_format.specs.Hashes.{gnu_hash as gnu_hash_of};
-ghost use Rattle.elf_image_symbols.specs.SymbolModel.{symbol_model};
 ghost use Rattle.elf_image_symbol_edits.specs.Loan.{symbols_now};
 ghost use Rattle.elf_hashes.specs.Buckets.{hashes_of};
-ghost use Rattle.elf_hashes.specs.Found.{ArePlaces, found_hashes as hashes_found, found_name, hashed_names, in_order, is_found as is_symbol_found, is_local as is_symbol_local};
+ghost use Rattle.elf_hashes.specs.Found.{ArePlaces, found_hashes as hashes_found, found_name, hashed_names, in_order, is_found as is_symbol_found};
 ghost use Rattle.elf_hashes.specs.Steps.{hash_by};
 
 use elf_image_symbol_edits::SymbolsNow;
-use elf_image_symbols::Symbol;
 use elf_tables::{gnu_hash, sysv_hash};
 use std::alloc::{AllocError, Global};
 
@@ -32,26 +30,25 @@ fn hash_of(hashing: Hashing, name: &[u8]) -> u32
     }
 }
 
-// Whether other files don't see a symbol.
-fn is_local(symbol: &Symbol<'_>) -> bool
-    ensures { result ≡ is_symbol_local (symbol_model symbol.now) }
+// Whether a look-up may find the symbol at a position: it is defined, and not local. Its name isn't looked at.
+#[inline(always)]
+fn is_found(symbols: SymbolsNow<'_>, i: usize) -> bool
+    requires { i < length (symbols_now symbols) }
+    ensures { option_map is_symbol_found (slice_get (symbols_now symbols.entry) i) ≡ Some result }
 {
-    symbol.st_info / 16 == 0
+    let numbers = symbols.numbers(i, 0);
+    numbers.st_shndx != 0 && numbers.st_info / 16 != 0
 }
 
-// Whether a look-up may find a symbol: it is defined, and not local.
-fn is_found(symbol: &Symbol<'_>) -> bool
-    ensures { result ≡ is_symbol_found (symbol_model symbol.now) }
+// The hash by which a look-up finds the symbol at a position. No other name is looked at.
+#[inline(always)]
+fn found_hash(hashing: Hashing, symbols: SymbolsNow<'_>, i: usize) -> Option<u32>
+    requires { i < length (symbols_now symbols) }
+    ensures { option_map (λ y. option_map (hash_by hashing) (found_name y))
+        (slice_get (symbols_now symbols.entry) i) ≡ Some result }
 {
-    symbol.st_shndx != 0 && !is_local(symbol)
-}
-
-// The hash by which a look-up finds a symbol.
-fn found_hash(hashing: Hashing, symbol: &Symbol<'_>) -> Option<u32>
-    ensures { result ≡ option_map (hash_by hashing) (found_name (symbol_model symbol.now)) }
-{
-    if is_found(symbol) {
-        Some(hash_of(hashing, symbol.name))
+    if is_found(symbols, i) {
+        Some(hash_of(hashing, symbols.name(i)))
     } else {
         None
     }
@@ -68,8 +65,7 @@ pub(crate) fn found_hashes(
 {
     let mut hashes = Vec::with_capacity(alloc, symbols.len())?;
     for i in 0..symbols.len() {
-        let symbol = symbols.get(i);
-        hashes.push(found_hash(hashing, &symbol))?;
+        hashes.push(found_hash(hashing, symbols, i))?;
     }
     Ok(hashes)
 }
