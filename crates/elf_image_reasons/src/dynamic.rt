@@ -1,5 +1,5 @@
 // What contradicts a rule on the dynamic section, the interpreter, or the tables and texts of the dynamic list.
-ghost use Rattle.std.specs.Prelude.{◌≡◌, ◌≤◌, ◌==◌, IfOk, is_some, length, position};
+ghost use Rattle.std.specs.Prelude.{◌≡◌, ◌≤◌, ◌==◌, is_some, length, position};
 ghost use Rattle.elf_format.specs.declared.constants.TheConstants.{PT_DYNAMIC as DYNAMIC_SEGMENT};
 ghost use Rattle.patch_bytes.specs.Memory.{memory_of};
 ghost use Rattle.elf_format.specs.Dynamic.{shown_entry};
@@ -11,12 +11,10 @@ use elf_format::constants::{PT_DYNAMIC, PT_INTERP, SHT_DYNAMIC};
 use elf_format::entries::show_entry;
 use elf_format::lookups::{section_of_type, segment_of_type};
 use elf_format::records::{EntryNumbers, SectionHeader, SegmentHeader};
-use elf_format::view_fault::ViewFault;
 use elf_image_details::detail::{Detail, Piece};
 use elf_image_flaws::links::place_of_type;
 use elf_image_rules::headers::Headers;
 use elf_image_versions::texts::dynamic_texts;
-use std::alloc::AllocError;
 
 // PT_DYNAMIC and the dynamic section, where they stand at different places.
 fn apart_detail(segment: SegmentHeader, section: SectionHeader) -> Option<Detail>
@@ -91,51 +89,36 @@ pub(crate) fn interpreter_detail(segments: &[SegmentHeader]) -> Option<Detail>
 }
 
 // Whether the text of a dynamic entry is there.
-fn has_text(room: usize, texts: &[u8], entry: EntryNumbers) -> Result<bool, AllocError>
+fn has_text(room: usize, texts: &[u8], entry: EntryNumbers) -> bool
     requires { length texts.now ≤ room }
-    ensures { IfOk result (λ there.
-        there ≡ is_some (shown_entry room (memory_of texts.now) entry)) }
+    ensures { result ≡ is_some (shown_entry room (memory_of texts.now) entry) }
 {
-    match show_entry(room, texts, entry) {
-        Ok(_) => Ok(true),
-        Err(ViewFault::Absent) => Ok(false),
-        Err(ViewFault::Memory) => Err(AllocError),
-    }
+    show_entry(room, texts, entry).is_ok()
 }
 
 // The first of some entries whose text isn't there.
-fn first_without_text(
-    room: usize,
-    texts: &[u8],
-    raw: &[EntryNumbers],
-) -> Result<Option<Detail>, AllocError>
+fn first_without_text(room: usize, texts: &[u8], raw: &[EntryNumbers]) -> Option<Detail>
     requires { length texts.now ≤ room }
-    ensures { IfOk result (λ answer.
-        answer ≡ without_text_by room (memory_of texts.now) raw.now) }
+    ensures { result ≡ without_text_by room (memory_of texts.now) raw.now }
 {
     for entry in raw {
-        if !has_text(room, texts, *entry)? {
-            return Ok(Some(Detail::Text {
+        if !has_text(room, texts, *entry) {
+            return Some(Detail::Text {
                 tag: entry.d_tag,
                 value: entry.d_value,
-            }));
+            });
         }
     }
-    Ok(None)
+    None
 }
 
 // The first dynamic entry whose text isn't there.
 #[tactic(auto, unfolding(crate::specs::Details::text_detail))]
-pub(crate) fn text_detail(
-    parts: &Headers<'_>,
-    raw: &[EntryNumbers],
-) -> Result<Option<Detail>, AllocError>
+pub(crate) fn text_detail(parts: &Headers<'_>, raw: &[EntryNumbers]) -> Option<Detail>
     requires { raw.now ≡ entries_of (parts_model parts.now) }
-    ensures { IfOk result (λ answer. answer ≡ text_by (parts_model parts.now)) }
+    ensures { result ≡ text_by (parts_model parts.now) }
 {
-    let Some(list) = section_of_type(&parts.sections, SHT_DYNAMIC) else {
-        return Ok(None);
-    };
+    let list = section_of_type(&parts.sections, SHT_DYNAMIC)?;
     let texts = dynamic_texts(parts, raw, list);
     first_without_text(parts.file.len(), texts, raw)
 }

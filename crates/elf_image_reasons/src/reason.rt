@@ -79,7 +79,7 @@ fn texts_detail(
     requires { raw.now ≡ entries_of (parts_model parts.now) }
     ensures { IfOk result (λ answer. answer ≡ joint_by Rule.Texts (parts_model parts.now)) }
 {
-    let entry = text_detail(parts, raw)?;
+    let entry = text_detail(parts, raw);
     let other = broken_texts(alloc, parts, raw)?;
     Ok(first_there(entry, flawed(other)))
 }

@@ -1,5 +1,6 @@
-ghost use Rattle.std.specs.Prelude.{◌≡◌, option_map};
+ghost use Rattle.std.specs.Prelude.{◌≡◌, IfErr, option_map};
 ghost use Rattle.elf_format.specs.declared.constants.TheConstants.{PT_DYNAMIC as DYNAMIC_SEGMENT};
+ghost use Rattle.elf_format.specs.declared.view_fault.ViewFault.TheVariants.{Absent};
 ghost use Rattle.elf_format.specs.File.{segment_of_type as first_segment};
 ghost use Rattle.elf_format.specs.Answers.{Gives, borrowed};
 ghost use Rattle.test_elf_plain.specs.PlainViews.{holds_symbol_size, loaded_by_dynamic, loaded_interpreter_of, outline_model, view_model};
@@ -23,7 +24,9 @@ fn loaded_interpreter<'a>(
     file: &'a [u8],
     segments: &[SegmentHeader],
 ) -> Result<Option<&'a [u8]>, ViewFault>
-    ensures { Gives (option_map borrowed) result (loaded_interpreter_of file.now segments.now) }
+    ensures shown { Gives (option_map borrowed) result
+        (loaded_interpreter_of file.now segments.now) }
+    ensures absent { IfErr result (λ fault. fault ≡ Absent) }
 {
     let Some(segment) = segment_of_type(segments, PT_INTERP) else {
         return Ok(None);

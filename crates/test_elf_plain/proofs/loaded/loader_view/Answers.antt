@@ -22,7 +22,7 @@ pub returns-in_err-loaded_interpreter : goal.returns-in_err-loaded_interpreter
 returns-in_err-loaded_interpreter c =
     let p = err_from_is_err_and c.from_residual-in_err-loaded_interpreter.result c.from_residual-in_err-loaded_interpreter.ensures.1 in
     rw (p.1, p.2) (loader_fails_interpreter c.args.file.now c.args.symbol_count c.in_err-loaded_interpreter.field-0.0 (opened_model c.args.file.now (c.in_ok-form.form, c.in_ok-form.header))
-    c.in_ok-segments.segments.items c.deref-2.result.now c.in_ok-form.ensures.shown c.in_ok-segments.ensures c.deref-2.ensures.value c.in_err-loaded_interpreter.ensures)
+    c.in_ok-segments.segments.items c.deref-2.result.now c.in_ok-form.ensures.shown c.in_ok-segments.ensures c.deref-2.ensures.value c.in_err-loaded_interpreter.ensures.shown)
 
 pub returns : goal.returns
 returns c =
@@ -31,6 +31,6 @@ returns c =
     c.in_ok-form.ensures.shown c.in_ok-segments.ensures
     c.stack_flags.result (c.stack_flags.ensures ∙ ap flags_of_stack c.deref.ensures.value)
     c.deref-2.result.now c.deref-2.ensures.value
-    (option_map borrowed c.in_ok-loaded_interpreter.field-0) c.in_ok-loaded_interpreter.ensures
+    (option_map borrowed c.in_ok-loaded_interpreter.field-0) c.in_ok-loaded_interpreter.ensures.shown
     c.deref-3.result.now c.deref-3.ensures.value))
     c.show_loaded.ensures
