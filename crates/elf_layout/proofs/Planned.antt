@@ -5,7 +5,7 @@ use Rattle.elf_layout_plan.specs.declared.fault.LayoutFault.{LayoutFault}
 use Rattle.elf_layout_plan.specs.declared.fault.LayoutFault.TheVariants as faults
 use Rattle.elf_layout_plan.specs.Memory.{Resized}
 use Rattle.elf_layout_plan.specs.Plan.{IsOverlapping, IsPlan, IsTooLarge, Layout, most_added, resized}
-use Rattle.elf_layout_plan.specs.Refusals.{IsNoPlan, IsStuckAsked}
+use Rattle.elf_layout_plan.specs.Refusals.{AreNoSizes, IsNoPlan, IsStuckAsked}
 use Rattle.elf_layout_plan.specs.Rounds.{IsAsked}
 use Rattle.elf_layout_plan.proofs.ForCallers.RoundLaws.{rounds_are_asked, rounds_end}
 use Rattle.elf_layout_moves.specs.Inner.{IsResized}
@@ -35,6 +35,12 @@ pub stuck_asked : (image : Image) (fault : LayoutFault) → IsNoPlan image fault
 stuck_asked image faults.Overlap p same = record { looked = p.looked; asked = rounds_are_asked (resized image) p.before p.looked p.lead; stuck = p.stuck }
 stuck_asked image faults.NumberTooLarge p same = let never : ⊥ = cc same in absurd never
 stuck_asked image faults.Memory p same = let never : ⊥ = cc same in absurd never
+
+-- sizes are never refused as overlapping
+pub no_sizes_asked : (image : Image) (fault : LayoutFault) → AreNoSizes image fault → fault ≡ faults.Overlap → IsStuckAsked (resized image)
+no_sizes_asked image faults.Overlap never same = absurd never
+no_sizes_asked image faults.NumberTooLarge p same = let never : ⊥ = cc same in absurd never
+no_sizes_asked image faults.Memory p same = let never : ⊥ = cc same in absurd never
 
 pub asked_by_plan : (r : Resized) (plan : Layout) → IsPlan r plan → IsAsked r plan.looked
 asked_by_plan r plan p = rounds_are_asked r p.before plan.looked p.ended.lead

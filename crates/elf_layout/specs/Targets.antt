@@ -1,4 +1,4 @@
--- Where a program header goes, anchor_position by where sections begin and by their positions.
+-- Where a program header goes, told by where sections begin and by their positions.
 use Rattle.std.specs.Prelude.{ℕ, ◌≡◌, ◌-◌, ◌^◌, List, [], ◌∷◌, ◌++◌, map, IsPermutation, Bool, true, false, ◌&&◌, Option, Some, None, nat_lt, ◌==◌, if◌then◌else◌}
 use Rattle.std.specs.List.{list_all, slice_get}
 use Rattle.std.specs.Option.{option_map, option_to_list}
@@ -48,7 +48,7 @@ span_over all part begins = span_of all (joined_all (map (reach_in all part) beg
 abbrev pub target_of_span : Span → Target
 target_of_span s = record { part = range s.first.sh_offset (s.end - s.first.sh_offset); address = address_in_memory s.first }
 
--- ## Of a anchor
+-- ## Of an anchor
 
 -- where sections with bytes begin, those that stay and those that move
 pub record Begins : Type 0 where

@@ -194,6 +194,11 @@ pub fn lay_out_from_sizes<'data>(
     ensures plan { IfOk result (λ plan. IsPlan (resized image.now) plan) }
     ensures promises { IfOk result (λ plan. IsPromised image.now plan) }
     ensures fault { IfErr result (IsNoPlan image.now) }
+
+    ensures stuck { IfErr result (λ fault.
+        fault ≡ Overlap → IsStuckAsked (resized image.now)) }
+    ensures asked { IfOk result (λ plan. IsAsked (resized image.now) plan.looked) }
+    ensures rounds { IfOk result (λ plan. plan.rounds ≤ most_added image.now + 1) }
 {
     let plan = plan_from(alloc, read, image, sizes)?;
     Ok(promised(image, plan))
@@ -210,6 +215,11 @@ pub fn lay_out_from_read<'data>(
     ensures fit { OnOk result (IsTrue (do_sizes_of_image_fit image.now)) }
     ensures promises { IfOk result (λ plan. IsPromised image.now plan) }
     ensures fault { IfErr result (IsNoLayout image.now) }
+
+    ensures stuck { IfErr result (λ fault.
+        fault ≡ Overlap → IsStuckAsked (resized image.now)) }
+    ensures asked { IfOk result (λ plan. IsAsked (resized image.now) plan.looked) }
+    ensures rounds { IfOk result (λ plan. plan.rounds ≤ most_added image.now + 1) }
 {
     let sizes = new_sizes_of(alloc, read, image)?;
     let plan = plan_from(alloc, read, image, &sizes)?;
@@ -224,6 +234,11 @@ pub fn lay_out(alloc: Global, image: &Builder<'_>) -> Result<Plan, LayoutFault>
     ensures fit { OnOk result (IsTrue (do_sizes_of_image_fit image.now)) }
     ensures promises { IfOk result (λ plan. IsPromised image.now plan) }
     ensures fault { IfErr result (IsNoLayout image.now) }
+
+    ensures stuck { IfErr result (λ fault.
+        fault ≡ Overlap → IsStuckAsked (resized image.now)) }
+    ensures asked { IfOk result (λ plan. IsAsked (resized image.now) plan.looked) }
+    ensures rounds { IfOk result (λ plan. plan.rounds ≤ most_added image.now + 1) }
 {
     let read = read_source(alloc, image)?;
     lay_out_from_read(alloc, &read, image)

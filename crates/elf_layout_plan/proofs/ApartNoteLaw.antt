@@ -15,7 +15,7 @@ use Rattle.elf_format.specs.Ranges.{apart, lies_in, range}
 use Rattle.elf_layout_plan.specs.Added.{added_loads}
 use Rattle.elf_layout_plan.specs.Apart.{are_notes_shown, did_show_note, is_for_notes, is_loaded_note, is_note_shown, is_shown_by, shows_its_notes, shows_place}
 use Rattle.elf_layout_plan.specs.ApartLaws.{PlansShowNotes}
-use Rattle.elf_layout_plan.specs.Anchors.{Itself, Anchor, Notes, OneSection, has_bytes, is_just_over, is_loaded_section, is_moved, is_note_in, is_over_notes, anchor_by_range, anchor_of, anchor_or_itself, moved_notes, notes_under, section_or_table, section_under, sharers, shares_bytes, staying_notes}
+use Rattle.elf_layout_plan.specs.Anchors.{Itself, Anchor, Notes, OneSection, has_bytes, is_just_over, is_loaded_section, is_moved, is_note_in, is_over_notes, anchor_by_range, anchor_of, anchor_or_itself, does_relro_stay, moved_notes, notes_under, section_or_table, section_under, sharers, shares_bytes, staying_notes}
 use Rattle.elf_image.specs.Kept.{KeptSection, interpreter_number, is_numbered, kept_of_type, kept_sections, place_at_read}
 use Rattle.elf_layout_plan.specs.Memory.{Resized, sized_sections}
 use Rattle.elf_layout_plan.specs.Plan.{Layout, layout_for, resized}
@@ -121,6 +121,7 @@ module _ (r : Resized) (facts : AreFacts r) (moved : List ℕ) where
       else if type == PT_PHDR then section_or_table (section_under r p)
       else if type == PT_DYNAMIC then anchor_or_itself (kept_of_type SHT_DYNAMIC r.image)
       else if type == PT_INTERP then anchor_or_itself (find (is_numbered (interpreter_number r.read)) (kept_sections r.image))
+      else if does_relro_stay r.image.moves_dynamic type then Itself
       else anchor_by_range r p
 
   kind_is : (p : SegmentHeader) → anchor_of r p ≡ kind p p.p_type

@@ -1,7 +1,7 @@
 -- Which program headers follow sections: where these go, the program header goes.
 use Rattle.std.specs.Prelude.{ℕ, List, [], ◌∷◌, length, map, filter, find, Bool, true, false, ◌&&◌, not, Option, Some, None, nat_le, ◌==◌, if◌then◌else◌}
 use Rattle.std.specs.List.{list_all, list_any}
-use Rattle.elf_format.specs.declared.constants.TheConstants.{PT_DYNAMIC, PT_GNU_PROPERTY, PT_INTERP, PT_LOAD, PT_NOTE, PT_PHDR, SHT_DYNAMIC, SHT_NOTE}
+use Rattle.elf_format.specs.declared.constants.TheConstants.{PT_DYNAMIC, PT_GNU_PROPERTY, PT_GNU_RELRO, PT_INTERP, PT_LOAD, PT_NOTE, PT_PHDR, SHT_DYNAMIC, SHT_NOTE}
 use Rattle.elf_format.specs.Image.{ImageSection}
 use Rattle.elf_format.specs.Options.{first_there, is_one_of}
 use Rattle.elf_format.specs.Placement.{file_part}
@@ -83,6 +83,12 @@ anchor_by_range r p =
     else if is_over_notes r p then Notes (notes_under r p)
     else anchor_or_itself (section_under r p)
 
+-- Where the dynamic section has leave to move, a PT_GNU_RELRO keeps its range, whatever section it is just over. Linkers round its size
+-- in memory up to a page, of up to 64 KiB: where the section goes, it could reach past what is loaded, and a loader that makes it
+-- read-only would fail. Where it stands, it is loaded as it was.
+abbrev pub does_relro_stay : Bool → ℕ → Bool
+does_relro_stay moves_dynamic type = type == PT_GNU_RELRO && moves_dynamic
+
 -- What a program header of the image goes by.
 unfoldable pub anchor_of : Resized → SegmentHeader → Anchor
 anchor_of r p =
@@ -90,6 +96,7 @@ anchor_of r p =
     else if p.p_type == PT_PHDR then section_or_table (section_under r p)
     else if p.p_type == PT_DYNAMIC then anchor_or_itself (kept_of_type SHT_DYNAMIC r.image)
     else if p.p_type == PT_INTERP then anchor_or_itself (find (is_numbered (interpreter_number r.read)) (kept_sections r.image))
+    else if does_relro_stay r.image.moves_dynamic p.p_type then Itself
     else anchor_by_range r p
 
 -- ## Which of them move

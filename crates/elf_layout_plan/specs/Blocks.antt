@@ -12,7 +12,7 @@ pub record Block : Type 0 where
   pub priority : ℕ
   -- the position of the section whose it is
   pub section : Option ℕ
-  -- it was empty, and what it is to hold can't stand where it stood
+  -- what it is to hold can't stand where it stood: it was empty, or lost the loaded segment that it stood in
   pub is_stray : Bool
   -- it marks the start of a loaded segment
   pub is_load_start : Bool

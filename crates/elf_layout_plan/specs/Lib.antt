@@ -16,6 +16,7 @@ pub mod Plan
 pub mod RowParts
 pub mod SmallRows
 pub mod AgainRows
+pub mod RelroRows
 pub mod Rows
 pub mod Apart
 pub mod Refusals

@@ -1,5 +1,6 @@
 //! Small images, edited, and where everything of them goes. The functions do nothing: the contract of each is computed.
 ghost use Rattle.elf_layout_plan.specs.AgainRows.{AgainRows};
+ghost use Rattle.elf_layout_plan.specs.RelroRows.{RelroRows};
 ghost use Rattle.elf_layout_plan.specs.Rows.{HighRows, NoteRows, StartRows, TableRows};
 ghost use Rattle.elf_layout_plan.specs.SmallRows.{SectionRows, SmallRows};
 
@@ -26,6 +27,11 @@ pub fn section_rows()
 /// A library that was edited before, and one at the end of memory.
 pub fn again_rows()
     ensures { AgainRows }
+{}
+
+/// A library whose dynamic section moves, and whose PT_GNU_RELRO stays.
+pub fn relro_rows()
+    ensures { RelroRows }
 {}
 
 /// Several notes under one program header, some of which move.

@@ -1,4 +1,4 @@
--- What a program header goes by, anchor_position by the numbers of sections, is its anchor.
+-- What a program header goes by, told by the positions of sections, is its anchor.
 use Rattle.std.proofs.Common.{◌≡◌, ℕ, zero, suc, ◌+◌, ◌<◌, Bool, true, false, ◌&&◌, ◌||◌, cond, List, ◌∷◌, map, length, get_or, refl, sym, ap, ◌∙◌, subst, Option, Some, None, Ok, Err, All, option_map, arith, []}
 use Rattle.std.specs.Prelude.{count_by, filter, find, if◌then◌else◌, nat_le, slice_index, ◌==◌}
 use Rattle.std.specs.List.{list_all, slice_get}
@@ -20,7 +20,7 @@ use Rattle.elf_image.specs.Edited.{IsEdited}
 use Rattle.elf_image.specs.ImageModel.{segment_model}
 use Rattle.elf_image.proofs.ForCallers.LookupSteps.{find-map}
 use Rattle.elf_image.proofs.ForCallers.ReadImageLaws.{read_images_hold_parts}
-use Rattle.elf_layout_plan.specs.Anchors.{Itself, Anchor, Notes, is_loaded_section, is_note_in, is_over_notes, anchor_of, anchor_or_itself, notes_under, section_or_table, section_under, sharers, shares_bytes}
+use Rattle.elf_layout_plan.specs.Anchors.{Itself, Anchor, Notes, is_loaded_section, is_note_in, is_over_notes, anchor_of, anchor_or_itself, does_relro_stay, notes_under, section_or_table, section_under, sharers, shares_bytes}
 use Rattle.elf_image.specs.Kept.{KeptSection, interpreter_number, is_numbered, kept_from, kept_of_type, kept_sections, place_at_read}
 use Rattle.elf_layout_plan.specs.Memory.{Resized}
 use Rattle.elf_layout_segments.specs.declared.sections.SectionAt.{SectionAt}
@@ -295,24 +295,25 @@ pub anchor_position-is : (r : Resized) (p : SegmentHeader) → anchor_position_o
 unfolding anchor_position_of anchor_position_by_range is_over_notes_at anchor_of
 anchor_position-is r p =
     let xs : List KeptSection = kept_sections r.image in
-    by_type (p.p_type == PT_LOAD) (p.p_type == PT_PHDR) (p.p_type == PT_DYNAMIC) (p.p_type == PT_INTERP) (p.p_filesz == 0)
+    by_type (p.p_type == PT_LOAD) (p.p_type == PT_PHDR) (p.p_type == PT_DYNAMIC) (p.p_type == PT_INTERP) (does_relro_stay r.image.moves_dynamic p.p_type) (p.p_filesz == 0)
     (is_one_of (PT_NOTE ∷ PT_GNU_PROPERTY ∷ []) p.p_type && are_notes_in p (indexed_sections r.read)) (is_over_notes r p) (over_notes r p)
     _ _ _ _ (section_or_table (section_under r p)) (anchor_or_itself (kept_of_type SHT_DYNAMIC r.image)) (anchor_or_itself (find (is_numbered (interpreter_number r.read)) xs)) (anchor_or_itself (section_under r p)) (notes_under r p)
     (table_or_under r p) (first_found p (OfType SHT_DYNAMIC) xs) (position_by_number p (interpreter_number r.read) xs) (anchored_under r p)
   where
-    by_type : (loaded phdr dynamic interpreter empty a b : Bool) → a ≡ b → (t x y under_it : AnchorPosition) (ot ox oy over_it : Anchor) (ks : List KeptSection)
+    by_type : (loaded phdr dynamic interpreter stays empty a b : Bool) → a ≡ b → (t x y under_it : AnchorPosition) (ot ox oy over_it : Anchor) (ks : List KeptSection)
         → t ≡ anchor_position p ot → x ≡ anchor_position p ox → y ≡ anchor_position p oy → under_it ≡ anchor_position p over_it
-        → (if loaded then itself else if phdr then t else if dynamic then x else if interpreter then y else if empty then itself else if a then notes (file_part p) else under_it)
-        ≡ anchor_position p (if loaded then Itself else if phdr then ot else if dynamic then ox else if interpreter then oy else if empty then Itself else if b then Notes ks else over_it)
-    by_type true phdr dynamic interpreter empty a b e t x y under_it ot ox oy over_it ks et ex ey eu = refl
-    by_type false true dynamic interpreter empty a b e t x y under_it ot ox oy over_it ks et ex ey eu = et
-    by_type false false true interpreter empty a b e t x y under_it ot ox oy over_it ks et ex ey eu = ex
-    by_type false false false true empty a b e t x y under_it ot ox oy over_it ks et ex ey eu = ey
-    by_type false false false false true a b e t x y under_it ot ox oy over_it ks et ex ey eu = refl
-    by_type false false false false false true true e t x y under_it ot ox oy over_it ks et ex ey eu = refl
-    by_type false false false false false true false e t x y under_it ot ox oy over_it ks et ex ey eu = absurd (true≢false e)
-    by_type false false false false false false true e t x y under_it ot ox oy over_it ks et ex ey eu = absurd (true≢false (sym e))
-    by_type false false false false false false false e t x y under_it ot ox oy over_it ks et ex ey eu = eu
+        → (if loaded then itself else if phdr then t else if dynamic then x else if interpreter then y else if stays then itself else if empty then itself else if a then notes (file_part p) else under_it)
+        ≡ anchor_position p (if loaded then Itself else if phdr then ot else if dynamic then ox else if interpreter then oy else if stays then Itself else if empty then Itself else if b then Notes ks else over_it)
+    by_type true phdr dynamic interpreter stays empty a b e t x y under_it ot ox oy over_it ks et ex ey eu = refl
+    by_type false true dynamic interpreter stays empty a b e t x y under_it ot ox oy over_it ks et ex ey eu = et
+    by_type false false true interpreter stays empty a b e t x y under_it ot ox oy over_it ks et ex ey eu = ex
+    by_type false false false true stays empty a b e t x y under_it ot ox oy over_it ks et ex ey eu = ey
+    by_type false false false false true empty a b e t x y under_it ot ox oy over_it ks et ex ey eu = refl
+    by_type false false false false false true a b e t x y under_it ot ox oy over_it ks et ex ey eu = refl
+    by_type false false false false false false true true e t x y under_it ot ox oy over_it ks et ex ey eu = refl
+    by_type false false false false false false true false e t x y under_it ot ox oy over_it ks et ex ey eu = absurd (true≢false e)
+    by_type false false false false false false false true e t x y under_it ot ox oy over_it ks et ex ey eu = absurd (true≢false (sym e))
+    by_type false false false false false false false false e t x y under_it ot ox oy over_it ks et ex ey eu = eu
 
 pub map_same : {A B : Type 0} → (f g : A → B) → ((x : A) → f x ≡ g x) → (xs : List A) → map f xs ≡ map g xs
 map_same f g e [] = refl

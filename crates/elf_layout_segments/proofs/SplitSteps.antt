@@ -1,4 +1,4 @@
--- Which program headers are split and which keep their ranges, anchor_position by positions and marks; the flags that sections need.
+-- Which program headers are split and which keep their ranges, told by positions and marks; the flags that sections need.
 use Rattle.std.proofs.Common.{◌≡◌, ℕ, zero, suc, ◌+◌, ◌<◌, ◌≤◌, ◌*◌, max, Bool, true, false, not, ◌&&◌, ◌||◌, cond, List, [], ◌∷◌, ◌++◌, map, length, take, get_or, refl, sym, ap, ◌∙◌, subst, inl, inr, Option, Some, None, All, arith}
 use Rattle.std.specs.Prelude.{count_by, filter, find, fold, if◌then◌else◌, nat_le, slice_index, ◌==◌, IsPermutation}
 use Rattle.std.specs.List.{cons_option, list_any, slice_get}
@@ -18,7 +18,7 @@ use Rattle.elf_format.specs.declared.constants.TheConstants.{PT_DYNAMIC, PT_INTE
 use Rattle.elf_format.specs.declared.records.SegmentHeader.{SegmentHeader}
 use Rattle.elf_image.specs.Edited.{IsEdited}
 use Rattle.elf_layout_plan.specs.Added.{header_count, keeps_range, keeps_section_range, kept_end}
-use Rattle.elf_layout_plan.specs.Anchors.{HeaderTable, Itself, Anchor, Notes, OneSection, is_loaded_section, is_moved, is_parted, is_split, anchor_of, anchor_or_itself, notes_under, section_or_table, section_under, is_just_over, is_over_notes, sharers}
+use Rattle.elf_layout_plan.specs.Anchors.{HeaderTable, Itself, Anchor, Notes, OneSection, is_loaded_section, is_moved, is_parted, is_split, anchor_of, anchor_or_itself, does_relro_stay, notes_under, section_or_table, section_under, is_just_over, is_over_notes, sharers}
 use Rattle.elf_image.specs.Kept.{KeptSection, interpreter_number, is_numbered, kept_from, kept_of_type, kept_sections}
 use Rattle.elf_layout_plan.specs.Memory.{Resized, SizedSection, sized_from, sized_sections}
 use Rattle.elf_layout_plan.specs.Rounds.{added_flags, each_once, flags_for, sections_at}
@@ -202,22 +202,23 @@ module _ (r : Resized) (p : SegmentHeader) where
       let all : All (IsThere r) xs = all_there r are in
       let over : List KeptSection = filter (is_just_over p) xs in
       let all_over : All (IsThere r) over = All-filter (is_just_over p) (IsThere r) xs all in
-      by_type (p.p_type == PT_LOAD) (p.p_type == PT_PHDR) (p.p_type == PT_DYNAMIC) (p.p_type == PT_INTERP) (p.p_filesz == 0) (is_over_notes r p) refl
+      by_type (p.p_type == PT_LOAD) (p.p_type == PT_PHDR) (p.p_type == PT_DYNAMIC) (p.p_type == PT_INTERP) (does_relro_stay r.image.moves_dynamic p.p_type) (p.p_filesz == 0) (is_over_notes r p) refl
       (kept_of_type SHT_DYNAMIC r.image) (find (is_numbered (interpreter_number r.read)) xs) (section_under r p) (notes_under r p)
       (anchored_there (λ s. s.section.sh_type == SHT_DYNAMIC) xs all) (anchored_there (is_numbered (interpreter_number r.read)) xs all)
       (either_there (find (λ s. is_loaded_section s.section) over) (find (λ _. true) over) (anchored_there (λ s. is_loaded_section s.section) over all_over) (anchored_there (λ _. true) over all_over))
       (All-filter (λ s. is_one_of (map (λ n. n.number) (sharers r p)) s.number) (IsThere r) xs all) (are.notes p)
     where
-      by_type : (loaded phdr dynamic interpreter empty over : Bool) → is_over_notes r p ≡ over → (a b c : Option KeptSection) (ns : List KeptSection) → AreThere r p (anchor_or_itself a) → AreThere r p (anchor_or_itself b)
+      by_type : (loaded phdr dynamic interpreter stays empty over : Bool) → is_over_notes r p ≡ over → (a b c : Option KeptSection) (ns : List KeptSection) → AreThere r p (anchor_or_itself a) → AreThere r p (anchor_or_itself b)
           → AreThere r p (anchor_or_itself c) → All (IsThere r) ns → (is_over_notes r p ≡ true → map (λ (s : KeptSection). s.position) ns ≡ positions_in (indexed_sections r.image) (file_part p))
-          → AreThere r p (if loaded then Itself else if phdr then section_or_table c else if dynamic then anchor_or_itself a else if interpreter then anchor_or_itself b else if empty then Itself else if over then Notes ns else anchor_or_itself c)
-      by_type true phdr dynamic interpreter empty over is a b c ns ha hb hc hn begin = tt
-      by_type false true dynamic interpreter empty over is a b c ns ha hb hc hn begin = or_table_there c hc
-      by_type false false true interpreter empty over is a b c ns ha hb hc hn begin = ha
-      by_type false false false true empty over is a b c ns ha hb hc hn begin = hb
-      by_type false false false false true over is a b c ns ha hb hc hn begin = tt
-      by_type false false false false false true is a b c ns ha hb hc hn begin = record { there = hn; begin = begin is }
-      by_type false false false false false false is a b c ns ha hb hc hn begin = hc
+          → AreThere r p (if loaded then Itself else if phdr then section_or_table c else if dynamic then anchor_or_itself a else if interpreter then anchor_or_itself b else if stays then Itself else if empty then Itself else if over then Notes ns else anchor_or_itself c)
+      by_type true phdr dynamic interpreter stays empty over is a b c ns ha hb hc hn begin = tt
+      by_type false true dynamic interpreter stays empty over is a b c ns ha hb hc hn begin = or_table_there c hc
+      by_type false false true interpreter stays empty over is a b c ns ha hb hc hn begin = ha
+      by_type false false false true stays empty over is a b c ns ha hb hc hn begin = hb
+      by_type false false false false true empty over is a b c ns ha hb hc hn begin = tt
+      by_type false false false false false true over is a b c ns ha hb hc hn begin = tt
+      by_type false false false false false false true is a b c ns ha hb hc hn begin = record { there = hn; begin = begin is }
+      by_type false false false false false false false is a b c ns ha hb hc hn begin = hc
 
 -- ## Marks
 
@@ -264,7 +265,7 @@ some_started moving marks sections part starts same =
     last_two true false true = refl
     last_two true false false = refl
 
--- a walk over those that begin in a range, anchor_position by what begins and by positions
+-- a walk over those that begin in a range, told by what begins and by positions
 module _ {A : Type 0} (marks : List Bool) (moving : Bool) (part : Range) (step : A → ℕ → A) where
   abbrev pub step_begin : A → Begin → A
   step_begin a b = if is_in part b.start then step a b.position else a
@@ -367,7 +368,7 @@ and_regroup : (a b c d e : Bool) → (a && (b && c && d && e)) ≡ (a && b && c 
 and_regroup true b c d e = refl
 and_regroup false b c d e = refl
 
--- a anchor tells whether the program header keeps its range
+-- an anchor tells whether the program header keeps its range
 module _ (r : Resized) (moved : List ℕ) (marks : List Bool) (starts : Starts) (headers : ℕ) (are : AreSized r) (h : AreMarks r moved marks)
     (begin : AreStarts (indexed_sections r.image) marks starts) (count : headers ≡ header_count r moved) (p : SegmentHeader) where
   section_keeps : (s : KeptSection) → IsThere r s → (not (is_marked marks s.position) && keeps_section_at r p s.position) ≡ keeps_section_range r moved p s

@@ -15,3 +15,4 @@ pub record AreLists (looked : SearchedLists) (lists : Lists) : Type 0 where
   pub loaded : AreKeys true looked.kept lists.loaded.items
   pub all : AreKeys false looked.kept lists.all.items
   pub read : AreFileRanges looked.read lists.read
+  pub moves_dynamic : lists.moves_dynamic ≡ looked.moves_dynamic

@@ -15,7 +15,7 @@ use Rattle.elf_layout_segments.specs.declared.rounds.Rounds.{Rounds}
 
 -- ## Anchors
 
--- A anchor with the position of a section in place of the section, and with the bytes that the program header covers in place of
+-- An anchor with the position of a section in place of the section, and with the bytes that the program header covers in place of
 -- the notes in them.
 pub data AnchorPosition : Type 0 where
   itself : AnchorPosition

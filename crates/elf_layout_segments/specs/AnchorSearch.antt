@@ -1,4 +1,4 @@
--- What a program header goes by, anchor_position by the numbers of sections.
+-- What a program header goes by, told by the positions of sections.
 use Rattle.std.specs.Prelude.{ℕ, List, [], ◌∷◌, filter, count_by, ◌&&◌, Bool, nat_le, Option, Some, None, ◌==◌, if◌then◌else◌}
 use Rattle.std.specs.List.{list_all}
 use Rattle.elf_format.specs.declared.constants.TheConstants.{PT_DYNAMIC, PT_GNU_PROPERTY, PT_INTERP, PT_LOAD, PT_NOTE, PT_PHDR, SHT_DYNAMIC}
@@ -7,22 +7,29 @@ use Rattle.elf_format.specs.Placement.{file_part}
 use Rattle.elf_format.specs.Places.{occupies_memory}
 use Rattle.elf_format.specs.declared.records.SegmentHeader.{SegmentHeader}
 use Rattle.elf_image.specs.Kept.{interpreter_number}
+use Rattle.elf_layout_plan.specs.Anchors.{does_relro_stay}
 use Rattle.elf_layout_plan.specs.Memory.{Resized}
 use Rattle.elf_layout_segments.specs.AnchorPositions.{AnchorPosition, itself, notes, section, table}
 use Rattle.elf_layout_segments.specs.declared.sections.SectionAt.{SectionAt}
 use Rattle.elf_layout_segments.specs.declared.sections.Wanted.TheVariants.{Numbered, OfType}
 use Rattle.elf_layout_segments.specs.Sections.{first_at, first_wanted, is_just_over_at, is_note_at, place_at, indexed_sections, shares_bytes_at}
 
--- What is looked at to find a anchor: the sections at read and those that are there, and the number at read of the section with
--- the interpreter's name.
+-- What is looked at to find an anchor: the sections at read and those that are there, the number at read of the section with the
+-- interpreter's name, and whether the dynamic section has leave to move.
 pub record SearchedLists : Type 0 where
   pub read : List SectionAt
   pub kept : List SectionAt
   pub interpreter : Option ℕ
+  pub moves_dynamic : Bool
 
 -- the same of an image
 abbrev pub searched_lists : Resized → SearchedLists
-searched_lists r = record { read = indexed_sections r.read; kept = indexed_sections r.image; interpreter = interpreter_number r.read }
+searched_lists r = record {
+  read = indexed_sections r.read;
+  kept = indexed_sections r.image;
+  interpreter = interpreter_number r.read;
+  moves_dynamic = r.image.moves_dynamic;
+}
 
 -- one section, where there is one
 abbrev pub position_or_itself : Option ℕ → AnchorPosition
@@ -65,4 +72,5 @@ anchor_position_of l p =
     else if p.p_type == PT_PHDR then section_or_table_at (under_at p l.kept)
     else if p.p_type == PT_DYNAMIC then position_or_itself (first_wanted (OfType SHT_DYNAMIC) l.kept)
     else if p.p_type == PT_INTERP then position_or_itself (interpreter_at l.interpreter l.kept)
+    else if does_relro_stay l.moves_dynamic p.p_type then itself
     else anchor_position_by_range l p

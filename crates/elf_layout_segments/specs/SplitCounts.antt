@@ -1,4 +1,4 @@
--- Which program headers keep their ranges and which are split, anchor_position by the positions of sections and the marks of those that move.
+-- Which program headers keep their ranges and which are split, told by the positions of sections and the marks of those that move.
 use Rattle.std.specs.Prelude.{ℕ, ◌*◌, max, List, [], ◌∷◌, ◌++◌, length, map, filter, Bool, true, false, ◌&&◌, not, Some, None, nat_le, ◌==◌, if◌then◌else◌, slice_index_or}
 use Rattle.std.specs.List.{list_any, slice_get}
 use Rattle.elf_format.specs.Image.{ImageSection}

@@ -3,6 +3,7 @@ ghost use Rattle.std.specs.Prelude.{◌≡◌, ◌==◌, false, [], ◌∷◌, �
 ghost use Rattle.elf_format.specs.Options.{is_one_of};
 ghost use Rattle.elf_format.specs.declared.constants.TheConstants.{PT_GNU_PROPERTY as GNU_PROPERTY, PT_NOTE as NOTE};
 ghost use Rattle.elf_image.specs.ImageModel.{segment_model};
+ghost use Rattle.elf_layout_plan.specs.Anchors.{does_relro_stay as stays_as_relro};
 ghost use Rattle.elf_layout_segments.specs.FileRanges.{AreFileRanges};
 ghost use Rattle.elf_layout_segments.specs.AnchorPositions.{anchor_model};
 ghost use Rattle.elf_layout_segments.specs.AnchorSearch.{SearchedLists, interpreter_at, is_over_notes_at, position_or_itself, searched_lists, section_or_table_at, anchor_position_by_range, anchor_position_of, under_at};
@@ -14,7 +15,7 @@ use crate::file_ranges::{FileRanges, file_ranges_of};
 use crate::keys::{Key, first_just, keys_of};
 use crate::sections::{SectionAt, Wanted, first, sections_of};
 use elf_format::constants::{
-    PT_DYNAMIC, PT_GNU_PROPERTY, PT_INTERP, PT_LOAD, PT_NOTE, PT_PHDR, SHT_DYNAMIC,
+    PT_DYNAMIC, PT_GNU_PROPERTY, PT_GNU_RELRO, PT_INTERP, PT_LOAD, PT_NOTE, PT_PHDR, SHT_DYNAMIC,
 };
 use elf_format::records::SegmentHeader;
 use elf_image::{Builder, Segment};
@@ -34,6 +35,8 @@ pub(crate) struct Lists {
     pub(crate) all: Vec<Key>,
     // Where the sections at read begin and end.
     pub(crate) read: FileRanges,
+    // The dynamic section has leave to move.
+    pub(crate) moves_dynamic: bool,
 }
 
 // One section, or the program header itself.
@@ -85,12 +88,14 @@ pub(crate) fn lists_of(alloc: Global, r: &Resizing<'_, '_>) -> Result<Lists, All
     let all = keys_of(alloc, &kept, false)?;
     let dynamic = first(&kept, Wanted::OfType(SHT_DYNAMIC));
     let interpreter = find_interpreter(number, &kept);
+    let moves_dynamic = r.image.may_dynamic_move();
     Ok(Lists {
         dynamic,
         interpreter,
         loaded,
         all,
         read,
+        moves_dynamic,
     })
 }
 
@@ -135,6 +140,13 @@ fn anchor_by_range(lists: &Lists, p: SegmentHeader) -> AnchorAt
     position_or_itself_at(find_under(lists, p))
 }
 
+// Whether a program header keeps its range because the dynamic section may move (PT_GNU_RELRO).
+fn does_relro_stay(lists: &Lists, p: SegmentHeader) -> bool
+    ensures { result ≡ stays_as_relro lists.now.moves_dynamic p.p_type }
+{
+    p.p_type == PT_GNU_RELRO && lists.moves_dynamic
+}
+
 // What a program header goes by.
 #[tactic(auto, unfolding(crate::specs::AnchorSearch::anchor_position_of))]
 fn anchor_of(lists: &Lists, p: SegmentHeader) -> AnchorAt
@@ -149,6 +161,8 @@ fn anchor_of(lists: &Lists, p: SegmentHeader) -> AnchorAt
         position_or_itself_at(lists.dynamic)
     } else if p.p_type == PT_INTERP {
         position_or_itself_at(lists.interpreter)
+    } else if does_relro_stay(lists, p) {
+        AnchorAt::Itself
     } else {
         anchor_by_range(lists, p)
     }

@@ -1,7 +1,8 @@
 //! What each program header goes by, and how many more are needed.
 use crate::plain::{Part, Piece, Plain};
 use elf_format::constants::{
-    PT_DYNAMIC, PT_GNU_PROPERTY, PT_INTERP, PT_LOAD, PT_NOTE, PT_PHDR, SHT_DYNAMIC, SHT_NOTE,
+    PT_DYNAMIC, PT_GNU_PROPERTY, PT_GNU_RELRO, PT_INTERP, PT_LOAD, PT_NOTE, PT_PHDR, SHT_DYNAMIC,
+    SHT_NOTE,
 };
 
 /// What a program header goes by.
@@ -101,6 +102,7 @@ pub(crate) fn anchor_of<'a>(plain: &'a Plain, piece: &Piece) -> Anchor<'a> {
         PT_PHDR => section_or(section_under(plain, piece), Anchor::HeaderTable),
         PT_DYNAMIC => section_or(first_of_type(plain, SHT_DYNAMIC), Anchor::Itself),
         PT_INTERP => section_or(interpreter(plain), Anchor::Itself),
+        PT_GNU_RELRO if plain.facts.moves_dynamic => Anchor::Itself,
         _ if piece.in_file == 0 => Anchor::Itself,
         _ if is_over_notes(plain, piece) => Anchor::Notes,
         _ => section_or(section_under(plain, piece), Anchor::Itself),

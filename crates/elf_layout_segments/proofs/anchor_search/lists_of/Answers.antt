@@ -25,4 +25,5 @@ returns c =
       loaded = subst (λ (xs : List SectionAt). AreKeys true xs c.in_ok-loaded.loaded.items) (c.deref.ensures.value ∙ seen) c.in_ok-loaded.ensures;
       all = subst (λ (xs : List SectionAt). AreKeys false xs c.in_ok-all.all.items) (c.deref-2.ensures.value ∙ seen) c.in_ok-all.ensures;
       read = subst (λ (xs : List SectionAt). AreFileRanges xs c.in_ok-read.read) (ap (λ (y : Resized). indexed_sections y.read) c.r.view_is) c.in_ok-read.ensures;
+      moves_dynamic = c.may_dynamic_move-moves_dynamic.ensures ∙ ap (λ (y : Resized). y.image.moves_dynamic) c.r.view_is;
     }
