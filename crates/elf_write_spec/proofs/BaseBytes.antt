@@ -10,7 +10,7 @@ use Rattle.elf_format.specs.declared.range.Range.{Range}
 use Rattle.elf_format.specs.declared.form.Form.{Form}
 use Rattle.elf_format.specs.File.{loads_of}
 use Rattle.elf_format.specs.Image.{Image, ImageSection}
-use Rattle.elf_format.specs.Placement.{ends_by, file_part, holds, is_stored, sections_held, something_loaded, stored_apart, stored_clear_of, stored_ranges}
+use Rattle.elf_format.specs.Placement.{ends_by, file_part, is_stored, sections_held, something_loaded, stored_apart, stored_clear_of, stored_ranges}
 use Rattle.elf_format.specs.Places.{Place, file_range, occupies_file, occupies_memory, place_of, places_of}
 use Rattle.elf_format.specs.Ranges.{all_apart, apart, end_of, range}
 use Rattle.elf_format.specs.Records.{file_header_size, segment_header_size}
@@ -20,7 +20,7 @@ use Rattle.elf_image.specs.Kept.{KeptSection, image_at_read, kept_sections, plac
 use Rattle.elf_layout_plan.specs.Memory.{Resized, table_at_read}
 use Rattle.elf_layout_plan.specs.Plan.{resized}
 use Rattle.elf_layout_plan.proofs.ForCallers.ApartBlocks.{all_apart_pairs, apart-meet}
-use Rattle.elf_layout_plan.proofs.ForCallers.ApartLists.{all-at, any-from, at-map, each-at, each-from, each-map, each-unfilter, each-unmap, filter-at, none-from, pairs-less, pairs-unfilter, pairs-unmap}
+use Rattle.elf_layout_plan.proofs.ForCallers.ApartLists.{all-at, at-map, each-at, each-from, each-map, each-unfilter, each-unmap, filter-at, none-from, pairs-less, pairs-unfilter, pairs-unmap}
 use Rattle.elf_layout_plan.proofs.ForCallers.ApartSections.{kept-at}
 use Rattle.elf_layout_plan.proofs.ForCallers.PlacedLists.{any-from as any-has}
 use Rattle.elf_write_spec.specs.Base.{base, base_byte, does_byte_stay, has_position, is_data, is_opaque, is_rewritten, leaves_place, old_places}

@@ -53,6 +53,7 @@ use Rattle.elf_write_spec.proofs.RelocationsKept.{relocations_kept}
 use Rattle.elf_write_spec.proofs.SectionKinds.{IsTold, copied_by}
 use Rattle.elf_write_spec.proofs.SectionsReadBack.{rewritten-at, length-sections}
 use Rattle.elf_write_spec.proofs.SectionsSeen.{section_seen}
+use Rattle.elf_write_spec.proofs.SegmentsKept.{segments_kept}
 use Rattle.elf_write_spec.proofs.SymbolsKept.{written_files_keep_symbols}
 use Rattle.elf_write_spec.proofs.ContentsReadBack.{linked_at}
 use Rattle.elf_write_spec.proofs.WholeFacts.{Nowhere, ReadFacts, SectionAt, There, TypeAt, length-kept, lengths, places_are, read_facts, section_at, section_at_header, type_at}
@@ -285,6 +286,7 @@ files_are_written are_apart show_notes w is =
         each = each_section w is f (IsSectionKept w.image) (section_kept w is f);
       };
       lists = record { symbols = refl; dynamic_symbols = refl; definitions = refl; needs = refl; entries = refl; interpreter = refl };
+      segments = segments_kept w.image (rewritten_image w) w.plan is.edited is.planned refl refl places;
       kept_data = written_files_keep_data w is;
       fixed = each_section w is f (λ s now. is_fixed w.image s ≡ true → now.sh_addr ≡ s.section.sh_addr) (fixed_at w is f);
       loaded = each_section w is f

@@ -67,5 +67,11 @@ pub mod FoundTables
 pub mod FoundNames
 pub mod NamesFound
 pub mod DataSeen
+pub mod AnchoredSections
+pub mod PlannedSections
+pub mod WrittenHeaders
+pub mod FollowingHeaders
+pub mod AddedSegments
+pub mod SegmentsKept
 pub mod FilesWritten
 pub mod ForCallers

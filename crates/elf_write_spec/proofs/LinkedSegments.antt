@@ -13,7 +13,7 @@ use Rattle.elf_image.specs.Edited.{AreKept, AreSegments}
 use Rattle.elf_image.specs.Segments.{loads_end}
 use Rattle.elf_image.proofs.ForCallers.Unclaimed.{count_unclaimed}
 use Rattle.elf_image.specs.Segments.{added_stack}
-use Rattle.elf_layout_plan.specs.Anchors.{HeaderTable, Itself, Anchor, Notes, OneSection, anchor_by_range, anchor_of, anchor_or_itself, section_or_table, section_under}
+use Rattle.elf_layout_plan.specs.Anchors.{HeaderTable, Itself, Anchor, Notes, OneSection, anchor_by_range, anchor_of, anchor_or_itself, does_relro_stay, section_or_table, section_under}
 use Rattle.elf_image.specs.Kept.{KeptSection, interpreter_number, is_numbered, kept_of_type, kept_sections}
 use Rattle.elf_layout_plan.specs.Memory.{Resized}
 use Rattle.elf_layout_plan.specs.Plan.{IsPlan, Layout, layout_for}
@@ -63,13 +63,16 @@ module _ (r : Resized) where
   interpreter_anchor : Anchor
   interpreter_anchor = anchor_or_itself (find (is_numbered (interpreter_number r.read)) (kept_sections r.image))
 
-  anchor_is : (p : SegmentHeader) → anchor_of r p ≡ by_type p.p_type (table_anchor p) dynamic_anchor interpreter_anchor (anchor_by_range r p)
-  unfolding anchor_of table_anchor dynamic_anchor interpreter_anchor
+  other_anchor : SegmentHeader → Anchor
+  other_anchor p = if does_relro_stay r.image.moves_dynamic p.p_type then Itself else anchor_by_range r p
+
+  anchor_is : (p : SegmentHeader) → anchor_of r p ≡ by_type p.p_type (table_anchor p) dynamic_anchor interpreter_anchor (other_anchor p)
+  unfolding anchor_of table_anchor dynamic_anchor interpreter_anchor other_anchor
   anchor_is p = refl
 
   anchor_at : (p : SegmentHeader) (type : ℕ) → p.p_type ≡ type
-      → anchor_of r p ≡ by_type type (table_anchor p) dynamic_anchor interpreter_anchor (anchor_by_range r p)
-  anchor_at p type h = anchor_is p ∙ ap (λ n. by_type n (table_anchor p) dynamic_anchor interpreter_anchor (anchor_by_range r p)) h
+      → anchor_of r p ≡ by_type type (table_anchor p) dynamic_anchor interpreter_anchor (other_anchor p)
+  anchor_at p type h = anchor_is p ∙ ap (λ n. by_type n (table_anchor p) dynamic_anchor interpreter_anchor (other_anchor p)) h
 
   -- a program header of these types isn't over several notes
   plain-dynamic : (p : SegmentHeader) → p.p_type ≡ PT_DYNAMIC → is_notes (anchor_of r p) ≡ false

@@ -333,7 +333,7 @@ module _ (read image : Image) (all : HasSymbols read image) where
 
   -- ## The final symbols
 
-  final_list : (final read image).dynamic_symbols ≡ map (final_symbol image) (ordered read image)
+  pub final_list : (final read image).dynamic_symbols ≡ map (final_symbol image) (ordered read image)
   unfolding final
   final_list = refl
 

@@ -19,7 +19,7 @@ use Rattle.elf_format.specs.Places.{Place, is_set, occupies_memory}
 use Rattle.elf_format.specs.Rules.{dynamic_section_agrees, file_of, is_dynamic_section_right, is_interpreter_right}
 use Rattle.elf_format.specs.Views.{interpreter_section}
 use Rattle.elf_image.specs.Edited.{kept_segment}
-use Rattle.elf_layout_plan.specs.Anchors.{Itself, Anchor, OneSection, is_loaded_section, anchor_by_range, anchor_of, anchor_or_itself, section_or_table, section_under}
+use Rattle.elf_layout_plan.specs.Anchors.{Itself, Anchor, OneSection, is_loaded_section, anchor_by_range, anchor_of, anchor_or_itself, does_relro_stay, section_or_table, section_under}
 use Rattle.elf_image.specs.Kept.{KeptSection, image_at_read, interpreter_number, is_numbered, kept_at_number, kept_of_type, kept_sections, stands_as_interpreter}
 use Rattle.elf_layout_plan.specs.Memory.{Resized}
 use Rattle.elf_layout_plan.specs.Plan.{resized}
@@ -44,6 +44,7 @@ module _ (r : Resized) (p : SegmentHeader) where
       else if type == PT_PHDR then section_or_table (section_under r p)
       else if type == PT_DYNAMIC then anchor_or_itself (kept_of_type SHT_DYNAMIC r.image)
       else if type == PT_INTERP then anchor_or_itself (find (is_numbered (interpreter_number r.read)) (kept_sections r.image))
+      else if does_relro_stay r.image.moves_dynamic type then Itself
       else anchor_by_range r p
 
   anchor_is : anchor_of r p ≡ anchor_by p.p_type

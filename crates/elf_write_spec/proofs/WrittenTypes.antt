@@ -15,7 +15,7 @@ use Rattle.elf_image.specs.Edited.{AreKept, AreSegments, CanGo, kept_segment}
 use Rattle.elf_image.specs.Segments.{loads_end}
 use Rattle.elf_image.proofs.ForCallers.Unclaimed.{count_unclaimed, find_unclaimed}
 use Rattle.elf_image.specs.Segments.{added_stack}
-use Rattle.elf_layout_plan.specs.Anchors.{HeaderTable, Itself, Anchor, Notes, OneSection, is_note_in, is_over_notes, anchor_by_range, anchor_of, anchor_or_itself, notes_under, section_or_table, section_under, sharers}
+use Rattle.elf_layout_plan.specs.Anchors.{HeaderTable, Itself, Anchor, Notes, OneSection, is_note_in, is_over_notes, anchor_by_range, anchor_of, anchor_or_itself, does_relro_stay, notes_under, section_or_table, section_under, sharers}
 use Rattle.elf_image.specs.Kept.{KeptSection, image_at_read, interpreter_number, is_numbered, kept_of_type, kept_sections}
 use Rattle.elf_layout_plan.specs.Memory.{Resized}
 use Rattle.elf_layout_plan.specs.Plan.{Layout, layout_for, resized}
@@ -158,15 +158,17 @@ module _ (r : Resized) (moved : List ℕ) where
   anchor-single p other =
       let list : Anchor = anchor_or_itself (kept_of_type SHT_DYNAMIC r.image) in
       let name : Anchor = anchor_or_itself (find (is_numbered (interpreter_number r.read)) (kept_sections r.image)) in
-      let a : Anchor = if p.p_type == PT_INTERP then name else anchor_by_range r p in
+      let last : Anchor = if does_relro_stay r.image.moves_dynamic p.p_type then Itself else anchor_by_range r p in
+      let a : Anchor = if p.p_type == PT_INTERP then name else last in
       let b : Anchor = if p.p_type == PT_DYNAMIC then list else a in
       let table : Anchor = section_or_table (section_under r p) in
       let c : Anchor = if p.p_type == PT_PHDR then table else b in
       cond_both (p.p_type == PT_LOAD) Itself c IsSingle (λ _. tt) (λ _.
       cond_both (p.p_type == PT_PHDR) table b IsSingle (λ _. table-single (section_under r p)) (λ _.
       cond_both (p.p_type == PT_DYNAMIC) list a IsSingle (λ _. anchored-single (kept_of_type SHT_DYNAMIC r.image)) (λ _.
-      cond_both (p.p_type == PT_INTERP) name (anchor_by_range r p) IsSingle
-      (λ _. anchored-single (find (is_numbered (interpreter_number r.read)) (kept_sections r.image))) (λ _. range-single p other))))
+      cond_both (p.p_type == PT_INTERP) name last IsSingle
+      (λ _. anchored-single (find (is_numbered (interpreter_number r.read)) (kept_sections r.image))) (λ _.
+      cond_both (does_relro_stay r.image.moves_dynamic p.p_type) Itself (anchor_by_range r p) IsSingle (λ _. tt) (λ _. range-single p other)))))
 
   targets_by : Anchor → List Target
   targets_by anchor = elim anchor [

@@ -8,5 +8,6 @@ pub mod ReadBack
 pub mod Stays
 pub mod Look
 pub mod KeptSymbols
+pub mod KeptSegments
 pub mod WrittenFile
 pub mod Laws

@@ -30,6 +30,7 @@ use Rattle.elf_write_spec.specs.Base.{is_interpreter}
 use Rattle.elf_write_spec.specs.Contents.{AreDefinitionsSpelled, AreNeedsSpelled}
 use Rattle.elf_write_spec.specs.Final.{are_symbols_kept, are_versions_kept, final, final_view, is_static_renumbered, new_number}
 use Rattle.elf_write_spec.specs.Headers.{written_info}
+use Rattle.elf_write_spec.specs.KeptSegments.{AreSegmentsKept}
 use Rattle.elf_write_spec.specs.KeptSymbols.{AreRelocationsKept, AreSymbolsKept}
 use Rattle.elf_write_spec.specs.Look.{AreNamesFound}
 use Rattle.elf_write_spec.specs.Stays.{AreHashesSeen, AreOthersSeen, IsDataSeen, IsSeenAt, written_places}
@@ -207,6 +208,8 @@ pub record IsWrittenOf (image : Image) (file : List ℕ) : Type 0 where
   pub header : IsHeaderKept image again
   pub sections : AreSectionsKept image again
   pub lists : AreListsFinal image again
+  -- the program headers are those of the image, in order, and loaded ones that were added
+  pub segments : AreSegmentsKept image again
   -- in the memory that the file's own program headers load, each section of data has its bytes at its address
   pub kept_data : IsDataSeen image again.segments file
   -- each section that can't move stands at its address, loaded or not: relocations, the dynamic list, whatever isn't known
