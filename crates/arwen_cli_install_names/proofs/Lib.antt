@@ -1,1 +1,3 @@
+pub mod FailureLaws
 pub mod NameLaws
+pub mod WordLaws

@@ -1,13 +1,23 @@
 -- What lines of install_name_tool make of the bytes of stores, where they are known.
-use Rattle.std.specs.Prelude.{ℕ, ◌≡◌, ◌⊎◌, List, [], ◌∷◌, Option, Some}
+use Rattle.std.specs.Prelude.{ℕ, ◌≡◌, ◌^◌, ◌⊎◌, List, [], ◌∷◌, Option, Some, ⊤}
+use Rattle.std.specs.declared.io.Error.{Error}
+use Rattle.byte_store.specs.Causes.{EndsBy, IsNotWhole}
 use Rattle.byte_store.specs.Known.{Stays}
+use Rattle.byte_store.specs.declared.reading.ReadError.TheVariants as read
+use Rattle.macho_commands.specs.Engine.{Tells, outcome}
 use Rattle.macho_commands.specs.Meaning.{apply}
-use Rattle.macho_commands.specs.Stores.{FailsPatch, Patched}
+use Rattle.macho_commands.specs.Stores.{Patched, Torn}
+use Rattle.macho_commands.specs.declared.error.MachoCommandError.{MachoCommandError}
+use Rattle.macho_commands.specs.declared.error.MachoCommandError.TheVariants.{Io}
 use Rattle.macho_commands.specs.declared.signing.Signing.TheVariants.{Left}
 use Rattle.arwen_cli_peers.specs.Options.{Asked, Text}
-use Rattle.arwen_cli_install_names.specs.Naming.{AreWordsOf}
+use Rattle.arwen_cli_install_names.specs.Naming.{AreWordsOf, IsUnlike, TellsUnread}
 use Rattle.arwen_cli_install_names.specs.declared.editing.NamesError.{NamesError}
 use Rattle.arwen_cli_install_names.specs.declared.editing.NamesError.TheVariants.{Command, Unlike}
+use Rattle.arwen_cli_install_names.specs.declared.naming.NamingFault.{NamingFault}
+use Rattle.arwen_cli_install_names.specs.declared.naming.NamingFault.TheVariants as naming
+
+-- ## What is made
 
 -- options mean these words of known bytes
 abbrev pub AreKnownWords : List Asked → Option (List ℕ) → List Text → Type 0
@@ -24,7 +34,43 @@ pub record IsNamed (given : List Asked) (path : Text) (old new : Option (List �
   pub are : AreKnownWords given old words
   pub patched : IsPatchedBy path words old new
 
--- what an error leaves: the bytes as they were, or what `apply` leaves with these words
-abbrev pub FailsNames : Text → Option (List ℕ) → Option (List ℕ) → NamesError → Type 0
-FailsNames path old new (Command e) = Stays old new ⊎ ((words : List Text) × FailsPatch Left (apply path words) old new e)
-FailsNames path old new Unlike = Stays old new
+-- ## What an error leaves and tells
+
+-- why a file isn't edited of which it isn't known what options mean
+abbrev pub answer_to_naming : NamingFault → NamesError
+answer_to_naming (naming.Command e) = Command e
+answer_to_naming naming.Unlike = Unlike
+
+-- that error of known bytes; one of reading them tells nothing
+abbrev pub TellsNoWords : List Asked → Option (List ℕ) → NamesError → Type 0
+TellsNoWords given known (Command (Io e)) = ⊤
+TellsNoWords given known (Command e) = (file : List ℕ) → known ≡ Some file → TellsUnread file e
+TellsNoWords given known Unlike = (file : List ℕ) → known ≡ Some file → IsUnlike given file
+
+-- the error of `apply` on the bytes of a file, with the words that options mean of them
+abbrev pub TellsUnapplied : List Asked → Text → List ℕ → MachoCommandError → Type 0
+TellsUnapplied given path file e =
+    (words : List Text) × AreWordsOf given file words × Tells (outcome Left (apply path words) file) e
+
+-- an error of the bytes of a file: they aren't read, or `apply` isn't made, or the slices need unlike words
+abbrev pub TellsNaming : List Asked → Text → List ℕ → NamesError → Type 0
+TellsNaming given path file (Command e) = TellsUnread file e ⊎ TellsUnapplied given path file e
+TellsNaming given path file Unlike = IsUnlike given file
+
+-- what an error leaves and tells: only a write that failed changes bytes, where `apply` was accepted
+abbrev pub FailsNames : List Asked → Text → Option (List ℕ) → Option (List ℕ) → NamesError → Type 0
+FailsNames given path old new (Command (Io e)) =
+    Stays old new ⊎ ((words : List Text) × AreKnownWords given old words × Torn Left (apply path words) old new)
+FailsNames given path old new e = Stays old new × ((file : List ℕ) → old ≡ Some file → TellsNaming given path file e)
+
+-- ## Why a file could not be read or written
+
+-- an error of a store of these bytes: they were not read whole, or calls that write ended by it
+abbrev pub IsOfStore : (Error → Type 0) → (Error → Type 0) → Type 0 → Option (List ℕ) → ℕ → ℕ → Error → Type 0
+IsOfStore reads writes takes_none known old new e =
+    IsNotWhole reads (2 ^ 32) known old new (read.Io e) ⊎ EndsBy writes takes_none e old new
+
+-- an error of reading or writing is one of the store
+abbrev pub HasNamesCause : (Error → Type 0) → (Error → Type 0) → Type 0 → Option (List ℕ) → ℕ → ℕ → NamesError → Type 0
+HasNamesCause reads writes takes_none known old new (Command (Io e)) = IsOfStore reads writes takes_none known old new e
+HasNamesCause reads writes takes_none known old new e = ⊤

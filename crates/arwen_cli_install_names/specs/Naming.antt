@@ -1,13 +1,17 @@
 -- What options of install_name_tool mean of the bytes of a file.
-use Rattle.std.specs.Prelude.{ℕ, ◌≡◌, List, [], ◌∷◌, map, is_some, ⊤}
+use Rattle.std.specs.Prelude.{ℕ, ◌≡◌, List, [], ◌∷◌, None, map, is_some}
 use Rattle.std.specs.List.{AllByRecursion}
 use Rattle.std.specs.Str.Lossy.{utf8_lossy}
 use Rattle.arwen_macho.specs.Container.{first_container}
 use Rattle.arwen_macho.specs.FatState.{Slice}
+use Rattle.arwen_macho.specs.Found.{Finds, container_found}
 use Rattle.arwen_macho.specs.declared.macho.MachoType.{MachoType}
 use Rattle.arwen_macho.specs.declared.macho.MachoType.TheVariants.{Fat, SingleArch}
+use Rattle.macho_commands.specs.Errors.{answer_to}
+use Rattle.macho_commands.specs.declared.error.MachoCommandError.{MachoCommandError}
 use Rattle.macho_commands.specs.declared.error.MachoCommandError.TheVariants.{Memory}
 use Rattle.macho_edits.specs.State.{laid_bytes}
+use Rattle.macho_edits.specs.declared.error.MachoError.{MachoError}
 use Rattle.macho_image.specs.Commands.{id_of, libs_of, rpaths_of}
 use Rattle.arwen_cli_peers.specs.NameWords.{FileNames, name_words}
 use Rattle.arwen_cli_peers.specs.Options.{Asked, Text}
@@ -44,7 +48,27 @@ AreWords given parts words = AllByRecursion (λ part. words ≡ words_in part gi
 abbrev pub AreWordsOf : List Asked → List ℕ → List Text → Type 0
 AreWordsOf given file words = AreWords given (parts_of (first_container file)) words
 
--- an error of a file that was read
-abbrev pub TellsWordless : NamingFault → Type 0
-TellsWordless (Command e) = e ≡ Memory
-TellsWordless Unlike = ⊤
+-- ## Why there are no words
+
+-- no words are those that options mean of each of these thin files
+abbrev pub AreUnlike : List Asked → List (List ℕ) → Type 0
+AreUnlike given parts = (words : List Text) → AreWords given parts words → ⊥
+
+-- an error of thin files that were read
+abbrev pub TellsWordless : List Asked → List (List ℕ) → NamingFault → Type 0
+TellsWordless given parts (Command e) = e ≡ Memory
+TellsWordless given parts Unlike = AreUnlike given parts
+
+-- the error of bytes that are no Mach-O file that is read; want of memory may be answered in any case
+abbrev pub TellsUnread : List ℕ → MachoCommandError → Type 0
+TellsUnread file e = (fault : MachoError) × Finds fault (container_found file) × (e ≡ answer_to fault)
+
+-- The bytes are a Mach-O file that is read, and options mean unlike words of its slices.
+pub record IsUnlike (given : List Asked) (file : List ℕ) : Type 0 where
+  pub read : container_found file ≡ None
+  pub unlike : AreUnlike given (parts_of (first_container file))
+
+-- an error of the bytes of a file
+abbrev pub TellsUnnamed : List Asked → List ℕ → NamingFault → Type 0
+TellsUnnamed given file (Command e) = TellsUnread file e
+TellsUnnamed given file Unlike = IsUnlike given file

@@ -1,11 +1,12 @@
 //! Stores and files, edited as lines ask.
-ghost use Rattle.std.specs.Prelude.{◌≡◌, IfErr, IfOk, OnOk, map, string_bytes};
+ghost use Rattle.std.specs.Prelude.{◌≡◌, ◌≤◌, IfErr, IfOk, OnOk, map, string_bytes};
 ghost use Rattle.byte_store.specs.Known.{Stays};
+ghost use Rattle.macho_commands.specs.Failures.{HasCause};
 ghost use Rattle.macho_commands.specs.Meaning.{apply as apply_meant, macho_command_model};
 ghost use Rattle.macho_commands.specs.Stores.{FailsPatch};
 ghost use Rattle.macho_commands.specs.declared.signing.Signing.TheVariants.{Left};
 ghost use Rattle.arwen_cli_peers.specs.Options.{given_model};
-ghost use Rattle.arwen_cli_install_names.specs.Editing.{AreKnownWords, FailsNames, IsNamed, IsPatchedBy};
+ghost use Rattle.arwen_cli_install_names.specs.Editing.{AreKnownWords, FailsNames, HasNamesCause, IsNamed, IsPatchedBy, TellsNoWords};
 
 use crate::naming::{NamingFault, words_for};
 use arwen_cli_peers::Given;
@@ -36,6 +37,11 @@ impl From<MachoCommandError> for NamesError {
 }
 
 impl From<NamingFault> for NamesError {
+    ghost use Rattle.std.specs.Prelude.{◌≡◌};
+    ghost use Rattle.arwen_cli_install_names.specs.Editing.{answer_to_naming};
+
+    ghost from_gives = { λ fault error. error ≡ answer_to_naming fault };
+
     fn from(fault: NamingFault) -> Self {
         match fault {
             NamingFault::Command(error) => NamesError::Command(error),
@@ -45,12 +51,24 @@ impl From<NamingFault> for NamesError {
 }
 
 impl From<ReadError> for NamesError {
+    ghost use Rattle.std.specs.Prelude.{◌≡◌};
+    ghost use Rattle.macho_commands.specs.Errors.{answer_to_read};
+    ghost use Rattle.arwen_cli_install_names.specs.declared.editing.NamesError.TheVariants.{Command};
+
+    ghost from_gives = { λ e error. error ≡ Command (answer_to_read e) };
+
     fn from(error: ReadError) -> Self {
         NamesError::Command(MachoCommandError::from(error))
     }
 }
 
 impl From<io::Error> for NamesError {
+    ghost use Rattle.std.specs.Prelude.{◌≡◌};
+    ghost use Rattle.macho_commands.specs.declared.error.MachoCommandError.TheVariants.{Io};
+    ghost use Rattle.arwen_cli_install_names.specs.declared.editing.NamesError.TheVariants.{Command};
+
+    ghost from_gives = { λ e error. error ≡ Command (Io e) };
+
     fn from(error: io::Error) -> Self {
         NamesError::Command(MachoCommandError::Io(error))
     }
@@ -58,6 +76,11 @@ impl From<io::Error> for NamesError {
 
 /// Edits the bytes of a store by the words of `apply` that options mean of them: all or none. Without words they stay. Answers
 /// the line of the note, where it is wanted, with the path.
+///
+/// # Errors
+///
+/// `Unlike` where options mean unlike words of the slices; `Command` with what is found wrong in a file that isn't read, or
+/// with the errors of `patch_store` and of `load_whole`.
 pub fn name_store<S: Store>(
     alloc: Global,
     store: &mut S,
@@ -67,7 +90,10 @@ pub fn name_store<S: Store>(
 ) -> Result<String, NamesError>
     ensures named { OnOk result (IsNamed (map given_model given.now) path.now
         (S.contents store.old) (S.contents store.new)) }
-    ensures left { IfErr result (FailsNames path.now (S.contents store.old) (S.contents store.new)) }
+    ensures left { IfErr result (FailsNames (map given_model given.now) path.now
+        (S.contents store.old) (S.contents store.new)) }
+    ensures cause { IfErr result (HasNamesCause S.may_fail_read S.may_fail_write S.may_take_none
+        (S.contents store.old) (S.failed store.old) (S.failed store.new)) }
 {
     let words = words_in(alloc, store, given)?;
     Ok(patch_by(alloc, store, path, words, notes)?)
@@ -81,7 +107,11 @@ fn words_in<S: Store>(
 ) -> Result<Vec<String>, NamesError>
     ensures are { IfOk result (λ words. AreKnownWords (map given_model given.now)
         (S.contents store.old) (map string_bytes words.items)) }
+    ensures tells { IfErr result (TellsNoWords (map given_model given.now) (S.contents store.old)) }
     ensures kept { Stays (S.contents store.old) (S.contents store.new) }
+    ensures grows { S.failed store.old ≤ S.failed store.new }
+    ensures cause { IfErr result (HasNamesCause S.may_fail_read S.may_fail_write S.may_take_none
+        (S.contents store.old) (S.failed store.old) (S.failed store.new)) }
 {
     let bytes = load_whole(alloc, store, MOST_BYTES)?;
     Ok(words_for(alloc, bytes.as_slice(), given)?)
@@ -99,6 +129,8 @@ fn patch_by<S: Store>(
         (S.contents store.old) (S.contents store.new)) }
     ensures left { IfErr result (FailsPatch Left (apply_meant path.now (map string_bytes words.items))
         (S.contents store.old) (S.contents store.new)) }
+    ensures cause { IfErr result (HasCause S.may_fail_read S.may_fail_write S.may_take_none
+        (S.contents store.old) (S.failed store.old) (S.failed store.new)) }
 {
     if words.is_empty() {
         return Ok(String::new(alloc));

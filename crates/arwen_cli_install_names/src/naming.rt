@@ -1,11 +1,11 @@
 //! What options mean of the bytes of a file.
-ghost use Rattle.std.specs.Prelude.{◌≡◌, IfErr, IfOk, IsTrue, map, string_bytes};
+ghost use Rattle.std.specs.Prelude.{◌≡◌, ◌↔◌, IfErr, IfOk, IsTrue, map, string_bytes};
 ghost use Rattle.std.specs.Str.Lossy.{utf8_lossy};
 ghost use Rattle.arwen_macho.specs.FatSlice.{slice_model};
 ghost use Rattle.macho_edits.specs.State.{laid_bytes};
 ghost use Rattle.arwen_cli_peers.specs.NameWords.{names_model};
 ghost use Rattle.arwen_cli_peers.specs.Options.{given_model};
-ghost use Rattle.arwen_cli_install_names.specs.Naming.{AreWords, AreWordsOf, TellsWordless, names_in, parts_of, slice_bytes, words_in as words_meant};
+ghost use Rattle.arwen_cli_install_names.specs.Naming.{AreWords, AreWordsOf, TellsUnnamed, TellsWordless, names_in, parts_of, slice_bytes, words_in as words_meant};
 
 use arwen_cli_peers::Given;
 use arwen_cli_peers::name_words::{Names, name_words};
@@ -59,13 +59,18 @@ impl<T: Drop> From<AllocFailed<T>> for NamingFault {
 }
 
 /// The words of `apply` that options mean of the bytes of a file: of each slice the same.
+///
+/// # Errors
+///
+/// What is found wrong in a file that isn't read, `Unlike` where no words are those of all slices, and `Memory`.
 pub fn words_for(
     alloc: Global,
     bytes: &[u8],
     given: &[Given<'_>],
 ) -> Result<Vec<String>, NamingFault>
-    ensures { IfOk result (λ words. AreWordsOf (map given_model given.now) bytes.now
+    ensures ok { IfOk result (λ words. AreWordsOf (map given_model given.now) bytes.now
         (map string_bytes words.items)) }
+    ensures err { IfErr result (TellsUnnamed (map given_model given.now) bytes.now) }
 {
     let file = MachoContainer::parse(alloc, bytes)?;
     let words = words_in(alloc, file.inner(), given);
@@ -81,7 +86,7 @@ fn words_in(
 ) -> Result<Vec<String>, NamingFault>
     ensures ok { IfOk result (λ words. AreWords (map given_model given.now) (parts_of file.now)
         (map string_bytes words.items)) }
-    ensures err { IfErr result TellsWordless }
+    ensures err { IfErr result (TellsWordless (map given_model given.now) (parts_of file.now)) }
 {
     match file {
         MachoType::SingleArch(single) => Ok(words_of(alloc, single.inner(), given)?),
@@ -97,7 +102,8 @@ fn words_of_slices(
 ) -> Result<Vec<String>, NamingFault>
     ensures ok { IfOk result (λ words. AreWords (map given_model given.now)
         (map slice_bytes (map slice_model slices.now)) (map string_bytes words.items)) }
-    ensures err { IfErr result TellsWordless }
+    ensures err { IfErr result (TellsWordless (map given_model given.now)
+        (map slice_bytes (map slice_model slices.now))) }
 {
     let Some(first) = slices.first() else {
         return Ok(Vec::new(alloc));
@@ -118,7 +124,7 @@ fn same_words(
     given: &[Given<'_>],
     words: &[String],
 ) -> Result<bool, AllocError>
-    ensures { IfOk result (λ same. IsTrue same → map string_bytes words.now
+    ensures { IfOk result (λ same. IsTrue same ↔ map string_bytes words.now
         ≡ words_meant (laid_bytes slice.now.state) (map given_model given.now)) }
 {
     let own = words_of(alloc, slice.inner(), given)?;
@@ -127,15 +133,15 @@ fn same_words(
 
 /// Whether texts are the same.
 fn are_equal(left: &[String], right: &[String]) -> bool
-    ensures { IsTrue result → map string_bytes right.now ≡ map string_bytes left.now }
+    ensures { IsTrue result ↔ map string_bytes right.now ≡ map string_bytes left.now }
 {
-    match (left.split_first(), right.split_first()) {
-        (None, None) => true,
-        (Some((text, more)), Some((other, rest))) => {
-            text.as_str() == other.as_str() && are_equal(more, rest)
-        }
-        _ => false,
-    }
+    let Some((text, more)) = left.split_first() else {
+        return right.is_empty();
+    };
+    let Some((other, rest)) = right.split_first() else {
+        return false;
+    };
+    text.as_str() == other.as_str() && are_equal(more, rest)
 }
 
 /// The words of `apply` that options mean of a thin file.

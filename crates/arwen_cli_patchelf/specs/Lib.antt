@@ -1,4 +1,5 @@
 pub mod Made
+pub mod Output
 pub mod Patched
 pub mod PrintTexts
 pub mod Printing

@@ -1,7 +1,11 @@
 -- What lines of install_name_tool do to the bytes of a store, where they are known.
-use Rattle.std.specs.Prelude.{ℕ, List, Option, map}
-use Rattle.arwen_cli_install_names.specs.Editing.{IsNamed}
+use Rattle.std.specs.Prelude.{ℕ, ◌≡◌, ◌⊎◌, List, Option, map}
+use Rattle.byte_store.specs.Known.{Stays}
+use Rattle.macho_commands.specs.declared.error.MachoCommandError.TheVariants.{Memory}
+use Rattle.arwen_cli_install_names.specs.Editing.{FailsNames, IsNamed}
 use Rattle.arwen_cli_install_names.specs.Line.{ReadsNames}
+use Rattle.arwen_cli_install_names.specs.declared.editing.NamesError.{NamesError}
+use Rattle.arwen_cli_install_names.specs.declared.editing.NamesError.TheVariants.{Command}
 use Rattle.arwen_cli_install_names.specs.declared.line.NameLine.{NameLine}
 use Rattle.arwen_cli_peers.specs.Options.{Text, given_model}
 
@@ -9,3 +13,8 @@ use Rattle.arwen_cli_peers.specs.Options.{Text, given_model}
 abbrev pub IsNamedBy : List Text → Text → Option (List ℕ) → Option (List ℕ) → Type 0
 IsNamedBy words path old new =
     (line : NameLine) × ReadsNames words line × IsNamed (map given_model line.given.items) path old new
+
+-- what an error leaves and tells: these words aren't read, or what their options mean isn't made
+abbrev pub FailsNamedBy : List Text → Text → Option (List ℕ) → Option (List ℕ) → NamesError → Type 0
+FailsNamedBy words path old new e = (Stays old new × (e ≡ Command Memory))
+    ⊎ ((line : NameLine) × ReadsNames words line × FailsNames (map given_model line.given.items) path old new e)

@@ -6,7 +6,7 @@ ghost use Rattle.arwen_cli_runners.specs.Runs.{CanBeMade, EndsFiles, IsDone, IsF
 
 use crate::causes::elf_fault_line;
 use crate::ending::Ending;
-use arwen_cli_patchelf::{Print, patch_path, print_path, write_path};
+use arwen_cli_patchelf::{NotWritten, Print, patch_path, print_path, write_path};
 use arwen_cli_patchelf_lines::Plan;
 use byte_store::{Creates, Opens};
 use elf_commands::ElfCommandError;
@@ -93,8 +93,13 @@ fn write_file<'p, F: Opens<'p> + Creates<'p>, P: Probe>(
     ensures tells { IfErr result (TellsPlanPath (P.may_find probe.now) (plan_model plan.now)
         (F.contents files.now path.now)) }
 {
-    write_path(alloc, files, path, output, plan, probe)?;
-    Ok(())
+    match write_path(alloc, files, path, output, plan, probe) {
+        Ok(_) => Ok(()),
+        Err(NotWritten { error, file }) => {
+            drop(file);
+            Err(error)
+        }
+    }
 }
 
 /// Makes a plan in the file at a path. One that asks for nothing opens it for reading all the same.

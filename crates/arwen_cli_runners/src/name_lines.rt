@@ -1,7 +1,7 @@
 //! Lines of install_name_tool, run.
 ghost use Rattle.std.specs.Prelude.{IfErr, OnOk, map};
-ghost use Rattle.arwen_cli_install_names.specs.Editing.{FailsNames};
-ghost use Rattle.arwen_cli_runners.specs.NameRuns.{IsNamedBy};
+ghost use Rattle.arwen_cli_install_names.specs.Editing.{HasNamesCause};
+ghost use Rattle.arwen_cli_runners.specs.NameRuns.{FailsNamedBy, IsNamedBy};
 
 use arwen_cli_install_names::{NamesError, name_store, read_name_line};
 use byte_store::Store;
@@ -23,7 +23,10 @@ pub fn name_words<S: Store>(
 ) -> Result<String, NamesError>
     ensures named { OnOk result (IsNamedBy (map (λ w. w.now) words.now) path.now
         (S.contents store.old) (S.contents store.new)) }
-    ensures left { IfErr result (FailsNames path.now (S.contents store.old) (S.contents store.new)) }
+    ensures left { IfErr result (FailsNamedBy (map (λ w. w.now) words.now) path.now
+        (S.contents store.old) (S.contents store.new)) }
+    ensures cause { IfErr result (HasNamesCause S.may_fail_read S.may_fail_write S.may_take_none
+        (S.contents store.old) (S.failed store.old) (S.failed store.new)) }
 {
     match read_name_line(alloc, words) {
         Ok(line) => name_store(alloc, store, path, line.given.as_slice(), Notes::Wanted),

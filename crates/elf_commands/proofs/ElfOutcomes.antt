@@ -25,7 +25,7 @@ use Rattle.byte_store.specs.Composed.{made_of}
 use Rattle.byte_store.specs.declared.composed.Difference.{Difference}
 use Rattle.command_words.specs.Rows.{Text}
 use Rattle.elf_commands_steps.specs.Images.{AreChanged, TellsNoImage}
-use Rattle.elf_commands.specs.ElfEngine.{AreEditsAsked, IsBatchEdited, IsElfEdited, LeavesBatch, LeavesElf, Makes, MayFailAs, ShowsEdits, TellsEachFile, TellsEdit, TellsElfOf, TellsRun, bytes_left, elf_refusal}
+use Rattle.elf_commands.specs.ElfEngine.{AreEditsAsked, IsBatchEdited, IsElfEdited, LeavesBatch, LeavesElf, Makes, MayFailAs, ShowsEdits, TellsEachFile, TellsEdit, TellsElfOf, TellsRefusedAt, TellsRun, bytes_left, elf_refusal}
 use Rattle.elf_commands_steps.specs.ElfErrors.{answer_to_elf, answer_to_elf_fault}
 use Rattle.elf_commands.specs.Prints.{PrintMayFail, TellsElf}
 use Rattle.elf_commands_steps.specs.declared.error.ElfCommandError.{ElfCommandError}
@@ -185,20 +185,23 @@ one_refused edit file read index (elf.Io e) is refuses = absurd refuses
 one_refused edit file read index (elf.Write fault) is refuses = absurd refuses
 one_refused edit file read index elf.InvalidDtNeededEncoding is refuses = absurd refuses
 
-several_refused : (edits : List Edit) (file : List ℕ) (read : Image) (e : ElfBatchError) (fault : ElfError) → image_of file ≡ Ok read → RefusesBatch e (run edits read) → TellsEdit (several (Ok edits)) file (answer_to_elf_fault e fault)
-several_refused edits file read e elf.Memory is refuses = tt
-several_refused edits file read e (elf.Modify cause) is refuses = record { read = read; is_read = is; refused = refuses }
-several_refused edits file read e (elf.Parse fault) is refuses = record { read = read; is_read = is; refused = refuses }
-several_refused edits file read e (elf.Io fault) is refuses = record { read = read; is_read = is; refused = refuses }
-several_refused edits file read e (elf.Write fault) is refuses = record { read = read; is_read = is; refused = refuses }
-several_refused edits file read e elf.InvalidDtNeededEncoding is refuses = record { read = read; is_read = is; refused = refuses }
+several_refused : (edits : List Edit) (file : List ℕ) (read : Image) (e : ElfBatchError) (fault : ElfError) → e.fault ≡ fault → image_of file ≡ Ok read → RefusesAt e.index fault (run edits read)
+    → TellsEdit (several (Ok edits)) file (answer_to_elf_fault e fault)
+several_refused edits file read e elf.Memory same is refuses = tt
+several_refused edits file read e (elf.Modify cause) same is refuses =
+    let Told : ElfError → Type 0 = TellsRefusedAt edits file e.index in
+    subst Told (sym same) (record { read = read; is_read = is; refused = refuses })
+several_refused edits file read e (elf.Parse fault) same is refuses = absurd refuses
+several_refused edits file read e (elf.Io fault) same is refuses = absurd refuses
+several_refused edits file read e (elf.Write fault) same is refuses = absurd refuses
+several_refused edits file read e elf.InvalidDtNeededEncoding same is refuses = absurd refuses
 
 -- an edit is refused
 pub tells_refused : (a : ElfAsked) (edits : List Edit) (file : List ℕ) (read : Image) (e : ElfBatchError) → AreEditsAsked a edits → image_of file ≡ Ok read → RefusesBatch e (run edits read) → TellsEdit a file (elf_refusal a e)
 tells_refused (one edit) edits file read e are is refuses =
     one_refused edit file read e.index e.fault is (subst (λ (l : List Edit). RefusesAt e.index e.fault (run l read)) are refuses)
 tells_refused (several read_as) edits file read e are is refuses =
-    subst (λ r. TellsEdit (several r) file (elf_refusal (several r) e)) (sym are) (several_refused edits file read e e.fault is refuses)
+    subst (λ r. TellsEdit (several r) file (elf_refusal (several r) e)) (sym are) (several_refused edits file read e e.fault refl is refuses)
 tells_refused (shrinking prefixes) edits file read e are is refuses = absurd are
 tells_refused (of_symbols edit) edits file read e are is refuses = absurd are
 tells_refused (in_turn asked) edits file read e are is refuses = absurd are

@@ -18,7 +18,7 @@ use Rattle.elf_symbol_edits.specs.SymbolEdit.{SymbolEdit}
 use Rattle.elf_commands_steps.specs.Groups.{GroupEdit, MakeInTurn, MakesNext, RefuseInTurn, TellsInTurn, has_symbols, plain, symbols}
 use Rattle.elf_commands.specs.ElfAsked.{ElfAsked, asked_of_edits, asked_of_words, asks_edits, asks_in_turn, in_turn, of_symbols, one, printing, several, shrinking}
 use Rattle.elf_commands_steps.specs.Images.{AreChanged, TellsNoImage}
-use Rattle.elf_commands.specs.ElfEngine.{AreAskedInTurn, AreEditedInTurn, IsElfEdited, LeaveInTurn, LeavesElf, MakesInTurn, TellsEdit, elf_refusal}
+use Rattle.elf_commands.specs.ElfEngine.{AreAskedInTurn, AreEditedInTurn, IsElfEdited, LeaveInTurn, LeavesElf, MakesInTurn, TellsEdit, TellsRefusedInTurn, elf_refusal}
 use Rattle.elf_commands_steps.specs.ElfErrors.{answer_to_elf, answer_to_elf_batch, answer_to_elf_fault}
 use Rattle.elf_commands.specs.ElfStores.{IsElfPatched}
 use Rattle.elf_commands_steps.specs.declared.error.ElfCommandError.{ElfCommandError}
@@ -86,20 +86,31 @@ symbol_refused edit file read index (elf.Io e) is refuse = inr (inl (index, reco
 symbol_refused edit file read index (elf.Write fault) is refuse = inr (inl (index, record { read = read; is_read = is; refused = refuse }))
 symbol_refused edit file read index elf.InvalidDtNeededEncoding is refuse = inr (inl (index, record { read = read; is_read = is; refused = refuse }))
 
-turn_refused : (edits : List GroupEdit) (file : List ℕ) (read : Image) (e : ElfBatchError) (fault : ElfError) → image_of file ≡ Ok read → TellsInTurn edits read e → TellsEdit (in_turn edits) file (answer_to_elf_fault e fault)
-turn_refused edits file read e elf.Memory is refuse = tt
-turn_refused edits file read e (elf.Modify cause) is refuse = record { read = read; is_read = is; refused = refuse }
-turn_refused edits file read e (elf.Parse fault) is refuse = record { read = read; is_read = is; refused = refuse }
-turn_refused edits file read e (elf.Io fault) is refuse = record { read = read; is_read = is; refused = refuse }
-turn_refused edits file read e (elf.Write fault) is refuse = record { read = read; is_read = is; refused = refuse }
-turn_refused edits file read e elf.InvalidDtNeededEncoding is refuse = record { read = read; is_read = is; refused = refuse }
+turn_refused : (edits : List GroupEdit) (file : List ℕ) (read : Image) (e : ElfBatchError) (fault : ElfError) → e.fault ≡ fault → image_of file ≡ Ok read → RefuseInTurn edits read e.index fault
+    → TellsEdit (in_turn edits) file (answer_to_elf_fault e fault)
+turn_refused edits file read e elf.Memory same is refuse = tt
+turn_refused edits file read e (elf.Modify cause) same is refuse =
+    let Told : ElfError → Type 0 = TellsRefusedInTurn edits file e.index in
+    subst Told (sym same) (record { read = read; is_read = is; refused = refuse })
+turn_refused edits file read e (elf.Parse fault) same is refuse =
+    let Told : ElfError → Type 0 = TellsRefusedInTurn edits file e.index in
+    subst Told (sym same) (record { read = read; is_read = is; refused = refuse })
+turn_refused edits file read e (elf.Io fault) same is refuse =
+    let Told : ElfError → Type 0 = TellsRefusedInTurn edits file e.index in
+    subst Told (sym same) (record { read = read; is_read = is; refused = refuse })
+turn_refused edits file read e (elf.Write fault) same is refuse =
+    let Told : ElfError → Type 0 = TellsRefusedInTurn edits file e.index in
+    subst Told (sym same) (record { read = read; is_read = is; refused = refuse })
+turn_refused edits file read e elf.InvalidDtNeededEncoding same is refuse =
+    let Told : ElfError → Type 0 = TellsRefusedInTurn edits file e.index in
+    subst Told (sym same) (record { read = read; is_read = is; refused = refuse })
 
 -- one of the edits is refused
 pub tells_turn_refused : (a : ElfAsked) (edits : List GroupEdit) (file : List ℕ) (read : Image) (e : ElfBatchError) → AreAskedInTurn a edits → image_of file ≡ Ok read → TellsInTurn edits read e → TellsEdit a file (elf_refusal a e)
 tells_turn_refused (of_symbols edit) edits file read e are is told =
     symbol_refused edit file read e.index e.fault is (subst (λ (l : List GroupEdit). RefuseInTurn l read e.index e.fault) are told)
 tells_turn_refused (in_turn asked) edits file read e are is told =
-    turn_refused asked file read e e.fault is (subst (λ (l : List GroupEdit). TellsInTurn l read e) are told)
+    turn_refused asked file read e e.fault refl is (subst (λ (l : List GroupEdit). TellsInTurn l read e) are told)
 tells_turn_refused (one edit) edits file read e are is told = absurd are
 tells_turn_refused (several read_as) edits file read e are is told = absurd are
 tells_turn_refused (shrinking prefixes) edits file read e are is told = absurd are

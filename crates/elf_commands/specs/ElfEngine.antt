@@ -122,10 +122,19 @@ TellsElfOf (of_symbols edit) file e =
 TellsElfOf (in_turn edits) file e = IsUnread file e ⊎ AreUnwritten edits file e
 TellsElfOf a file e = ⊥
 
+-- an error of the edit with this number; want of memory is none of an edit
+abbrev pub TellsRefusedAt : List Edit → List ℕ → ℕ → ElfError → Type 0
+TellsRefusedAt edits file index elf.Memory = ⊥
+TellsRefusedAt edits file index e = IsRefusedAt edits file index e
+
+abbrev pub TellsRefusedInTurn : List GroupEdit → List ℕ → ℕ → ElfError → Type 0
+TellsRefusedInTurn edits file index elf.Memory = ⊥
+TellsRefusedInTurn edits file index e = AreRefusedInTurn edits file index e
+
 -- an error of one of several edits
 abbrev pub TellsBatchOf : ElfAsked → List ℕ → ElfBatchError → Type 0
-TellsBatchOf (several (Ok edits)) file e = IsRefusedAt edits file e.index e.fault
-TellsBatchOf (in_turn edits) file e = AreRefusedInTurn edits file e.index e.fault
+TellsBatchOf (several (Ok edits)) file e = TellsRefusedAt edits file e.index e.fault
+TellsBatchOf (in_turn edits) file e = TellsRefusedInTurn edits file e.index e.fault
 TellsBatchOf a file e = ⊥
 
 abbrev pub TellsEdit : ElfAsked → List ℕ → ElfCommandError → Type 0

@@ -1,3 +1,4 @@
+pub use Rattle.elf_commands_steps.specs.Counted
 pub use Rattle.elf_commands_steps.specs.ElfErrors
 pub use Rattle.elf_commands_steps.specs.Failures
 pub use Rattle.elf_commands_steps.specs.Groups

@@ -3,6 +3,6 @@ use Rattle.arwen_cli_patchelf_lines.specs.Plans.{plan_model}
 use Rattle.arwen_cli_runners.proofs.RunLaws.{held_made}
 use Rattle.arwen_cli_runners.proofs.elf_lines.write_file.Goals as goal
 
-pub returns-clause-made : goal.returns-clause-made
-returns-clause-made g c =
-    held_made g.F.Creates.is_new (g.P.Probe.may_find c.args.probe.now) (plan_model c.args.plan.now) (g.F.Opens.contents c.args.files.now c.args.path.now) _ c.in_ok-write_path.ensures.written
+pub returns-in-Ok-clause-made : goal.returns-in-Ok-clause-made
+returns-in-Ok-clause-made g c =
+    held_made g.F.Creates.is_new (g.P.Probe.may_find c.args.probe.now) (plan_model c.args.plan.now) (g.F.Opens.contents c.args.files.now c.args.path.now) _ c.in-Ok.ensures.written
