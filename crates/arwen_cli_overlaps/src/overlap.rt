@@ -1,14 +1,16 @@
 //! What is said of two blocks that stand against a command.
-ghost use Rattle.std.specs.Prelude.{◌≡◌, IfOk, IfSome, string_bytes};
+ghost use Rattle.std.specs.Prelude.{◌≡◌, IfOk, IfSome, Ok, map, string_bytes};
 ghost use Rattle.elf_commands.specs.ElfAsked.{elf_asked};
-ghost use Rattle.elf_commands.specs.ElfEngine.{AreEditsAsked};
+ghost use Rattle.elf_commands.specs.ElfEngine.{AreAskedInTurn, AreEditsAsked};
 ghost use Rattle.elf_commands.specs.ElfWords.{edits_model};
 ghost use Rattle.elf_commands.specs.Meaning.{elf_command_model};
-ghost use Rattle.arwen_cli_overlaps.specs.Overlaps.{TellsOverlap, TellsPair};
+ghost use Rattle.elf_commands_steps.specs.Groups.{MakeInTurn, group_model};
+ghost use Rattle.elf_edits.specs.Batch.{run};
+ghost use Rattle.arwen_cli_overlaps.specs.Overlaps.{TellsMade, TellsOverlap, TellsPair};
 
-use elf_commands::ElfCommand;
-use elf_commands::elf::edits_asked;
+use elf_commands::elf::{AskedEdits, asked_by};
 use elf_commands::files::ElfContainer;
+use elf_commands::{ElfCommand, GroupEdit, apply_in_turn};
 use elf_edits::ElfEdit;
 use elf_image::Builder;
 use elf_layout_reasons::{pair_text, stuck_pair};
@@ -21,14 +23,15 @@ pub fn overlap_text(alloc: Global, bytes: &[u8], command: &ElfCommand) -> Option
     ensures { IfSome result (λ text. TellsOverlap
         (elf_asked (elf_command_model command.now)) bytes.now (string_bytes text)) }
 {
-    let Ok(Some(edits)) = edits_asked(alloc, command) else {
-        return None;
-    };
-    text_after(alloc, bytes, command, edits.as_slice())
+    match asked_by(alloc, command) {
+        Ok(AskedEdits::Batch(edits)) => text_after_batch(alloc, bytes, command, edits.as_slice()),
+        Ok(AskedEdits::InTurn(edits)) => text_in_turn(alloc, bytes, command, edits.as_slice()),
+        _ => None,
+    }
 }
 
-/// The same of the edits that a command asks for.
-fn text_after(
+/// The same of the edits of one batch that a command asks for.
+fn text_after_batch(
     alloc: Global,
     bytes: &[u8],
     command: &ElfCommand,
@@ -38,13 +41,50 @@ fn text_after(
     ensures { IfSome result (λ text. TellsOverlap
         (elf_asked (elf_command_model command.now)) bytes.now (string_bytes text)) }
 {
-    let Ok(mut elf) = ElfContainer::parse(alloc, bytes) else {
-        return None;
-    };
-    if elf.apply(alloc, edits).is_err() {
-        return None;
+    match ElfContainer::parse(alloc, bytes) {
+        Ok(mut elf) => text_of_batch(alloc, &mut elf, edits),
+        Err(_) => None,
     }
-    text_if(text_of_image(alloc, elf.inner.builder()))
+}
+
+/// What is said of two blocks of the image that the edits of a batch make.
+fn text_of_batch(alloc: Global, elf: &mut ElfContainer<'_>, edits: &[ElfEdit]) -> Option<String>
+    ensures { IfSome result (λ text. TellsMade
+        (λ made. run (edits_model edits.now) elf.old.inner ≡ Ok made) (string_bytes text)) }
+{
+    match elf.apply(alloc, edits) {
+        Ok(()) => text_if(text_of_image(alloc, elf.inner.builder())),
+        Err(_) => None,
+    }
+}
+
+/// The same of edits, one after the other, that a command asks for.
+fn text_in_turn(
+    alloc: Global,
+    bytes: &[u8],
+    command: &ElfCommand,
+    edits: &[GroupEdit],
+) -> Option<String>
+    requires { AreAskedInTurn (elf_asked (elf_command_model command.now))
+        (map group_model edits.now) }
+    ensures { IfSome result (λ text. TellsOverlap
+        (elf_asked (elf_command_model command.now)) bytes.now (string_bytes text)) }
+{
+    match ElfContainer::parse(alloc, bytes) {
+        Ok(mut elf) => text_of_turns(alloc, &mut elf, edits),
+        Err(_) => None,
+    }
+}
+
+/// What is said of two blocks of the image that edits, one after the other, make.
+fn text_of_turns(alloc: Global, elf: &mut ElfContainer<'_>, edits: &[GroupEdit]) -> Option<String>
+    ensures { IfSome result (λ text. TellsMade
+        (MakeInTurn (map group_model edits.now) elf.old.inner) (string_bytes text)) }
+{
+    match apply_in_turn(alloc, elf, edits) {
+        Ok(()) => text_if(text_of_image(alloc, elf.inner.builder())),
+        Err(_) => None,
+    }
 }
 
 /// A text that was made.
