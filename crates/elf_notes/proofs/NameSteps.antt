@@ -137,13 +137,19 @@ three_more text a b last x y z first second third =
     ∙ ap (λ l. l ++ z) (second ∙ ap (λ l. l ++ y) first ∙ append_assoc text x y)
     ∙ append_assoc text (x ++ y) z
 
--- six texts, one behind another
-pub six_more : (text a b last : List ℕ) → (x y f g h i : List ℕ) → a ≡ text ++ x → b ≡ a ++ y → last ≡ b ++ f ++ g ++ h ++ i
-    → last ≡ text ++ (x ++ y ++ f ++ g ++ h ++ i)
-six_more text a b last x y f g h i first second third =
+-- four texts, one behind another
+pub four_more : (text a b c last x y z w : List ℕ) → a ≡ text ++ x → b ≡ a ++ y → c ≡ b ++ z → last ≡ c ++ w → last ≡ text ++ (x ++ y ++ z ++ w)
+four_more text a b c last x y z w first second third fourth =
+    fourth ∙ ap (λ l. l ++ w) (three_more text a b c x y z first second third) ∙ append_assoc text (x ++ y ++ z) w
+
+-- seven texts, one behind another
+pub seven_more : (text a b last : List ℕ) → (x y f g h i j : List ℕ) → a ≡ text ++ x → b ≡ a ++ y → last ≡ b ++ f ++ g ++ h ++ i ++ j
+    → last ≡ text ++ (x ++ y ++ f ++ g ++ h ++ i ++ j)
+seven_more text a b last x y f g h i j first second third =
     third
-    ∙ ap (λ l. l ++ f ++ g ++ h ++ i) (second ∙ ap (λ l. l ++ y) first ∙ append_assoc text x y)
-    ∙ ap (λ l. l ++ g ++ h ++ i) (append_assoc text (x ++ y) f)
-    ∙ ap (λ l. l ++ h ++ i) (append_assoc text (x ++ y ++ f) g)
-    ∙ ap (λ l. l ++ i) (append_assoc text (x ++ y ++ f ++ g) h)
-    ∙ append_assoc text (x ++ y ++ f ++ g ++ h) i
+    ∙ ap (λ l. l ++ f ++ g ++ h ++ i ++ j) (second ∙ ap (λ l. l ++ y) first ∙ append_assoc text x y)
+    ∙ ap (λ l. l ++ g ++ h ++ i ++ j) (append_assoc text (x ++ y) f)
+    ∙ ap (λ l. l ++ h ++ i ++ j) (append_assoc text (x ++ y ++ f) g)
+    ∙ ap (λ l. l ++ i ++ j) (append_assoc text (x ++ y ++ f ++ g) h)
+    ∙ ap (λ l. l ++ j) (append_assoc text (x ++ y ++ f ++ g ++ h) i)
+    ∙ append_assoc text (x ++ y ++ f ++ g ++ h ++ i) j

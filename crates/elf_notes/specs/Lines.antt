@@ -36,11 +36,17 @@ no_pairs_line = codes "no name of a symbol is given"
 abbrev pub own_loader_line : Words
 own_loader_line = codes "it loads itself, and glibc stops where such a file has a run path"
 
+abbrev pub renamed_loader_line : Words
+renamed_loader_line = codes "it is a loader that libraries need by its old name: glibc loads that one too, and stops"
+
 abbrev pub no_list_line : Words
 no_list_line = codes "it has no dynamic section: a loader finds no library and no run path in it"
 
 abbrev pub more_finds_line : Words
 more_finds_line = codes "names that its GNU hash table left out can be found now"
+
+abbrev pub lost_addresses_line : Words
+lost_addresses_line = codes "its own addresses of functions of libraries can't be found any more: pointers to one function may differ"
 
 abbrev pub old_numbers_line : Words
 old_numbers_line = codes "relocations that can't be read name symbols by their old numbers, which may be others now"
@@ -56,12 +62,14 @@ finding_lines file found =
     ++ line_if found.has_no_names file no_names_line
     ++ line_if found.has_no_pairs file no_pairs_line
     ++ line_if found.is_own_loader file own_loader_line
+    ++ line_if found.renames_loader file renamed_loader_line
     ++ line_if found.lacks_list file no_list_line
 
 -- what holds after them
 abbrev pub left_lines : Words → ElfNotes → Words
 left_lines file notes =
-    line_if notes.finds_more file more_finds_line ++ line_if notes.keeps_numbers file old_numbers_line
+    line_if notes.finds_more file more_finds_line ++ line_if notes.loses_addresses file lost_addresses_line
+    ++ line_if notes.keeps_numbers file old_numbers_line
     ++ line_if notes.seeks_old_place file old_place_line
 
 abbrev pub lines_of : Words → ElfNotes → Words

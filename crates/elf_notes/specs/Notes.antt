@@ -1,22 +1,23 @@
 -- What a user should know of edits of an image.
-use Rattle.std.specs.Prelude.{ℕ, ◌≡◌, ◌==◌, ◌&&◌, ◌||◌, ◌⊎◌, ◌++◌, List, [], ◌∷◌, Bool, Option, Some, true, false, not, drop, map, filter, is_none, take, bit_and, nat_eq, unwrap_or}
+use Rattle.std.specs.Prelude.{ℕ, ◌≡◌, ◌==◌, ◌&&◌, ◌||◌, ◌⊎◌, ◌++◌, List, [], ◌∷◌, Bool, Option, Some, true, false, not, drop, map, filter, find, is_none, take, bit_and, nat_eq, unwrap_or}
 use Rattle.std.specs.List.{flat_map, list_any, starts_with}
+use Rattle.std.specs.Str.{bytes_eq}
 use Rattle.std.specs.Option.{option_map}
 use Rattle.elf_edits.specs.Batch.{left_by, run}
-use Rattle.elf_edits.specs.Edit.{AddNeeded, AddRunPath, ClearSymbolVersion, DeleteNeeded, Edit, RenameDynamicSymbols, ReplaceLibrary, ReplaceNeeded, SetRunPath}
+use Rattle.elf_edits.specs.Edit.{AddNeeded, AddRunPath, ClearSymbolVersion, DeleteNeeded, Edit, RenameDynamicSymbols, ReplaceLibrary, ReplaceNeeded, SetRunPath, SetSoname}
 use Rattle.elf_edits.specs.Entries.{needed_names}
 use Rattle.elf_edits.specs.Symbols.{names_behind_first}
 use Rattle.elf_edits.specs.Texts.{has_some, is_among}
 use Rattle.elf_format.specs.Dynamic.{Entry, Integer, Text}
 use Rattle.elf_format.specs.Image.{Image, ImageSection}
-use Rattle.elf_format.specs.Options.{is_one_of}
+use Rattle.elf_format.specs.Options.{is_one_of, is_some_and}
 use Rattle.elf_format.specs.Views.{NamedSymbol}
 use Rattle.elf_format.specs.declared.constants.TheConstants.{DT_FLAGS_1, DT_SONAME, ET_DYN, PT_DYNAMIC, SHT_GNU_HASH, SHT_REL, SHT_RELA}
 use Rattle.elf_format.specs.File.{segment_of_type}
 use Rattle.elf_format.specs.Form.{fixed_field}
 use Rattle.elf_format.specs.declared.form.Form.{Form}
 use Rattle.elf_format.specs.declared.records.SegmentHeader.{SegmentHeader}
-use Rattle.elf_hashes.specs.Found.{is_found}
+use Rattle.elf_hashes.specs.Found.{is_found, is_sought}
 use Rattle.elf_image.specs.Kept.{image_at_read}
 use Rattle.elf_image.specs.Names.{are_names_changed}
 use Rattle.elf_image.specs.Renumbering.{is_opaque}
@@ -162,6 +163,19 @@ loads_itself image =
     image.header.e_type == ET_DYN && is_none image.interpreter
     && list_any (λ e. says_pie e || says_loader e) (entries_of image)
 
+-- an edit gives a file another name of its own than the text of this entry
+abbrev pub has_other_text : Entry → Name → Bool
+has_other_text (Text tag text) name = not (bytes_eq text name)
+has_other_text _ name = false
+
+abbrev pub gives_other_name : Entry → Edit → Bool
+gives_other_name entry (SetSoname name) = has_other_text entry name
+gives_other_name entry _ = false
+
+-- one of some edits gives a loader another name than the one that it has, by which libraries need it
+abbrev pub rename_loader : List Edit → List Entry → Bool
+rename_loader edits entries = is_some_and (λ e. list_any (gives_other_name e) edits) (find says_loader entries)
+
 -- ## What edits leave
 
 -- versions are needed still of a library that was dropped, and that no entry needs any more
@@ -175,6 +189,11 @@ leaves_out form ys s = s.sh_type == SHT_GNU_HASH && list_any is_found (drop 1 (t
 -- relocations that are kept as they are, since they can't be read
 abbrev pub is_unread : ImageSection → Bool
 is_unread s = is_one_of (SHT_REL ∷ SHT_RELA ∷ []) s.sh_type && is_opaque s.kind
+
+-- A symbol that is defined elsewhere has an address here: a program's own one of a library's function, which a loader takes for that function wherever
+-- its address is taken, if a look-up finds it (processor supplements of the gABI, Function Addresses).
+abbrev pub stands_in : NamedSymbol → Bool
+stands_in y = is_sought y && not (y.st_value == 0)
 
 -- a dynamic symbol has another name than it was read with: the hash tables are made anew, and symbols may get other numbers
 abbrev pub is_hashed_anew : Image → Bool
@@ -223,12 +242,14 @@ pub record AreFindings (edits : List Edit) (image : Image) (found : Findings) : 
   pub no_names : found.has_no_names ≡ list_any has_no_names edits
   pub no_pairs : found.has_no_pairs ≡ list_any has_no_pairs edits
   pub own_loader : found.is_own_loader ≡ (loads_itself image && list_any sets_run_path edits)
+  pub other_name : found.renames_loader ≡ (loads_itself image && rename_loader edits (entries_of image))
   pub no_list : found.lacks_list ≡ is_none image.entries
 
 -- What an edited image shows beside these.
 pub record AreLeft (edited : Image) (notes : ElfNotes) : Type 0 where
   pub old_needs : map (λ n. n.now) notes.old_needs.items ≡ old_needs (map (λ n. n.now) notes.found.dropped.items) edited
   pub new_finds : notes.finds_more ≡ (is_hashed_anew edited && list_any (leaves_out edited.form edited.dynamic_symbols) edited.sections)
+  pub lost_addresses : notes.loses_addresses ≡ (is_hashed_anew edited && list_any stands_in (drop 1 edited.dynamic_symbols))
   pub old_numbers : notes.keeps_numbers ≡ (is_hashed_anew edited && list_any is_unread edited.sections)
   pub old_place : TellsOldPlace edited notes.seeks_old_place
 

@@ -4,7 +4,7 @@ ghost use Rattle.std.specs.List.{list_any};
 ghost use Rattle.elf_edits.specs.EditModel.{edit_model};
 ghost use Rattle.elf_edits.specs.Texts.{is_among as among};
 ghost use Rattle.elf_image.specs.ImageModel.{entry_model};
-ghost use Rattle.elf_notes.specs.Notes.{AreFindings, asked, entries_asked, entries_of as entries_shown, has_no_names as lacks_names, has_no_pairs as lacks_pairs, is_loader_name as names_loader, is_unmatched, libraries_asked, loads_itself as is_self_loading, recorded_of, says_loader as tells_loader, says_pie as tells_pie, sets_run_path as gives_run_path, unmatched_symbols};
+ghost use Rattle.elf_notes.specs.Notes.{AreFindings, asked, entries_asked, entries_of as entries_shown, gives_other_name as is_other_name_given, has_no_names as lacks_names, has_no_pairs as lacks_pairs, has_other_text as is_other_text, is_loader_name as names_loader, is_unmatched, libraries_asked, loads_itself as is_self_loading, recorded_of, rename_loader as do_rename_loader, says_loader as tells_loader, says_pie as tells_pie, sets_run_path as gives_run_path, unmatched_symbols};
 
 use crate::names::{
     entries_asked_in, joined, libraries_asked_in, needed_of, put_in, recorded_in, symbols_asked_in,
@@ -38,6 +38,8 @@ pub struct Findings<'e> {
     pub has_no_pairs: bool,
     /// Whether a run path is set in a static PIE, or in a loader.
     pub is_own_loader: bool,
+    /// Whether a loader gets another name than the one that it has, by which libraries need it.
+    pub renames_loader: bool,
     /// Whether the file has no dynamic list, so that a loader finds no name and no run path in it.
     pub lacks_list: bool,
 }
@@ -62,6 +64,7 @@ pub fn findings_of<'e>(
         has_no_names: has_no_names(edits),
         has_no_pairs: has_no_pairs(edits),
         is_own_loader: gives_itself_a_run_path(image, edits),
+        renames_loader: gives_loader_another_name(image, edits),
         lacks_list: image.dynamic_data().is_none(),
     })
 }
@@ -149,6 +152,60 @@ fn gives_itself_a_run_path(image: &Builder<'_>, edits: &[ElfEdit]) -> bool
         ≡ (is_self_loading image.now && list_any gives_run_path (map edit_model edits.now)) }
 {
     loads_itself(image) && sets_run_path(edits)
+}
+
+/// Whether edits give a loader another name than the one that it has.
+fn gives_loader_another_name(image: &Builder<'_>, edits: &[ElfEdit]) -> bool
+    ensures { result ≡ (is_self_loading image.now
+        && do_rename_loader (map edit_model edits.now) (entries_shown image.now)) }
+{
+    loads_itself(image) && rename_loader(edits, entries_of(image))
+}
+
+/// Whether edits give another name to a file of which an entry has a loader's.
+fn rename_loader(edits: &[ElfEdit], entries: &[Dynamic<'_>]) -> bool
+    ensures { result
+        ≡ do_rename_loader (map edit_model edits.now) (map entry_model entries.now) }
+{
+    for entry in entries {
+        if says_loader(entry) {
+            return give_other_name(entry, edits);
+        }
+    }
+    false
+}
+
+/// Whether one of some edits gives a file another name of its own than an entry has.
+fn give_other_name(entry: &Dynamic<'_>, edits: &[ElfEdit]) -> bool
+    ensures { result
+        ≡ list_any (is_other_name_given (entry_model entry.now)) (map edit_model edits.now) }
+{
+    for edit in edits {
+        if gives_other_name(entry, edit) {
+            return true;
+        }
+    }
+    false
+}
+
+/// Whether an edit does.
+fn gives_other_name(entry: &Dynamic<'_>, edit: &ElfEdit) -> bool
+    ensures { result ≡ is_other_name_given (entry_model entry.now) (edit_model edit.now) }
+{
+    match edit {
+        ElfEdit::SetSoname(name) => has_other_text(entry, name.as_slice()),
+        _ => false,
+    }
+}
+
+/// Whether an entry has another text.
+fn has_other_text(entry: &Dynamic<'_>, name: &[u8]) -> bool
+    ensures { result ≡ is_other_text (entry_model entry.now) name.now }
+{
+    match entry {
+        Dynamic::Text { tag: _, val } => val.as_slice() != name,
+        _ => false,
+    }
 }
 
 /// The names of some that are needed. The cost is in proportion to all of them.

@@ -1,7 +1,7 @@
 //! The lines that tell notes.
 ghost use Rattle.std.specs.Prelude.{◌≡◌, ◌++◌, IfOk, OnOk, map, string_bytes};
 ghost use Rattle.std.specs.List.{flat_map};
-ghost use Rattle.elf_notes.specs.Lines.{finding_lines, left_lines, line_if, line_of, lines_of, no_list_line, no_names_line, no_pairs_line, old_need_line, own_loader_line, unmatched_line, unmatched_symbol_line};
+ghost use Rattle.elf_notes.specs.Lines.{finding_lines, left_lines, line_if, line_of, lines_of, no_list_line, no_names_line, no_pairs_line, old_need_line, own_loader_line, renamed_loader_line, unmatched_line, unmatched_symbol_line};
 
 use crate::findings::Findings;
 use crate::notes::ElfNotes;
@@ -45,6 +45,7 @@ fn put_flags(
         ++ line_if found.now.has_no_names file.now no_names_line
         ++ line_if found.now.has_no_pairs file.now no_pairs_line
         ++ line_if found.now.is_own_loader file.now own_loader_line
+        ++ line_if found.now.renames_loader file.now renamed_loader_line
         ++ line_if found.now.lacks_list file.now no_list_line) }
 {
     let no_names = "no name of a library is given";
@@ -53,6 +54,9 @@ fn put_flags(
     put_if(alloc, text, found.has_no_pairs, file, no_pairs)?;
     let own_loader = "it loads itself, and glibc stops where such a file has a run path";
     put_if(alloc, text, found.is_own_loader, file, own_loader)?;
+    let renamed_loader =
+        "it is a loader that libraries need by its old name: glibc loads that one too, and stops";
+    put_if(alloc, text, found.renames_loader, file, renamed_loader)?;
     let no_list = "it has no dynamic section: a loader finds no library and no run path in it";
     put_if(alloc, text, found.lacks_list, file, no_list)
 }
@@ -69,6 +73,9 @@ fn put_left(
 {
     let finds_more = "names that its GNU hash table left out can be found now";
     put_if(alloc, text, notes.finds_more, file, finds_more)?;
+    let loses_addresses =
+        "its own addresses of functions of libraries can't be found any more: pointers to one function may differ";
+    put_if(alloc, text, notes.loses_addresses, file, loses_addresses)?;
     let keeps_numbers =
         "relocations that can't be read name symbols by their old numbers, which may be others now";
     put_if(alloc, text, notes.keeps_numbers, file, keeps_numbers)?;

@@ -10,7 +10,7 @@ ghost use Rattle.elf_image.specs.ImageModel.{needs_model, section_model};
 ghost use Rattle.elf_image.specs.Renumbering.{is_opaque as is_kept};
 ghost use Rattle.elf_image_symbol_edits.specs.Loan.{symbols_now};
 ghost use Rattle.elf_layout_needs.specs.Staying.{unmarked_needs};
-ghost use Rattle.elf_notes.specs.Notes.{AreLeft, is_hashed_anew as are_tables_made_anew, is_unread as are_numbers_kept, leaves_out as does_leave_out, old_needs, versioned_of};
+ghost use Rattle.elf_notes.specs.Notes.{AreLeft, is_hashed_anew as are_tables_made_anew, is_unread as are_numbers_kept, leaves_out as does_leave_out, old_needs, stands_in as stands_in_for, versioned_of};
 
 use crate::findings::{Findings, entries_of};
 use crate::names::needed_of;
@@ -35,6 +35,8 @@ pub struct ElfNotes<'a> {
     pub old_needs: Vec<&'a [u8]>,
     /// Whether look-ups may find symbols by the new GNU hash table that the one that was read left out.
     pub finds_more: bool,
+    /// Whether look-ups by the new hash tables don't find symbols that are defined elsewhere and have an address here.
+    pub loses_addresses: bool,
     /// Whether relocations that can't be read keep the numbers of dynamic symbols that may get others.
     pub keeps_numbers: bool,
     /// Whether the file loads itself and its dynamic section moves, so that it looks for the section at the old place.
@@ -59,6 +61,7 @@ pub fn notes_of<'a>(
         found,
         old_needs,
         finds_more: is_hashed_anew && leave_out(edited),
+        loses_addresses: is_hashed_anew && has_addresses(edited),
         keeps_numbers: is_hashed_anew && are_unread(edited.sections()),
         seeks_old_place,
     })
@@ -170,6 +173,35 @@ fn is_found(symbols: &SymbolsNow<'_>, i: usize) -> bool
 {
     let numbers = symbols.numbers(i, 0);
     numbers.st_shndx != 0 && numbers.st_info / 16 != 0
+}
+
+/// Whether a dynamic symbol behind the first is defined elsewhere, and has an address here.
+fn has_addresses(edited: &Builder<'_>) -> bool
+    ensures { result ≡ list_any stands_in_for (drop 1 edited.now.dynamic_symbols) }
+{
+    do_any_stand_in(edited.dynamic_symbols())
+}
+
+/// Whether a symbol behind the first is one.
+fn do_any_stand_in(symbols: SymbolsNow<'_>) -> bool
+    ensures { result ≡ list_any stands_in_for (drop 1 (symbols_now symbols.entry)) }
+{
+    for i in 1..symbols.len() {
+        if stands_in(&symbols, i) {
+            return true;
+        }
+    }
+    false
+}
+
+/// Whether the symbol at a position is one. Its name isn't looked at.
+#[inline(always)]
+fn stands_in(symbols: &SymbolsNow<'_>, i: usize) -> bool
+    requires { i < length (symbols_now symbols.now) }
+    ensures { option_map stands_in_for (slice_get (symbols_now symbols.now) i) ≡ Some result }
+{
+    let numbers = symbols.numbers(i, 0);
+    numbers.st_info / 16 != 0 && numbers.st_shndx == 0 && numbers.st_value != 0
 }
 
 /// Whether some sections have relocations that can't be read.
