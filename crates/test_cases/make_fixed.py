@@ -2,9 +2,10 @@
 """Makes ELF files whose dynamic symbols keep their names, of `data/library-gnu-x86_64`, into `data` or the folder that is named.
 
 Each is the linked library with a number or two changed, so that a hash table can't be made anew, or that a section of a kind that
-isn't read links to the symbols: `fixed-` and what is wrong with it. The symbols of three others may have other names: in
+isn't read links to the symbols: `fixed-` and what is wrong with it. The symbols of four others may have other names: in
 `looped-chain` a symbol of the hash tables is the next one of itself, `late-gnu-hash` has a GNU hash table that begins behind
-a symbol that is defined, and `unlinked-relocations` has relocations that name symbols of no table.
+a symbol that is defined, `unlinked-relocations` has relocations that name symbols of no table, and in `own-address` a symbol that
+is defined elsewhere has an address.
 """
 import os
 import sys
@@ -56,6 +57,9 @@ def made(data):
     # the first symbol of the GNU hash table is the one behind the first that is defined
     number("late-gnu-hash", b".gnu.hash", 4, 3)
     header("unlinked-relocations", b".rela.dyn", SECTION["sh_link"], 0)
+
+    # the value of symbol 1, which is defined elsewhere
+    number("own-address", b".dynsym", 24 + 8, 0x1000)
     return files
 
 

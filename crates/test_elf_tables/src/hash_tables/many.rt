@@ -6,7 +6,7 @@ use elf_hashes::GnuSizes;
 use elf_image_symbol_edits::SymbolsNow;
 use std::alloc::AllocError;
 
-const COUNT: usize = 200_000;
+const COUNT: usize = 20_000;
 
 // Symbol 0, and a symbol `f` so many times.
 fn repeated(rt: &impl Runtime, count: usize) -> Result<Vec<u8>, AllocError> {
