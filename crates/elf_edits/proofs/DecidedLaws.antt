@@ -24,7 +24,7 @@ use Rattle.elf_edits.specs.Edited.{edited_image, edited_interpreter, edited_segm
 use Rattle.elf_edits.specs.Symbols.{has_new_name, names_behind_first}
 use Rattle.elf_edits.specs.Texts.{holds_nul}
 use Rattle.elf_edits.proofs.ListLaws.{by_test}
-use Rattle.elf_edits.proofs.SpareLaws.{lacks_room, room_left}
+use Rattle.elf_edits.proofs.SpareLaws.{room_left}
 use Rattle.elf_edits.proofs.SymbolLaws.{names_behind, names_stay}
 
 -- ## No cause stands

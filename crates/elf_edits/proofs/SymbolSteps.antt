@@ -102,26 +102,29 @@ module _ (names : List (Bor (List ℕ) × Bor (List ℕ))) (name : List ℕ) whe
       ap (with_symbols old) (sym (changed_alike name_of_symbol (renamed_by names) (λ y. y) old.symbols i name (ap (λ (ys : List NamedSymbol). option_map name_of_symbol (slice_get ys i)) (sym is) ∙ at)
       (λ y h. ap (λ (n : List ℕ). record y { name = n }) (ap (λ (o : Option (List ℕ)). unwrap_or o y.name) (ap (name_for names) h ∙ sym (ap (option_map (λ (t : Bor (List ℕ)). t.now)) found)))) ∙ changed_to_itself old.symbols i))
 
+abbrev is_called : List ℕ → NamedSymbol → Bool
+is_called name y = bytes_eq y.name name
+
 -- the one name becomes the other
-pub the_one_renamed : (from to : List ℕ) (old new : EditedList) (seen : List NamedSymbol) (i : ℕ) (name given : List ℕ) → seen ≡ old.symbols → option_map (λ (y : NamedSymbol). y.name) (slice_get seen i) ≡ Some name
-    → bytes_eq name from ≡ true → given ≡ to
+pub the_one_renamed : (from to : List ℕ) (old new : EditedList) (seen : List NamedSymbol) (i : ℕ) (has : Bool) (given : List ℕ) → seen ≡ old.symbols → option_map (is_called from) (slice_get seen i) ≡ Some has
+    → has ≡ true → given ≡ to
     → new ≡ record old { symbols = changed_at i (λ y. record y { name = given }) old.symbols } → new ≡ record old { symbols = changed_at i (renamed_from from to) old.symbols }
 unfolding with_symbols
-the_one_renamed from to old new seen i name given is at same made new_is =
+the_one_renamed from to old new seen i has given is at holds made new_is =
     new_is
-    ∙ ap (with_symbols old) (changed_alike name_of_symbol (λ y. record y { name = given }) (renamed_from from to) old.symbols i name (ap (λ (ys : List NamedSymbol). option_map name_of_symbol (slice_get ys i)) (sym is) ∙ at)
-    (λ y h. ap (λ (n : List ℕ). record y { name = n }) made ∙ sym (cond-true (bytes_eq y.name from) (with_name to y) y (ap (λ (n : List ℕ). bytes_eq n from) h ∙ same))))
+    ∙ ap (with_symbols old) (changed_alike (is_called from) (λ y. record y { name = given }) (renamed_from from to) old.symbols i has (ap (λ (ys : List NamedSymbol). option_map (is_called from) (slice_get ys i)) (sym is) ∙ at)
+    (λ y h. ap (λ (n : List ℕ). record y { name = n }) made ∙ sym (cond-true (bytes_eq y.name from) (with_name to y) y (h ∙ holds))))
 
 -- a symbol with another name stays
 pub not_renamed : (from to : List ℕ) (y : NamedSymbol) → bytes_eq y.name from ≡ false → renamed_from from to y ≡ y
 not_renamed from to y other = rw other refl
 
-pub no_one_renamed : (from to : List ℕ) (old : EditedList) (seen : List NamedSymbol) (i : ℕ) (name : List ℕ) → seen ≡ old.symbols → option_map (λ (y : NamedSymbol). y.name) (slice_get seen i) ≡ Some name
-    → bytes_eq name from ≡ false → old ≡ record old { symbols = changed_at i (renamed_from from to) old.symbols }
+pub no_one_renamed : (from to : List ℕ) (old : EditedList) (seen : List NamedSymbol) (i : ℕ) (has : Bool) → seen ≡ old.symbols → option_map (is_called from) (slice_get seen i) ≡ Some has
+    → has ≡ false → old ≡ record old { symbols = changed_at i (renamed_from from to) old.symbols }
 unfolding with_symbols
-no_one_renamed from to old seen i name is at other =
-    ap (with_symbols old) (sym (changed_alike name_of_symbol (renamed_from from to) (λ y. y) old.symbols i name (ap (λ (ys : List NamedSymbol). option_map name_of_symbol (slice_get ys i)) (sym is) ∙ at)
-    (λ y h. not_renamed from to y (ap (λ (n : List ℕ). bytes_eq n from) h ∙ other)) ∙ changed_to_itself old.symbols i))
+no_one_renamed from to old seen i has is at other =
+    ap (with_symbols old) (sym (changed_alike (is_called from) (renamed_from from to) (λ y. y) old.symbols i has (ap (λ (ys : List NamedSymbol). option_map (is_called from) (slice_get ys i)) (sym is) ∙ at)
+    (λ y h. not_renamed from to y (h ∙ other)) ∙ changed_to_itself old.symbols i))
 
 pub is_name : (name : List ℕ) → holds_nul name ≡ false → IsName name
 is_name name h = ap not h
@@ -370,12 +373,3 @@ one_pair (x ∷ []) p from to one is first second =
     ap (λ (f : List ℕ). (f, to) ∷ []) (first ∙ ap (λ (q : Bytes × Bytes). q.0.items) is)
     ∙ ap (λ (g : List ℕ). (x.0.items, g) ∷ []) (second ∙ ap (λ (q : Bytes × Bytes). q.1.items) is)
 one_pair (x ∷ y ∷ ps) p from to one is first second = absurd (omega (arith, one))
-
--- what a test by its negation says
-pub is_not : (b : Bool) → not b ≡ true → b ≡ false
-is_not true h = absurd (cc)
-is_not false h = refl
-
-pub is_so : (b : Bool) → not b ≡ false → b ≡ true
-is_so true h = refl
-is_so false h = absurd (cc)

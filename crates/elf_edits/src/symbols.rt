@@ -45,7 +45,7 @@ fn has_version(symbols: &SymbolsNow<'_>, i: usize, name: &[u8]) -> bool
     ensures { option_map (has_version_to_clear name.now) (slice_get (symbols_now symbols.now) i)
         ≡ Some result }
 {
-    symbols.name(i) == name && symbols.get(i).version.is_some()
+    symbols.is_named(i, name) && symbols.get(i).version.is_some()
 }
 
 // Gives a symbol the name that a map has for its own, if it has one.
@@ -85,7 +85,7 @@ fn rename_one(
       symbols = changed_at i (renamed_from old.now new.now) edited.old.symbols;
     }) }
 {
-    if edited.lend().name(i) != old {
+    if !edited.lend().is_named(i, old) {
         return Ok(());
     }
     let name = Vec::from_slice(alloc, new)?;
@@ -114,7 +114,7 @@ impl SymbolChange<'_, '_> {
     {
         match self {
             SymbolChange::Name(names) => names.contains_key(symbols.name(i)),
-            SymbolChange::One(old, _) => symbols.name(i) == *old,
+            SymbolChange::One(old, _) => symbols.is_named(i, old),
             SymbolChange::Version(name) => has_version(symbols, i, name),
         }
     }

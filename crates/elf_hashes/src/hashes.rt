@@ -2,13 +2,14 @@
 ghost use Rattle.std.specs.Prelude.{◌≡◌, ◌<◌, ◌++◌, ◌∷◌, All, None as none, Some, drop, length, option_map, slice_get, IfOk, OnOk};
 ghost use Rattle.std.specs.List.{filter_map};
 ghost use Rattle.elf_format.specs.Hashes.{gnu_hash as gnu_hash_of};
+ghost use Rattle.elf_image_symbols.specs.FrontText.{front_text};
 ghost use Rattle.elf_image_symbol_edits.specs.Loan.{symbols_now};
 ghost use Rattle.elf_hashes.specs.Buckets.{hashes_of};
 ghost use Rattle.elf_hashes.specs.Found.{ArePlaces, found_hashes as hashes_found, found_name, hashed_names, in_order, is_found as is_symbol_found};
 ghost use Rattle.elf_hashes.specs.Steps.{hash_by};
 
 use elf_image_symbol_edits::SymbolsNow;
-use elf_tables::{gnu_hash, sysv_hash};
+use elf_tables::{gnu_hash_of_front, sysv_hash_of_front};
 use std::alloc::{AllocError, Global};
 
 // The hash that a table goes by.
@@ -20,13 +21,13 @@ pub enum Hashing {
     Gnu,
 }
 
-// The hash of a name.
-fn hash_of(hashing: Hashing, name: &[u8]) -> u32
-    ensures { result ≡ hash_by hashing name.now }
+// The hash of the name that bytes begin with.
+fn hash_of(hashing: Hashing, bytes: &[u8]) -> u32
+    ensures { result ≡ hash_by hashing (front_text bytes.now) }
 {
     match hashing {
-        Hashing::Gabi => sysv_hash(name),
-        Hashing::Gnu => gnu_hash(name),
+        Hashing::Gabi => sysv_hash_of_front(bytes),
+        Hashing::Gnu => gnu_hash_of_front(bytes),
     }
 }
 
@@ -48,7 +49,7 @@ fn found_hash(hashing: Hashing, symbols: SymbolsNow<'_>, i: usize) -> Option<u32
         (slice_get (symbols_now symbols.entry) i) ≡ Some result }
 {
     if is_found(symbols, i) {
-        Some(hash_of(hashing, symbols.name(i)))
+        Some(hash_of(hashing, symbols.name_front(i)))
     } else {
         None
     }

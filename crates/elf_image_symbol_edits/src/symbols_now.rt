@@ -1,5 +1,7 @@
 //! The symbols of a section as edits made them, lent.
 ghost use Rattle.std.specs.Prelude.{◌≡◌, ◌<◌, ◌==◌, Some, length, not, option_map, slice_get};
+ghost use Rattle.std.specs.Str.{bytes_eq};
+ghost use Rattle.elf_image_symbols.specs.FrontText.{front_text};
 ghost use Rattle.elf_image_symbols.specs.SymbolModel.{symbol_model};
 ghost use Rattle.elf_image_symbols.specs.TableSymbols.{symbol_with};
 ghost use Rattle.elf_image_symbol_edits.specs.Loan.{numbers_now, symbols_now};
@@ -65,6 +67,38 @@ impl<'a> SymbolsNow<'a> {
             Some(change) => change.name.as_slice(),
             None => edited.table.name(number),
         }
+    }
+
+    /// Whether the symbol at a position has this name, which is compared where it stands. Takes no memory.
+    #[inline(always)]
+    pub fn is_named(&self, i: usize, name: &[u8]) -> bool
+        requires { i < length (symbols_now self.now) }
+        ensures { option_map (λ y. bytes_eq y.name name.now) (slice_get (symbols_now self.now) i)
+            ≡ Some result }
+    {
+        let edited = self.edited;
+        let number = edited.number_at(i);
+        match find(&edited.changes, number) {
+            Some(change) => change.name.as_slice() == name,
+            None => edited.table.is_named(number, name),
+        }
+    }
+
+    /// Bytes that begin with the name of the symbol at a position: a NUL stands behind it, or it is all of them. Its
+    /// end isn't looked for. Takes no memory.
+    #[inline(always)]
+    pub fn name_front(&self, i: usize) -> &'a [u8]
+        requires { i < length (symbols_now self.now) }
+        ensures { option_map (λ y. y.name) (slice_get (symbols_now self.now) i)
+            ≡ Some (front_text result.now) }
+    {
+        let edited = self.edited;
+        let number = edited.number_at(i);
+        let read = edited.table.name_front(number);
+        let Some(change) = find(&edited.changes, number) else {
+            return read;
+        };
+        change.name.as_slice()
     }
 
     /// Whether the symbol at a position has a name that isn't empty. Takes no memory.

@@ -1,3 +1,4 @@
 pub mod NameSteps
 pub mod ShownSteps
 pub mod SeenSteps
+pub mod FrontLaws

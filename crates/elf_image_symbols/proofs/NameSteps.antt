@@ -1,9 +1,9 @@
 -- Which texts are there, and which names.
 use Rattle.std.proofs.Common.{◌≡◌, ◌≤◌, ◌<◌, ◌+◌, ◌-◌, ℕ, zero, suc, true, false, List, [], ◌∷◌, length, drop, take, refl, sym, ap, ◌∙◌, subst, inl, inr, Option, Some, None, arith}
 use Rattle.std.specs.Prelude.{◌&&◌, ◌==◌, is_some, slice_index}
-use Rattle.std.proofs.lemmas.List.{drop_more, get_or-drop, length-drop}
+use Rattle.std.proofs.lemmas.List.{drop_more, get_or-drop, get_or-take, length-drop, take_rest}
 use Rattle.std.proofs.lemmas.Bool.{cases_lt, eqb-true, ne_eqb, true≢false}
-use Rattle.std.proofs.lemmas.Option.{same_Some}
+use Rattle.std.proofs.lemmas.Option.{none-some, same_Some}
 use Rattle.memchr.specs.Find.{Nowhere, Passes, is_byte}
 use Rattle.patch_bytes.specs.Memory.{◌>>=◌, memory_of, text_at}
 use Rattle.patch_bytes.proofs.MemoryLaws.{bind_some}
@@ -11,7 +11,7 @@ use Rattle.elf_format.specs.Form.{records}
 use Rattle.elf_format.specs.Options.{each}
 use Rattle.elf_format.specs.declared.records.SymbolNumbers.{SymbolNumbers}
 use Rattle.elf_format.specs.Views.{names_of}
-use Rattle.elf_format.proofs.ForCallers.ReadingSteps.{text_at-in, text_in, text_missing}
+use Rattle.elf_format.proofs.ForCallers.ReadingSteps.{text_at-in, text_found, text_in, text_missing}
 
 -- what is made of a value is there where the value is
 pub some_made : {A B : Type 0} → (o : Option A) (f : A → B) → is_some (o >>= (λ x. Some (f x))) ≡ is_some o
@@ -67,6 +67,41 @@ pub empty_at : (room place : ℕ) (xs name : List ℕ) → length xs ≤ room �
 empty_at room place xs name long less is =
     first_byte (slice_index xs place) (drop (place + 1) xs) name
     (ap text_in (sym (drop_more xs place 0 less)) ∙ sym (text_at-in room place xs (omega (arith, long))) ∙ is)
+
+-- the text at a place is that of the bytes from there on
+pub text_of_rest : (place : ℕ) (bytes : List ℕ) → text_at (length bytes) (memory_of bytes) place ≡ text_in (take (length bytes - place) (drop place bytes))
+text_of_rest place bytes = text_at-in (length bytes) place bytes (omega arith) ∙ ap text_in (sym (take_rest bytes place))
+
+-- Bytes begin with a text: a NUL stands behind it, and none in it.
+pub record BeginWith (xs name : List ℕ) : Type 0 where
+  pub less : length name < length xs
+  pub front : take (length name) xs ≡ name
+  pub nul : Passes (is_byte 0) xs (length name)
+  pub before : Nowhere (Passes (is_byte 0) name) 0 (length name)
+
+none_more : (b : ℕ) (xs : List ℕ) → Nowhere (Passes (is_byte 0) xs) 0 (length xs) → Nowhere (Passes (is_byte 0) (suc b ∷ xs)) 0 (length (suc b ∷ xs))
+none_more b xs none zero low high here = let is_zero : suc b ≡ 0 = eqb-true (suc b) 0 here in absurd (omega (arith, is_zero))
+none_more b xs none (suc k) low high here = none k (omega arith) (omega (arith, high)) here
+
+-- a text of bytes is the one that they begin with
+pub text_stands : (xs name : List ℕ) → text_in xs ≡ Some name → BeginWith xs name
+unfolding text_in
+text_stands [] name is = absurd (none-some name is)
+text_stands (zero ∷ xs) name is =
+    subst (BeginWith (zero ∷ xs)) (same_Some [] name is) (record { less = omega arith; front = refl; nul = refl; before = λ k low high. absurd (omega (arith, high)) })
+text_stands (suc b ∷ xs) name is =
+    let (more, there, made) = bind_some (text_in xs) (λ r. Some (suc b ∷ r)) name is in
+    let stands = text_stands xs more there in
+    subst (BeginWith (suc b ∷ xs)) (same_Some (suc b ∷ more) name made)
+    (record { less = omega (arith, stands.less); front = ap (λ l. suc b ∷ l) stands.front; nul = stands.nul; before = none_more b more stands.before })
+
+-- bytes that begin with a text show it
+pub text_shown : (xs name : List ℕ) → BeginWith xs name → text_in xs ≡ Some name
+text_shown xs name stands =
+    text_found xs (length name) stands.less stands.nul
+    (λ k low high here. stands.before k low high
+    (subst (λ n. is_byte 0 n ≡ true) (sym (get_or-take (length name) xs k 0 high) ∙ ap (λ l. slice_index l k) stands.front) here))
+    ∙ ap Some stands.front
 
 -- ## The names of all records
 

@@ -1,3 +1,4 @@
 pub mod TableSymbols
 pub mod SymbolModel
 pub mod SymbolsModel
+pub mod FrontText

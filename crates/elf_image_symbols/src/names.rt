@@ -1,5 +1,6 @@
 //! The names of symbols in a string table (gABI, String Table).
-ghost use Rattle.std.specs.Prelude.{◌≡◌, ◌≤◌, ℕ, Some, is_some, length, nat_lt, true};
+ghost use Rattle.std.specs.Prelude.{◌≡◌, ◌≤◌, ℕ, Some, is_some, length, nat_lt, option_map, true};
+ghost use Rattle.std.specs.Str.{bytes_eq};
 ghost use Rattle.patch_bytes.specs.Memory.{memory_of, text_at};
 ghost use Rattle.elf_format.specs.Records.{symbol_numbers, symbols_in};
 ghost use Rattle.elf_format.specs.Views.{names_of};
@@ -57,4 +58,19 @@ pub(crate) fn text_there(texts: &[u8], place: u32) -> &[u8]
         Some(end) => &rest[..end],
         None => unreachable!(),
     }
+}
+
+// Whether the text that begins at a place is this one. It is compared where it stands: its end isn't looked for.
+#[inline(always)]
+pub(crate) fn is_text_there(texts: &[u8], place: u32, text: &[u8]) -> bool
+    requires { is_some (text_at (length texts.now) (memory_of texts.now) place) ≡ true }
+    ensures { option_map (λ name. bytes_eq name text.now)
+        (text_at (length texts.now) (memory_of texts.now) place) ≡ Some result }
+{
+    let rest = &texts[place as usize..];
+    if rest.len() <= text.len() || rest[text.len()] != 0 {
+        return false;
+    }
+    let (front, _) = rest.split_at(text.len());
+    front == text && memchr(0, text).is_none()
 }

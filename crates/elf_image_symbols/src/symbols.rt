@@ -4,7 +4,7 @@ ghost use Rattle.elf_format.specs.Answers.{borrowed};
 ghost use Rattle.elf_format.specs.Records.{symbol_size};
 ghost use Rattle.elf_image_symbols.specs.TableSymbols.{version_at};
 
-use crate::names::{are_names_there, name_place, text_there};
+use crate::names::{are_names_there, is_text_there, name_place, text_there};
 use crate::symbol::Symbol;
 use elf_format::form::Form;
 use elf_format::numbers::{part, read_symbol_numbers, read_version_id};
@@ -60,7 +60,8 @@ fn record_at(form: Form, bytes: &[u8], i: usize) -> &[u8]
 
 impl<'data> Symbols<'data> {
     ghost use Rattle.std.specs.Prelude.{◌≡◌, ◌<◌, ◌≤◌, ◌==◌, ℕ, [], Some, length, not, option_map, slice_get};
-    ghost use Rattle.patch_bytes.specs.Memory.{memory_of};
+    ghost use Rattle.std.specs.Str.{bytes_eq};
+    ghost use Rattle.patch_bytes.specs.Memory.{memory_of, text_at};
     ghost use Rattle.elf_format.specs.Answers.{borrowed};
     ghost use Rattle.elf_image_symbols.specs.SymbolModel.{symbol_model};
     ghost use Rattle.elf_image_symbols.specs.TableSymbols.{symbol_with, table_symbols};
@@ -154,6 +155,28 @@ impl<'data> Symbols<'data> {
     {
         let place = name_place(self.form, record_at(self.form, self.bytes, i));
         text_there(self.texts, place)
+    }
+
+    /// Whether the symbol at a position has this name, which is compared where it stands. Takes no memory.
+    #[inline(always)]
+    pub fn is_named(&self, i: usize, name: &[u8]) -> bool
+        requires { i < length self.now }
+        ensures { option_map (λ y. bytes_eq y.name name.now) (slice_get self.now i) ≡ Some result }
+    {
+        let place = name_place(self.form, record_at(self.form, self.bytes, i));
+        is_text_there(self.texts, place, name)
+    }
+
+    /// The bytes of the string table from the name of the symbol at a position on: the name, a NUL, and what
+    /// follows. The name's end isn't looked for. Takes no memory.
+    #[inline(always)]
+    pub fn name_front(&self, i: usize) -> &'data [u8]
+        requires { i < length self.now }
+        ensures { option_map (λ y. Some y.name) (slice_get self.now i)
+            ≡ Some (text_at (length result.now) (memory_of result.now) 0) }
+    {
+        let place = name_place(self.form, record_at(self.form, self.bytes, i));
+        &self.texts[place as usize..]
     }
 
     /// Whether the symbol at a position has a name that isn't empty. Takes no memory.

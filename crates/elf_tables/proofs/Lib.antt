@@ -20,3 +20,4 @@ pub mod PlacingSteps
 pub mod EndKeyLaws
 pub mod LaidPairs
 pub mod OrderedPlaces
+pub mod HashSteps

@@ -19,7 +19,7 @@ pub mod versions;
 pub use crate::fault::TableFault;
 pub use crate::fields::{Field, push_fields};
 pub use crate::finished::Finished;
-pub use crate::hash::{gnu_hash, sysv_hash};
+pub use crate::hash::{gnu_hash, gnu_hash_of_front, sysv_hash, sysv_hash_of_front};
 pub use crate::needs::build_verneed;
 pub use crate::numbers::{push_halves, push_words};
 pub use crate::strings::StringTable;

@@ -1,8 +1,9 @@
 -- The hash of the name of the symbol that stands there, where a look-up may find it.
-use Rattle.std.proofs.Common.{◌≡◌, ℕ, List, Bool, Option, Some, None, ap, sym, ◌∙◌}
+use Rattle.std.proofs.Common.{◌≡◌, ℕ, List, Bool, Some, None, ap, sym, ◌∙◌}
 use Rattle.std.specs.Prelude.{if◌then◌else◌, option_map, slice_get}
 use Rattle.std.proofs.lemmas.Option.{same_Some}
 use Rattle.elf_format.specs.Views.{NamedSymbol}
+use Rattle.elf_image_symbols.specs.FrontText.{front_text}
 use Rattle.elf_image_symbol_edits.specs.Loan.{symbols_now}
 use Rattle.elf_hashes.specs.Found.{found_name, is_found}
 use Rattle.elf_hashes.specs.Steps.{hash_by}
@@ -13,7 +14,8 @@ pub returns-then-is_found : goal.returns-then-is_found
 returns-then-is_found c =
     let hash : List ℕ → ℕ = hash_by c.args.hashing in
     let (y, at, found) = with_part is_found (slice_get (symbols_now c.args.symbols) c.args.i) c.is_found.result c.is_found.ensures in
-    let name : y.name ≡ c.name.result.now = same_Some y.name c.name.result.now (sym (ap (option_map (λ (y : NamedSymbol). y.name)) at) ∙ c.name.ensures) in
+    let front : List ℕ = front_text c.name_front.result.now in
+    let name : y.name ≡ front = same_Some y.name front (sym (ap (option_map (λ (y : NamedSymbol). y.name)) at) ∙ c.name_front.ensures) in
     ap (option_map (λ (y : NamedSymbol). option_map hash (found_name y))) at
     ∙ ap (λ (b : Bool). Some (option_map hash (if b then Some y.name else None))) (found ∙ c.if-is_found.true)
     ∙ ap (λ (n : List ℕ). Some (Some (hash n))) name

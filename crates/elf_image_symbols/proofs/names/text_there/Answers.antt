@@ -1,16 +1,10 @@
 -- A text that is there begins in the bytes, and a NUL stands behind it.
-use Rattle.std.proofs.Common.{◌≡◌, ◌-◌, ℕ, List, length, take, drop, sym, ap, ◌∙◌, arith}
+use Rattle.std.proofs.Common.{◌-◌, ℕ, List, length, take, drop, sym, ap, ◌∙◌, arith}
 use Rattle.std.specs.Prelude.{is_some}
 use Rattle.std.proofs.lemmas.Bool.{true≢false}
-use Rattle.std.proofs.lemmas.List.{take_rest}
-use Rattle.patch_bytes.specs.Memory.{memory_of, text_at}
-use Rattle.elf_format.proofs.ForCallers.ReadingSteps.{text_at-in, text_found, text_in, text_missing}
-use Rattle.elf_image_symbols.proofs.NameSteps.{there_within}
+use Rattle.elf_format.proofs.ForCallers.ReadingSteps.{text_found, text_missing}
+use Rattle.elf_image_symbols.proofs.NameSteps.{text_of_rest, there_within}
 use Rattle.elf_image_symbols.proofs.names.text_there.Goals as goal
-
--- the text of what lies from the place on
-text_of_rest : (place : ℕ) (bytes : List ℕ) → text_at (length bytes) (memory_of bytes) place ≡ text_in (take (length bytes - place) (drop place bytes))
-text_of_rest place bytes = text_at-in (length bytes) place bytes (omega arith) ∙ ap text_in (sym (take_rest bytes place))
 
 pub slice_bounds-rest-count : goal.slice_bounds-rest-count
 slice_bounds-rest-count c = let low = there_within (length c.args.texts.now) c.args.place c.args.texts.now (omega arith) c.requires in omega (arith, low)
