@@ -1,18 +1,27 @@
 -- What edited images show.
 use Rattle.std.proofs.Common.{◌≡◌, ℕ, Bool, true, false, cond, List, [], ◌∷◌, map, filter, refl, sym, ap, ◌∙◌, Option, Some, None, option_map}
-use Rattle.std.specs.Prelude.{◌||◌, if◌then◌else◌, not}
+use Rattle.std.specs.Prelude.{◌==◌, ◌&&◌, ◌||◌, if◌then◌else◌, not}
+use Rattle.std.specs.List.{list_any}
+use Rattle.std.proofs.lemmas.Bool.{eqb-true}
 use Rattle.patch_bytes.specs.Memory.{◌>>=◌}
-use Rattle.elf_format.specs.declared.constants.TheConstants.{DT_SYMTAB, DT_VERSYM}
+use Rattle.elf_format.specs.declared.constants.TheConstants.{DT_SYMTAB, DT_VERSYM, PT_DYNAMIC, PT_GNU_STACK, PT_INTERP, PT_LOAD}
+use Rattle.elf_format.specs.declared.records.SegmentHeader.{SegmentHeader}
 use Rattle.elf_format.specs.Dynamic.{Entry}
+use Rattle.elf_format.specs.File.{segment_of_type}
 use Rattle.elf_format.specs.Image.{Image, lists_tag, seen_symbol, shown, shown_if}
-use Rattle.elf_format.specs.Views.{NamedSymbol}
+use Rattle.elf_format.specs.Options.{is_one_of, is_some_and}
+use Rattle.elf_format.specs.Views.{NamedSymbol, View}
 use Rattle.elf_edits.specs.Symbols.{behind_first, renamed}
 use Rattle.elf_edits.specs.Texts.{has_some, is_among}
-use Rattle.elf_image.specs.Deleted.{parts_left}
+use Rattle.elf_image.specs.Along.{begins_in, is_deserted}
+use Rattle.elf_image.specs.Deleted.{does_interpreter_go, parts_left, segments_left, without_sections}
 use Rattle.elf_image.specs.Edited.{IsEdited}
-use Rattle.elf_symbol_edits.specs.Laws.{SymbolEditsShow, without_named}
-use Rattle.elf_symbol_edits.specs.Named.{named_dynamic_symbols, named_symbols, symbol_name}
-use Rattle.elf_symbol_edits.specs.SymbolEdit.{DeleteAllSymbols, DeleteDynamicSymbols, DeleteSymbols, RenameAllSymbols, RenameSections, RenameSymbols, edited, touches, without_dynamic_symbols, without_symbols, written}
+use Rattle.elf_image.specs.Kept.{interpreter_number}
+use Rattle.elf_image.specs.Staying.{going, staying}
+use Rattle.elf_image.proofs.ForCallers.ListsLeft.{find_left}
+use Rattle.elf_symbol_edits.specs.Laws.{SymbolEditsShow, shown_after, without_named}
+use Rattle.elf_symbol_edits.specs.Named.{named_dynamic_symbols, named_sections, named_symbols, symbol_name}
+use Rattle.elf_symbol_edits.specs.SymbolEdit.{DeleteAllSymbols, DeleteDynamicSymbols, DeleteSections, DeleteSymbols, RenameAllSymbols, RenameSections, RenameSymbols, SymbolEdit, edited, touches, without_dynamic_symbols, without_symbols, written}
 use Rattle.elf_symbol_edits.proofs.ByNameLaws.{dynamic_left_by_name, none_left_out}
 use Rattle.elf_symbol_edits.proofs.RenameLaws.{all_after}
 
@@ -108,12 +117,46 @@ module _ (pairs : List (List ℕ × List ℕ)) where
       ∙ ap (λ (ys : List NamedSymbol). shown (record image { dynamic_symbols = ys })) (all_after pairs image).1
       ∙ ap (λ (s : Option (List NamedSymbol)). record (shown image) { symbols = s }) (renamed_by_entries image.entries image.dynamic_symbols)
 
+-- ## Sections
+
+-- a program header of the stack is never deserted
+stack_stays : (image : Image) (gone : List ℕ) (p : SegmentHeader) → (p.p_type == PT_GNU_STACK) ≡ true → is_deserted image gone p ≡ false
+stack_stays image gone p is =
+    ap (λ (type : ℕ). if type == PT_INTERP then does_interpreter_go gone image else not (is_one_of (PT_LOAD ∷ PT_DYNAMIC ∷ PT_GNU_STACK ∷ []) type)
+    && list_any (λ s. begins_in p s.section) (going gone image) && not (list_any (λ s. begins_in p s.section) (staying gone image))) (eqb-true p.p_type PT_GNU_STACK is)
+
+-- so the first one is the first one still
+stack_left : (image : Image) (gone : List ℕ) → segment_of_type PT_GNU_STACK (segments_left gone image) ≡ segment_of_type PT_GNU_STACK image.segments
+stack_left image gone =
+    find_left (λ p. not (is_deserted image gone p)) (λ p. p.p_type == PT_GNU_STACK) image.segments (λ p has is. ap not (stack_stays image gone p is))
+
+module _ (image : Image) where
+  abbrev without_interpreter : List ℕ → View
+  without_interpreter gone = record (shown image) { interpreter = if does_interpreter_go gone image then None else (shown image).interpreter }
+
+  -- where none goes the interpreter stays
+  none_goes : does_interpreter_go [] image ≡ false
+  none_goes = by_number (interpreter_number image)
+    where
+      by_number : (o : Option ℕ) → is_some_and (is_one_of []) o ≡ false
+      by_number None = refl
+      by_number (Some n) = refl
+
+  sections_gone : (gone : List ℕ) → shown (if has_some gone then without_sections gone image else image) ≡ without_interpreter gone
+  sections_gone [] = ap (λ (b : Bool). record (shown image) { interpreter = if b then None else image.interpreter }) (sym none_goes)
+  sections_gone (n ∷ ns) =
+      ap (λ (o : Option SegmentHeader). record (without_interpreter (n ∷ ns)) { stack_flags = o >>= (λ p. Some p.p_flags) }) (stack_left image (n ∷ ns))
+
+-- ## Each edit
+
 pub symbol_edits_show : SymbolEditsShow
-symbol_edits_show = record {
-  renamed = λ pairs image. same_if (touches (RenameSymbols pairs) image) image (written (RenameSymbols pairs) image) refl;
-  deleted = λ names image. same_if (touches (DeleteSymbols names) image) image (written (DeleteSymbols names) image) refl;
-  sections_renamed = λ pairs image. same_if (touches (RenameSections pairs) image) image (written (RenameSections pairs) image) refl;
-  dynamic_deleted = λ names image h. dynamic_shown names image h;
-  all_renamed = λ pairs image. all_renamed_shown pairs image;
-  all_deleted = λ names image h. all_shown names image h;
-}
+symbol_edits_show = record { shown_after_each = each }
+  where
+    each : (edit : SymbolEdit) (image : Image) → IsEdited image → shown (edited edit image) ≡ shown_after edit image
+    each (RenameSymbols pairs) image h = same_if (touches (RenameSymbols pairs) image) image (written (RenameSymbols pairs) image) refl
+    each (DeleteSymbols names) image h = same_if (touches (DeleteSymbols names) image) image (written (DeleteSymbols names) image) refl
+    each (DeleteDynamicSymbols names) image h = dynamic_shown names image h
+    each (RenameAllSymbols pairs) image h = all_renamed_shown pairs image
+    each (DeleteAllSymbols names) image h = all_shown names image h
+    each (RenameSections pairs) image h = same_if (touches (RenameSections pairs) image) image (written (RenameSections pairs) image) refl
+    each (DeleteSections names) image h = sections_gone image (named_sections names image)

@@ -1,17 +1,18 @@
 -- What holds of all edits.
-use Rattle.std.specs.Prelude.{ℕ, ◌≡◌, List, [], ◌∷◌, Bool, filter, map, not, ◌||◌, option_map, None, Some, Ok, Err}
+use Rattle.std.specs.Prelude.{ℕ, ◌≡◌, List, [], ◌∷◌, Bool, filter, map, not, ◌||◌, if◌then◌else◌, option_map, None, Some, Ok, Err}
 use Rattle.elf_format.specs.Image.{Image}
-use Rattle.elf_format.specs.Views.{NamedSymbol}
+use Rattle.elf_format.specs.Views.{NamedSymbol, View}
 use Rattle.elf_edits.specs.Laws.{swap_of}
 use Rattle.elf_edits.specs.Symbols.{behind_first, names_behind_first, new_name}
 use Rattle.elf_edits.specs.Symbols.{renamed as with_new_name}
 use Rattle.elf_edits.specs.Texts.{is_among}
+use Rattle.elf_image.specs.Deleted.{does_interpreter_go}
 use Rattle.elf_image.specs.Edited.{IsEdited}
 use Rattle.elf_image.specs.Image.{shown}
 use Rattle.elf_symbol_edits.specs.declared.cause.Cause.{Cause}
 use Rattle.elf_symbol_edits.specs.Cause.{cause, step}
-use Rattle.elf_symbol_edits.specs.Named.{renamed_section, symbol_name}
-use Rattle.elf_symbol_edits.specs.SymbolEdit.{DeleteAllSymbols, DeleteDynamicSymbols, DeleteSymbols, RenameAllSymbols, RenameSections, RenameSymbols, SymbolEdit, edited, touches}
+use Rattle.elf_symbol_edits.specs.Named.{named_sections, renamed_section, symbol_name}
+use Rattle.elf_symbol_edits.specs.SymbolEdit.{DeleteAllSymbols, DeleteDynamicSymbols, DeleteSections, DeleteSymbols, RenameAllSymbols, RenameSections, RenameSymbols, SymbolEdit, edited, touches}
 
 -- ## One edit
 
@@ -76,15 +77,21 @@ pub record SymbolsGoByName : Type 0 where
 
 -- ## What is shown
 
--- Edits of static symbols, and other names of sections, leave what is shown; dynamic symbols that go are shown no more, and those that get
--- other names are shown with them.
+-- what is shown after an edit of symbols or sections that an image takes: with its section the interpreter goes (gABI, Program Header,
+-- PT_INTERP)
+abbrev pub shown_after : SymbolEdit → Image → View
+shown_after (RenameSymbols pairs) image = shown image
+shown_after (DeleteSymbols names) image = shown image
+shown_after (DeleteDynamicSymbols names) image = record (shown image) { symbols = option_map (without_named names) (shown image).symbols }
+shown_after (RenameAllSymbols pairs) image = record (shown image) { symbols = option_map (behind_first (with_new_name pairs)) (shown image).symbols }
+shown_after (DeleteAllSymbols names) image = record (shown image) { symbols = option_map (without_named names) (shown image).symbols }
+shown_after (RenameSections pairs) image = shown image
+shown_after (DeleteSections names) image = record (shown image) {
+  interpreter = if does_interpreter_go (named_sections names image) image then None else (shown image).interpreter;
+}
+
+-- After each edit of symbols or sections that an image takes just this is shown: edits of static symbols, and other names of sections,
+-- leave what is shown; dynamic symbols that go are shown no more, and those that get other names are shown with them; sections that go
+-- take only the interpreter from it, where its section is one of them.
 pub record SymbolEditsShow : Type 0 where
-  pub renamed : (pairs : List (List ℕ × List ℕ)) (image : Image) → shown (edited (RenameSymbols pairs) image) ≡ shown image
-  pub deleted : (names : List (List ℕ)) (image : Image) → shown (edited (DeleteSymbols names) image) ≡ shown image
-  pub sections_renamed : (pairs : List (List ℕ × List ℕ)) (image : Image) → shown (edited (RenameSections pairs) image) ≡ shown image
-  pub dynamic_deleted : (names : List (List ℕ)) (image : Image) → IsEdited image
-      → shown (edited (DeleteDynamicSymbols names) image) ≡ record (shown image) { symbols = option_map (without_named names) (shown image).symbols }
-  pub all_renamed : (pairs : List (List ℕ × List ℕ)) (image : Image)
-      → shown (edited (RenameAllSymbols pairs) image) ≡ record (shown image) { symbols = option_map (behind_first (with_new_name pairs)) (shown image).symbols }
-  pub all_deleted : (names : List (List ℕ)) (image : Image) → IsEdited image
-      → shown (edited (DeleteAllSymbols names) image) ≡ record (shown image) { symbols = option_map (without_named names) (shown image).symbols }
+  pub shown_after_each : (edit : SymbolEdit) (image : Image) → IsEdited image → shown (edited edit image) ≡ shown_after edit image

@@ -25,7 +25,7 @@ pub fn symbols_go_by_name()
     ensures { SymbolsGoByName }
 {}
 
-/// What an edited image shows.
+/// What an image shows after each edit: just `shown_after`.
 #[tactic(auto, using(crate::proofs::ShownLaws::symbol_edits_show))]
 pub fn symbol_edits_show()
     ensures { SymbolEditsShow }
