@@ -383,6 +383,30 @@ fn block_at(
     }
 }
 
+// Puts the block of the section at a position behind other blocks, where it takes memory.
+fn push_section(
+    made: &mut Vec<MemoryBlock>,
+    r: &Resizing<'_, '_>,
+    position: usize,
+    interpreter: Option<usize>,
+    strings: Option<usize>,
+    loads_end: u128,
+) -> Result<(), AllocError>
+    requires numbered { AreNumbered r.now.image }
+    requires sized { length r.now.sizes ≡ length r.now.image.sections }
+    requires interpreter { interpreter ≡ interpreter_number r.now.read }
+    requires strings { strings ≡ dynamic_strings_number r.now.image }
+    requires end { loads_end ≡ end_of_loads r.now.image.segments }
+    requires within { position < length r.now.image.sections }
+    ensures { OnOk result (made.new.items ++ section_blocks_from r.now (position + 1)
+        ≡ made.old.items ++ section_blocks_from r.now position) }
+{
+    if is_in_memory(&r.image.sections()[position]) {
+        made.push(block_at(r, position, interpreter, strings, loads_end))?;
+    }
+    Ok(())
+}
+
 // Puts the blocks of the sections that take memory behind other blocks.
 fn push_sections(
     made: &mut Vec<MemoryBlock>,
@@ -398,9 +422,7 @@ fn push_sections(
 {
     let end = loads_end(r.image.segments());
     for position in 0..r.image.sections().len() {
-        if is_in_memory(&r.image.sections()[position]) {
-            made.push(block_at(r, position, interpreter, strings, end))?;
-        }
+        push_section(made, r, position, interpreter, strings, end)?;
     }
     Ok(())
 }

@@ -1,4 +1,5 @@
 ghost use Rattle.std.specs.Prelude.{◌≡◌, IfErr, IfOk, IsTrue, OnOk, false};
+ghost use Rattle.elf_image.specs.Kept.{image_at_read};
 ghost use Rattle.elf_layout_plan.specs.Plan.{resized};
 ghost use Rattle.elf_layout_plan.specs.Refusals.{IsStuckBy, sizes_of_image};
 ghost use Rattle.elf_layout_plan.specs.Rounds.{are_chosen, do_move, is_stuck_with};
@@ -28,11 +29,27 @@ pub fn find_move_sections(
     ensures fault { IfErr result (IsStuckBy image.now added) }
 {
     let read = read_source(alloc, image)?;
-    let r = Resizing {
-        read: &read,
-        image,
-        sizes,
-    };
+    find_moved_from(alloc, &read, image, sizes, added)
+}
+
+// The same, for a caller that has the image as its source was read.
+fn find_moved_from<'data>(
+    alloc: Global,
+    read: &Builder<'data>,
+    image: &Builder<'data>,
+    sizes: &[u64],
+    added: usize,
+) -> Result<Vec<usize>, LayoutFault>
+    requires read { read.now ≡ image_at_read image.now }
+    requires sizes { sizes.now ≡ sizes_of_image image.now }
+    ensures found { IfOk result (λ moved.
+        IsTrue (do_move (resized image.now) added moved.items)) }
+    ensures chosen { IfOk result (λ moved.
+        IsTrue (are_chosen (resized image.now) added moved.items)) }
+    ensures free { OnOk result (is_stuck_with (resized image.now) added ≡ false) }
+    ensures fault { IfErr result (IsStuckBy image.now added) }
+{
+    let r = Resizing { read, image, sizes };
     find_moved(alloc, &r, added)
 }
 

@@ -77,17 +77,17 @@ fn ranges_of(alloc: Global, read: &Builder<'_>) -> Result<FileRanges, AllocError
     file_ranges_of(alloc, &sections)
 }
 
-// What the anchors of an image are looked up in.
-pub(crate) fn lists_of(alloc: Global, r: &Resizing<'_, '_>) -> Result<Lists, AllocError>
+// What the anchors of an image are looked up in, by its sections.
+fn lists_among(alloc: Global, r: &Resizing<'_, '_>, kept: &[SectionAt]) -> Result<Lists, AllocError>
+    requires { kept.now ≡ indexed_sections r.now.image }
     ensures { IfOk result (AreLists (searched_lists r.now)) }
 {
     let number = r.read.interpreter_number();
     let read = ranges_of(alloc, r.read)?;
-    let kept = sections_of(alloc, r.image)?;
-    let loaded = keys_of(alloc, &kept, true)?;
-    let all = keys_of(alloc, &kept, false)?;
-    let dynamic = first(&kept, Wanted::OfType(SHT_DYNAMIC));
-    let interpreter = find_interpreter(number, &kept);
+    let loaded = keys_of(alloc, kept, true)?;
+    let all = keys_of(alloc, kept, false)?;
+    let dynamic = first(kept, Wanted::OfType(SHT_DYNAMIC));
+    let interpreter = find_interpreter(number, kept);
     let moves_dynamic = r.image.may_dynamic_move();
     Ok(Lists {
         dynamic,
@@ -97,6 +97,14 @@ pub(crate) fn lists_of(alloc: Global, r: &Resizing<'_, '_>) -> Result<Lists, All
         read,
         moves_dynamic,
     })
+}
+
+// What the anchors of an image are looked up in.
+pub(crate) fn lists_of(alloc: Global, r: &Resizing<'_, '_>) -> Result<Lists, AllocError>
+    ensures { IfOk result (AreLists (searched_lists r.now)) }
+{
+    let kept = sections_of(alloc, r.image)?;
+    lists_among(alloc, r, &kept)
 }
 
 // Where the section stands that has just the bytes of a program header, of several one that is loaded.

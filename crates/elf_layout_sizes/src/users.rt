@@ -224,17 +224,41 @@ impl<'a, 'data> Users<'a, 'data> {
         Ok(())
     }
 
+    // The texts of the dynamic list that the image uses of that string table.
+    fn list_texts(&self, alloc: Global, number: usize) -> Result<Texts<'a>, AllocError>
+        ensures { IfOk result (λ texts. texts ≡ (others_in_use self.now number).list) }
+    {
+        let mut texts = Texts::new(alloc);
+        self.push_dynamic(&mut texts, number)?;
+        Ok(texts)
+    }
+
+    // The texts of versions, the same.
+    fn version_texts(&self, alloc: Global, number: usize) -> Result<Texts<'a>, AllocError>
+        ensures { IfOk result (λ texts. texts ≡ (others_in_use self.now number).versions) }
+    {
+        let mut texts = Texts::new(alloc);
+        self.push_definitions(&mut texts, number)?;
+        self.push_needs(&mut texts, number)?;
+        Ok(texts)
+    }
+
+    // The names of sections, the same.
+    fn section_texts(&self, alloc: Global, number: usize) -> Result<Texts<'a>, AllocError>
+        ensures { IfOk result (λ texts. texts ≡ (others_in_use self.now number).sections) }
+    {
+        let mut texts = Texts::new(alloc);
+        self.push_sections(&mut texts, number)?;
+        Ok(texts)
+    }
+
     // The texts that the image uses of that string table, but for the names of symbols.
     fn others(&self, alloc: Global, number: usize) -> Result<Others<'a>, AllocError>
         ensures { IfOk result (λ others. others ≡ others_in_use self.now number) }
     {
-        let mut list = Texts::new(alloc);
-        self.push_dynamic(&mut list, number)?;
-        let mut versions = Texts::new(alloc);
-        self.push_definitions(&mut versions, number)?;
-        self.push_needs(&mut versions, number)?;
-        let mut sections = Texts::new(alloc);
-        self.push_sections(&mut sections, number)?;
+        let list = self.list_texts(alloc, number)?;
+        let versions = self.version_texts(alloc, number)?;
+        let sections = self.section_texts(alloc, number)?;
         Ok(Others {
             list,
             versions,
@@ -313,6 +337,42 @@ impl<'a, 'data> Users<'a, 'data> {
         }
     }
 
+    // Whether that string table is copied, where it can be told by its other texts and those at read.
+    fn is_copied_by(
+        &self,
+        read_users: &Users<'_, '_>,
+        number: usize,
+        now: &Others<'_>,
+        at_read: &Others<'_>,
+    ) -> Option<bool>
+        requires users { read_users.now ≡ record { read = self.now.read; image = self.now.read } }
+        requires now { now.now ≡ others_in_use self.now number }
+        requires at_read { at_read.now ≡ others_in_use read_users.now number }
+        ensures { IfSome result (λ is. is ≡ is_table_copied self.now.read self.now.image number) }
+    {
+        if !self.keeps_names(read_users, number) {
+            return self.is_copied_by_counts(read_users, number, now, at_read);
+        }
+        is_known_copied(now, at_read)
+    }
+
+    // The same, by its other texts, with a look at those at read.
+    fn is_copied_with(
+        &self,
+        alloc: Global,
+        read_users: &Users<'_, '_>,
+        number: usize,
+        now: &Others<'_>,
+    ) -> Result<Option<bool>, AllocError>
+        requires users { read_users.now ≡ record { read = self.now.read; image = self.now.read } }
+        requires now { now.now ≡ others_in_use self.now number }
+        ensures { IfOk result (λ told. IfSome told (λ is.
+            is ≡ is_table_copied self.now.read self.now.image number)) }
+    {
+        let at_read = read_users.others(alloc, number)?;
+        Ok(self.is_copied_by(read_users, number, now, &at_read))
+    }
+
     // Whether that string table is copied, where it can be told without a look at the names of symbols.
     pub(crate) fn is_copied_by_others(
         &self,
@@ -325,11 +385,7 @@ impl<'a, 'data> Users<'a, 'data> {
             is ≡ is_table_copied self.now.read self.now.image number)) }
     {
         let now = self.others(alloc, number)?;
-        let at_read = read_users.others(alloc, number)?;
-        if !self.keeps_names(read_users, number) {
-            return Ok(self.is_copied_by_counts(read_users, number, &now, &at_read));
-        }
-        Ok(is_known_copied(&now, &at_read))
+        self.is_copied_with(alloc, read_users, number, &now)
     }
 
     // The texts that the image uses of the string table with that number.

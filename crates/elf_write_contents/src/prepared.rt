@@ -1,11 +1,16 @@
 //! What is made of an image before the contents of its sections: strings, numbers of symbols, headers and dynamic entries.
-ghost use Rattle.std.specs.Prelude.{◌≡◌, false, IfErr, IfOk};
+ghost use Rattle.std.specs.Prelude.{◌≡◌, false, true, IfErr, IfOk};
+ghost use Rattle.std.specs.List.{list_all};
+ghost use Rattle.elf_image.specs.Kept.{kept_sections};
 ghost use Rattle.elf_tables.specs.declared.fault.TableFault.TheVariants.{NumberTooLarge};
-ghost use Rattle.elf_write_strings.specs.WrittenStrings.{AreStrings};
+ghost use Rattle.elf_layout_plan.specs.Plan.{resized};
+ghost use Rattle.elf_write_spec.specs.Headers.{written_header};
+ghost use Rattle.elf_write_strings.specs.WrittenStrings.{AreStrings, strings_at};
+ghost use Rattle.elf_write_symbols.specs.Fits.{do_section_relocations_fit};
 ghost use Rattle.elf_write_symbols.specs.Renumbering.{IsRenumbering};
-ghost use Rattle.elf_write_contents.specs.Numbers.{do_numbers_fit as do_all_fit};
+ghost use Rattle.elf_write_contents.specs.Numbers.{do_numbers_fit as do_all_fit, do_records_fit};
 ghost use Rattle.elf_write_contents.specs.PreparedSteps.{IsPrepared};
-ghost use Rattle.elf_write_contents.specs.Inner.{IsPlanned};
+ghost use Rattle.elf_write_contents.specs.Inner.{AreHeaders, AreRaw, IsPlanned};
 
 use crate::entries::raw_entries;
 use crate::fits::do_header_numbers_fit;
@@ -70,6 +75,91 @@ pub fn prepare_with_strings<'a, 'data>(
     prepare_numbered(alloc, read, image, plan, made, renumbering)
 }
 
+// The headers and the dynamic entries.
+#[derive(Drop)]
+struct Numbers {
+    header: FileHeader,
+    headers: Vec<SectionHeader>,
+    raw: Vec<EntryNumbers>,
+}
+
+// The headers and the dynamic entries of an image that is written by a plan.
+fn made_numbers<'data>(
+    alloc: Global,
+    read: &Builder<'data>,
+    image: &Builder<'data>,
+    plan: &Plan,
+    made: &[Made<'_>],
+    renumbering: &Renumbering,
+) -> Result<Numbers, TableFault>
+    requires planned { IsPlanned read.now image.now plan.now }
+    requires strings { AreStrings read.now image.now made.now }
+    requires renumbering { IsRenumbering read.now image.now renumbering.now }
+    ensures header { IfOk result (λ numbers. numbers.header ≡ written_header image.now plan.now) }
+    ensures headers { IfOk result (λ numbers. AreHeaders (resized image.now)
+        (strings_at image.now made.now image.now.header.e_shstrndx)
+        (kept_sections image.now) plan.now.places numbers.headers.items) }
+    ensures raw { IfOk result (λ numbers.
+        AreRaw (resized image.now) plan.now made.now numbers.raw.items) }
+    ensures fault { IfErr result (λ fault.
+        fault ≡ NumberTooLarge → do_all_fit image.now plan.now ≡ false) }
+{
+    let staying = StayingNeeds::new(alloc, read, image)?;
+    let raw = raw_entries(alloc, read, image, plan, &staying, made)?;
+    let headers = section_headers(
+        alloc,
+        read,
+        image,
+        plan,
+        &staying,
+        &renumbering.dynamic,
+        &renumbering.sections,
+        made,
+    )?;
+    let header = file_header(read, image, plan, &renumbering.sections);
+    Ok(Numbers {
+        header,
+        headers,
+        raw,
+    })
+}
+
+// The same, each of which fits its field, as the new numbers of symbols do in relocations.
+fn fitting_numbers<'data>(
+    alloc: Global,
+    read: &Builder<'data>,
+    image: &Builder<'data>,
+    plan: &Plan,
+    made: &[Made<'_>],
+    renumbering: &Renumbering,
+) -> Result<Numbers, TableFault>
+    requires planned { IsPlanned read.now image.now plan.now }
+    requires strings { AreStrings read.now image.now made.now }
+    requires renumbering { IsRenumbering read.now image.now renumbering.now }
+    ensures header { IfOk result (λ numbers. numbers.header ≡ written_header image.now plan.now) }
+    ensures headers { IfOk result (λ numbers. AreHeaders (resized image.now)
+        (strings_at image.now made.now image.now.header.e_shstrndx)
+        (kept_sections image.now) plan.now.places numbers.headers.items) }
+    ensures raw { IfOk result (λ numbers.
+        AreRaw (resized image.now) plan.now made.now numbers.raw.items) }
+    ensures fit { IfOk result (λ numbers. do_records_fit image.now.form numbers.header
+        plan.now.segments numbers.headers.items numbers.raw.items ≡ true) }
+    ensures relocations { IfOk result (λ _.
+        list_all (do_section_relocations_fit read.now image.now) (kept_sections image.now) ≡ true) }
+    ensures fault { IfErr result (λ fault.
+        fault ≡ NumberTooLarge → do_all_fit image.now plan.now ≡ false) }
+{
+    let numbers = made_numbers(alloc, read, image, plan, made, renumbering)?;
+    let (headers, raw) = (&numbers.headers, &numbers.raw);
+    if !do_header_numbers_fit(read, image, plan, made, numbers.header, headers, raw) {
+        return Err(TableFault::NumberTooLarge);
+    }
+    if !do_relocations_fit_in(read, image, renumbering) {
+        return Err(TableFault::NumberTooLarge);
+    }
+    Ok(numbers)
+}
+
 // The same, with the new numbers of sections and symbols.
 fn prepare_numbered<'a, 'data>(
     alloc: Global,
@@ -86,30 +176,12 @@ fn prepare_numbered<'a, 'data>(
     ensures fault { IfErr result (λ fault.
         fault ≡ NumberTooLarge → do_all_fit image.entry.now plan.now ≡ false) }
 {
-    let staying = StayingNeeds::new(alloc, read, image)?;
-    let raw = raw_entries(alloc, read, image, plan, &staying, &made)?;
-    let headers = section_headers(
-        alloc,
-        read,
-        image,
-        plan,
-        &staying,
-        &renumbering.dynamic,
-        &renumbering.sections,
-        &made,
-    )?;
-    let header = file_header(read, image, plan, &renumbering.sections);
-    if !do_header_numbers_fit(read, image, plan, &made, header, &headers, &raw) {
-        return Err(TableFault::NumberTooLarge);
-    }
-    if !do_relocations_fit_in(read, image, &renumbering) {
-        return Err(TableFault::NumberTooLarge);
-    }
+    let numbers = fitting_numbers(alloc, read, image, plan, &made, &renumbering)?;
     Ok(Prepared {
         made,
         renumbering,
-        header,
-        headers,
-        raw,
+        header: numbers.header,
+        headers: numbers.headers,
+        raw: numbers.raw,
     })
 }

@@ -1,14 +1,28 @@
--- Where those of headers or of relocations don't fit, not all numbers do.
-use Rattle.std.proofs.Common.{sym, ◌∙◌}
-use Rattle.elf_write_contents.proofs.NumbersUnfit.{headers_unfit}
-use Rattle.elf_write_contents.proofs.PreparedFaults.{relocations_far}
+-- What the steps before made.
+use Rattle.std.proofs.Common.{◌≡◌, true, List, subst}
+use Rattle.elf_format.specs.declared.records.FileHeader.{FileHeader}
+use Rattle.elf_image.specs.Kept.{kept_sections}
+use Rattle.elf_layout_plan.specs.Plan.{resized}
+use Rattle.elf_write_strings.specs.declared.made.Made.{Made}
+use Rattle.elf_write_strings.specs.WrittenStrings.{strings_at}
+use Rattle.elf_write_contents.specs.Inner.{AreHeaders, AreRaw}
+use Rattle.elf_write_contents.specs.Numbers.{do_records_fit}
+use Rattle.elf_write_contents.proofs.PreparedFaults.{symbols_fit}
 use Rattle.elf_write_contents.proofs.prepared.prepare_numbered.Goals as goal
 
-pub returns-then-not-do_header_numbers_fit-clause-fault : goal.returns-then-not-do_header_numbers_fit-clause-fault
-returns-then-not-do_header_numbers_fit-clause-fault c large =
-    headers_unfit c.args.image.now c.args.plan.now (sym c.do_header_numbers_fit.ensures.fit ∙ c.if-not-do_header_numbers_fit.true)
-
-pub returns-then-not-do_relocations_fit_in-clause-fault : goal.returns-then-not-do_relocations_fit_in-clause-fault
-returns-then-not-do_relocations_fit_in-clause-fault c large =
-    relocations_far c.args.read.now c.args.image.now c.args.plan.now c.requires.planned
-    (sym c.do_relocations_fit_in.ensures ∙ c.if-not-do_relocations_fit_in.true)
+pub returns-clause-prepared : goal.returns-clause-prepared
+returns-clause-prepared c = record {
+  strings = c.requires.strings;
+  renumbering = c.requires.renumbering;
+  header = c.in_ok-numbers.ensures.header;
+  headers = subst (λ (made : List Made). AreHeaders (resized c.args.image.now)
+      (strings_at c.args.image.now made c.args.image.now.header.e_shstrndx) (kept_sections c.args.image.now)
+      c.args.plan.now.places c.in_ok-numbers.numbers.headers.items) c.deref.ensures.value c.in_ok-numbers.ensures.headers;
+  raw = subst (λ (made : List Made). AreRaw (resized c.args.image.now) c.args.plan.now made c.in_ok-numbers.numbers.raw.items)
+      c.deref.ensures.value c.in_ok-numbers.ensures.raw;
+  fit = subst (λ (h : FileHeader). do_records_fit c.args.image.now.form h c.args.plan.now.segments
+      c.in_ok-numbers.numbers.headers.items c.in_ok-numbers.numbers.raw.items ≡ true)
+      c.in_ok-numbers.ensures.header c.in_ok-numbers.ensures.fit;
+  symbols = symbols_fit c.args.read.now c.args.image.now c.args.renumbering c.requires.renumbering;
+  relocations = c.in_ok-numbers.ensures.relocations;
+}
