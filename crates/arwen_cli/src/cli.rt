@@ -2,7 +2,7 @@
 ghost use Rattle.std.specs.Prelude.{◌≡◌, false, IfErr, IsSome, OnOk, map};
 ghost use Rattle.arwen_cli.specs.Line.{ElfMayFail, LineMayFail, MachoMayFail, MeaningMayFail, ShowMayFail, has_option, meaning_of};
 ghost use Rattle.arwen_cli.specs.Meaning.{shown};
-ghost use Rattle.arwen_cli_options.specs.Quiet.{notes_asked};
+ghost use Rattle.arwen_cli_options.specs.Lines.{notes_asked};
 ghost use Rattle.arwen_cli.specs.Signing.{signing_asked};
 ghost use Rattle.elf_commands.specs.Meaning.{elf_command_model};
 ghost use Rattle.macho_commands.specs.Meaning.{macho_command_model};
@@ -19,7 +19,8 @@ pub use arwen_cli_show as show;
 use arwen_cli_show::Args;
 pub use command::Command;
 pub use command_words::{
-    EditFault, EditKind, EditsError, KeyValueError, MOST_BYTES, Notes, ValueError, parse_key_val,
+    EditFault, EditKind, EditsError, KeyValueError, MOST_BYTES, NotEdited, Notes, ValueError,
+    parse_key_val,
 };
 pub use elf_commands::elf::{
     FileProbe, Probe, edit_path, edit_store, print_path, print_store, run_elf, shrink_path,

@@ -46,6 +46,12 @@ abbrev pub IsPatchedAt : {S : Type 0} → (S → Option (List ℕ)) → Finding 
 IsPatchedAt contents finds plan known None = AsksNothing plan
 IsPatchedAt contents finds plan known (Some store) = IsPatched finds plan known (contents store)
 
+-- what an error at a path leaves and tells: nothing was opened, or what was opened holds what the error left of the bytes
+-- there
+abbrev pub FailsPatchAt : {S : Type 0} → (S → Option (List ℕ)) → Finding → PlanMeant → Option (List ℕ) → ElfCommandError → Option S → Type 0
+FailsPatchAt contents finds plan known e None = ⊤
+FailsPatchAt contents finds plan known e (Some store) = FailsPatch finds plan known (contents store) e
+
 -- what an error tells of the bytes at a path; one of reading or writing them tells nothing
 abbrev pub TellsPlanPath : Finding → PlanMeant → Option (List ℕ) → ElfCommandError → Type 0
 TellsPlanPath finds plan known (Io e) = ⊤

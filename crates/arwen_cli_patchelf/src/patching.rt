@@ -5,14 +5,15 @@ ghost use Rattle.byte_store.specs.Known.{Becomes, IsAll};
 ghost use Rattle.elf_commands.specs.Failures.{HasCause, HasCauseAt, HasWriteCause};
 ghost use Rattle.arwen_cli_patchelf_lines.specs.Plans.{plan_model};
 ghost use Rattle.arwen_cli_patchelf.specs.Made.{AsksNothing, IsMadeOf, TellsUnmade};
-ghost use Rattle.arwen_cli_patchelf.specs.Patched.{FailsPatch, IsPatched, IsPatchedAt, IsUnwritten, TellsPlanPath};
+ghost use Rattle.arwen_cli_patchelf.specs.Patched.{FailsPatch, FailsPatchAt, IsPatched, IsPatchedAt, IsUnwritten};
 
 use crate::making::made_bytes;
 use crate::steps::{apply_if, shrink_paths};
 use arwen_cli_patchelf_lines::{Plan, load};
 use byte_store::{Opens, Store, replace};
+use command_words::NotEdited;
 use elf_commands::ElfCommandError;
-use elf_commands::elf::Probe;
+use elf_commands::elf::{Probe, open_path};
 use std::alloc::Global;
 
 /// Makes a plan of the bytes of the store at a path, all or nothing, and hands the store back. A plan that asks for nothing opens
@@ -20,29 +21,36 @@ use std::alloc::Global;
 ///
 /// # Errors
 ///
-/// Those of `patch_store`, and `Io` with what the opening answered.
+/// Those of `patch_store`, and `Io` with what the opening answered. The store that was opened comes with the error, with
+/// what it left there.
 pub fn patch_path<'p, O: Opens<'p>, P: Probe>(
     alloc: Global,
     files: &O,
     path: &'p str,
     plan: &Plan,
     probe: &P,
-) -> Result<Option<O::Opened>, ElfCommandError>
+) -> Result<Option<O::Opened>, NotEdited<O::Opened, ElfCommandError>>
     ensures patched { IfOk result (IsPatchedAt O.Opened.contents (P.may_find probe.now)
         (plan_model plan.now) (O.contents files.now path.now)) }
     ensures idle { AsksNothing (plan_model plan.now) → IsOkAnd result (λ store. store ≡ None) }
-    ensures tells { IfErr result (TellsPlanPath (P.may_find probe.now)
-        (plan_model plan.now) (O.contents files.now path.now)) }
-    ensures cause { IfErr result (HasCauseAt (O.may_fail files.now path.now)
-        O.Opened.may_fail_read O.Opened.may_fail_write O.Opened.may_take_none
-        (O.contents files.now path.now)) }
+    ensures left { IfErr result (λ refused. FailsPatchAt O.Opened.contents
+        (P.may_find probe.now) (plan_model plan.now) (O.contents files.now path.now)
+        refused.error refused.store) }
+    ensures cause { IfErr result (λ refused. HasCauseAt (O.may_fail files.now path.now)
+        O.Opened.may_fail_read O.Opened.may_fail_write O.Opened.may_take_none O.Opened.failed
+        (O.contents files.now path.now) refused.error refused.store) }
 {
     if asks_nothing(plan) {
         return Ok(None);
     }
-    let mut store = files.open(path)?;
-    patch_store(alloc, &mut store, plan, probe)?;
-    Ok(Some(store))
+    let mut store = open_path(files, path)?;
+    match patch_store(alloc, &mut store, plan, probe) {
+        Ok(()) => Ok(Some(store)),
+        Err(error) => Err(NotEdited {
+            error,
+            store: Some(store),
+        }),
+    }
 }
 
 /// Makes a plan of the bytes of a store, all or nothing: run paths shrink, and then the words of `apply` are made of what comes

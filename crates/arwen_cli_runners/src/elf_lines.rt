@@ -9,6 +9,7 @@ use crate::ending::Ending;
 use arwen_cli_patchelf::{NotWritten, Print, patch_path, print_path, write_path};
 use arwen_cli_patchelf_lines::Plan;
 use byte_store::{Creates, Opens};
+use command_words::NotEdited;
 use elf_commands::ElfCommandError;
 use elf_commands::elf::Probe;
 use elf_commands::files::CountedWrite;
@@ -115,8 +116,15 @@ fn edit_file<'p, O: Opens<'p>, P: Probe>(
     ensures tells { IfErr result (TellsPlanPath (P.may_find probe.now) (plan_model plan.now)
         (O.contents files.now path.now)) }
 {
-    if patch_path(alloc, files, path, plan, probe)?.is_none() {
-        files.open(path)?;
+    match patch_path(alloc, files, path, plan, probe) {
+        Ok(Some(_)) => Ok(()),
+        Ok(None) => {
+            files.open(path)?;
+            Ok(())
+        }
+        Err(NotEdited { error, store }) => {
+            drop(store);
+            Err(error)
+        }
     }
-    Ok(())
 }

@@ -1,11 +1,12 @@
 //! What the commands for either kind of file share: the rows that say how each is written, the values that it
 //! takes, pairs and numbers, the groups of words that are edits, which files are read, how much of them, and whether
-//! notes of an edit are wanted.
+//! notes of an edit are wanted; and what is left where an edit fails.
 #![tactic(auto)]
 
 mod edits;
 mod file;
 mod key_value;
+mod not_edited;
 mod noting;
 mod rows;
 mod word_values;
@@ -16,6 +17,7 @@ pub use edits::{
 };
 pub use file::{MOST_BYTES, RegularFiles};
 pub use key_value::{KeyValueError, decimal_number, parse_key_val};
+pub use not_edited::NotEdited;
 pub use noting::Notes;
 pub use rows::{Row, Value, ValueForm, ValueOption, Values, find_row};
 pub use word_values::{ValueError, number_of, pairs_of};

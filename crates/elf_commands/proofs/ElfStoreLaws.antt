@@ -1,5 +1,5 @@
 -- What edits leave of the bytes of a store.
-use Rattle.std.proofs.Common.{◌≡◌, ◌∙◌, ℕ, List, Option, Some, length, refl, ap, subst, inl, inr, arith}
+use Rattle.std.proofs.Common.{◌≡◌, ℕ, List, Option, Some, length, refl, ap, subst, inl, inr, arith}
 use Rattle.byte_store.specs.Composed.{IsNotMade, made_of}
 use Rattle.byte_store.specs.Known.{Becomes, IsAll, Stays}
 use Rattle.byte_store.specs.declared.composed.Difference.{Difference}
@@ -12,7 +12,7 @@ use Rattle.elf_commands.specs.ElfAsked.{ElfAsked, in_turn, of_symbols, one, prin
 use Rattle.elf_edits.specs.Edit.{Edit}
 use Rattle.elf_commands.specs.ElfEngine.{AreEditsAsked, LeavesElf, MayFailAs, TellsEachFile, TellsEdit}
 use Rattle.elf_commands_steps.specs.Storing.{IsNothing}
-use Rattle.elf_commands.specs.ElfStores.{FailsElf, IsElfPatched, TellsElfPath}
+use Rattle.elf_commands.specs.ElfStores.{FailsElf, IsElfPatched}
 use Rattle.elf_commands_steps.specs.ElfErrors.{answer_to_read, answer_to_replaced}
 use Rattle.elf_commands_steps.specs.declared.error.ElfCommandError.{ElfCommandError}
 use Rattle.elf_commands_steps.specs.declared.error.ElfCommandError.TheVariants.{Edits, Elf, ElfBatch, Io, Memory}
@@ -76,8 +76,3 @@ replaced_as_asked a (replace.Write e) = tt
 -- bytes that differ nowhere
 pub nothing_differs : (bytes : List ℕ) (n : ℕ) (d : Difference) → n ≡ length bytes → IsNoDifference bytes d → IsNothing n d
 nothing_differs bytes n d is none = record { growth = ap length none.no_growth; pieces = ap length none.no_pieces; end = omega (arith, none.as_long) }
-
--- the store at a path
-pub tells_at : (a : ElfAsked) (known old new : Option (List ℕ)) (e : ElfCommandError) → old ≡ known → FailsElf a old new e → TellsElfPath a known e
-tells_at a known old new (Io e) same fails = tt
-tells_at a known old new e same fails = λ file is. fails.1 file (same ∙ is)

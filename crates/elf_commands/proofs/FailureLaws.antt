@@ -1,5 +1,5 @@
 -- Why a file could not be read or written.
-use Rattle.std.proofs.Common.{◌≡◌, ◌≤◌, ℕ, List, Option, inl, inr, subst}
+use Rattle.std.proofs.Common.{◌≤◌, ℕ, List, Option, inl, inr}
 use Rattle.std.specs.declared.io.Error.{Error}
 use Rattle.byte_store.proofs.CauseLaws.{ended_later}
 use Rattle.byte_store.specs.Causes.{IsNotWritten}
@@ -11,7 +11,7 @@ use Rattle.command_words.specs.Rows.{Text}
 use Rattle.elf_commands.specs.ElfAsked.{ElfAsked}
 use Rattle.elf_commands.specs.ElfEngine.{TellsEdit}
 use Rattle.elf_commands_steps.specs.ElfErrors.{answer_to_read, answer_to_replaced}
-use Rattle.elf_commands_steps.specs.Failures.{HasCause, HasCauseAt, HasShrinkCause, HasShrinkCauseAt, HasTellCause, HasWriteCause, IsNotLoaded, IsOfStore}
+use Rattle.elf_commands_steps.specs.Failures.{HasCause, HasShrinkCause, HasTellCause, HasWriteCause, IsNotLoaded}
 use Rattle.elf_commands.specs.ShrinkRuns.{TellsShrunk}
 use Rattle.elf_commands_steps.specs.Shrinking.{Finding}
 use Rattle.elf_commands_steps.specs.declared.error.ElfCommandError.{ElfCommandError}
@@ -45,18 +45,6 @@ pub cause_after : (reads writes : Error → Type 0) (none : Type 0) (known : Opt
 cause_after reads writes none known a b c (Io e) later why = inr (ended_later writes none e a b c later why)
 cause_after reads writes none known a b c e later why = tt
 
--- a store of these bytes, which had counted no failure
-opened : (reads writes : Error → Type 0) (none : Type 0) (known old : Option (List ℕ)) (a b : ℕ) (e : Error) → old ≡ known → a ≡ 0 → IsOfStore reads writes none old a b e → IsOfStore reads writes none known 0 b e
-opened reads writes none known old a b e same fresh why =
-    let Of : Option (List ℕ) → Type 0 = λ o. IsOfStore reads writes none o a b e in
-    let From : ℕ → Type 0 = λ n. IsOfStore reads writes none known n b e in
-    subst From fresh (subst Of same why)
-
--- the store at a path
-pub cause_at : (opens reads writes : Error → Type 0) (none : Type 0) (known old : Option (List ℕ)) (a b : ℕ) (e : ElfCommandError) → old ≡ known → a ≡ 0 → HasCause reads writes none old a b e → HasCauseAt opens reads writes none known e
-cause_at opens reads writes none known old a b (Io e) same fresh why = inr (b, opened reads writes none known old a b e same fresh why)
-cause_at opens reads writes none known old a b e same fresh why = tt
-
 -- ## Run paths that shrink
 
 pub unshrunk_unwritten : (writes : Error → Type 0) (none : Type 0) (finds : Finding) (prefixes : List Text) (file : List ℕ) (a b said told : ℕ) (e : ElfCommandError) → TellsShrunk finds prefixes file e
@@ -80,11 +68,3 @@ shrink_cause_after reads writes none known a b c said told (Io e) later why = el
   | inr ends ↦ inr (inr (ended_later writes none e a b c later ends))
 ]
 shrink_cause_after reads writes none known a b c said told e later why = tt
-
-pub shrink_cause_at : (opens reads writes : Error → Type 0) (none : Type 0) (known old : Option (List ℕ)) (a b said told : ℕ) (e : ElfCommandError) → old ≡ known → a ≡ 0 → HasShrinkCause reads writes none old a b said told e
-    → HasShrinkCauseAt opens reads writes none known said told e
-shrink_cause_at opens reads writes none known old a b said told (Io e) same fresh why = elim why [
-  | inl rises ↦ inl rises
-  | inr of_store ↦ inr (inr (b, opened reads writes none known old a b e same fresh of_store))
-]
-shrink_cause_at opens reads writes none known old a b said told e same fresh why = tt

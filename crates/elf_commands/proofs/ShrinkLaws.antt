@@ -29,7 +29,7 @@ use Rattle.elf_commands.specs.ElfEngine.{IsElfEdited, LeavesElf, MayFailAs, Tell
 use Rattle.elf_commands_steps.specs.ElfErrors.{answer_to_elf, answer_to_replaced}
 use Rattle.command_words.specs.Rows.{Text}
 use Rattle.elf_commands_steps.specs.ShrunkImages.{IsRemovalTold, IsShrunkImage, Steps, TellsUnshrunk, TellsUntold}
-use Rattle.elf_commands.specs.ShrinkRuns.{AreFoundIn, FailsShrink, IsQuiet, IsShrunkBy, RunsShrink, ShrinksStore, TellsShrink, TellsShrunk, TellsShrunkPath}
+use Rattle.elf_commands.specs.ShrinkRuns.{AreFoundIn, FailsShrink, IsQuiet, IsShrunkBy, RunsShrink, ShrinksStore, TellsShrink, TellsShrunk}
 use Rattle.elf_commands_steps.specs.Shrinking.{AreFound, Finding, removal_lines}
 use Rattle.elf_commands_steps.specs.declared.error.ElfCommandError.{ElfCommandError}
 use Rattle.elf_commands_steps.specs.declared.error.ElfCommandError.TheVariants.{Edits, Elf, ElfBatch, Io, Memory}
@@ -180,14 +180,6 @@ shrunk_makeable edits_show hold_parts edit file read d text is shrunk =
     let P : List ℕ → Type 0 = λ l. IsDifference l d in
     subst P (source_of_shrunk edits_show hold_parts edit file read shrunk.made is shrunk.makes) shrunk.makeable
 
--- what the error of a store tells of its path
-pub tells_path : (finds : Finding) (prefixes : List Text) (old new : Option (List ℕ)) (e : ElfCommandError) → FailsShrink finds prefixes old new e → TellsShrunkPath finds prefixes old e
-tells_path finds prefixes old new (Io e) fails = tt
-tells_path finds prefixes old new Memory fails = fails.1
-tells_path finds prefixes old new (Elf e) fails = fails.1
-tells_path finds prefixes old new (ElfBatch e) fails = fails.1
-tells_path finds prefixes old new (Edits e) fails = fails.1
-
 -- the difference was made, and the lines were told
 pub shrinks_store : (finds : Finding) (prefixes : List Text) (old new said told : Option (List ℕ)) (loaded : List ℕ) (d : Difference) (text : Text) → IsAll old loaded
     → IsShrunkBy finds prefixes loaded d text → Becomes (λ source. made_of source d) old new → Appends said told text → ShrinksStore finds prefixes old new said told
@@ -237,8 +229,3 @@ refused_is_quiet w (Io e) = tt
 refused_is_quiet w (Edits wrong) = refl
 refused_is_quiet w (Elf e) = refl
 refused_is_quiet w (ElfBatch e) = refl
-
--- the store at a path
-pub shrink_tells_at : (finds : Finding) (prefixes : List Text) (known old new : Option (List ℕ)) (e : ElfCommandError) → old ≡ known → FailsShrink finds prefixes old new e → TellsShrunkPath finds prefixes known e
-shrink_tells_at finds prefixes known old new (Io e) same fails = tt
-shrink_tells_at finds prefixes known old new e same fails = λ file is. fails.1 file (same ∙ is)

@@ -1,5 +1,6 @@
 -- What commands for ELF files make of the bytes of a store, where they are known.
-use Rattle.std.specs.Prelude.{ℕ, ◌≡◌, ◌⊎◌, List, Option, Some, false, ⊤}
+use Rattle.std.specs.Prelude.{ℕ, ◌≡◌, ◌⊎◌, List, Option, Some, None, false, ⊤}
+use Rattle.std.specs.declared.io.Error.{Error}
 use Rattle.byte_store.specs.Known.{Stays}
 use Rattle.byte_store.specs.Composed.{made_of, owned_patches}
 use Rattle.byte_store.specs.Fault.{IsLeft}
@@ -39,7 +40,15 @@ abbrev pub FailsElf : ElfAsked → Option (List ℕ) → Option (List ℕ) → E
 FailsElf a old new (Io e) = Stays old new ⊎ ((file : List ℕ) → old ≡ Some file → IsElfTorn a file old new)
 FailsElf a old new e = Stays old new × ((file : List ℕ) → old ≡ Some file → TellsEdit a file e)
 
--- what the error of a command tells of the bytes at its path; one of reading or writing them tells nothing
-abbrev pub TellsElfPath : ElfAsked → Option (List ℕ) → ElfCommandError → Type 0
-TellsElfPath a known (Io e) = ⊤
-TellsElfPath a known e = (file : List ℕ) → known ≡ Some file → TellsEdit a file e
+-- ---- at a path
+
+-- an error of an opening: nothing was opened
+abbrev pub IsUnopened : {S : Type 0} → (Error → Type 0) → ElfCommandError → Option S → Type 0
+IsUnopened opens (Io e) None = opens e
+IsUnopened opens e store = ⊥
+
+-- what an error at a path leaves and tells: nothing was opened, or what was opened holds what the error left of the bytes
+-- there
+abbrev pub FailsElfAt : {S : Type 0} → ElfAsked → (S → Option (List ℕ)) → Option (List ℕ) → ElfCommandError → Option S → Type 0
+FailsElfAt a contents known e None = ⊤
+FailsElfAt a contents known e (Some store) = FailsElf a known (contents store) e

@@ -1,5 +1,5 @@
 -- What a command makes of a file whose run paths shrink, what it tells, and why it makes nothing.
-use Rattle.std.specs.Prelude.{ℕ, ◌≡◌, ◌⊎◌, List, Option, Some, Ok, Result, ⊤}
+use Rattle.std.specs.Prelude.{ℕ, ◌≡◌, ◌⊎◌, List, Option, Some, None, Ok, Result, ⊤}
 use Rattle.std.specs.Io.KnownBytes.{Appends}
 use Rattle.std.specs.declared.alloc.Global.{Global}
 use Rattle.std.specs.declared.vec.Vec.{Vec}
@@ -88,10 +88,17 @@ IsQuiet old new (Io e) = ⊤
 IsQuiet old new Memory = ⊤
 IsQuiet old new e = new ≡ old
 
--- what an error tells of the bytes at a path; one of reading or writing them tells nothing
-abbrev pub TellsShrunkPath : Finding → List Text → Option (List ℕ) → ElfCommandError → Type 0
-TellsShrunkPath finds prefixes known (Io e) = ⊤
-TellsShrunkPath finds prefixes known e = (file : List ℕ) → known ≡ Some file → TellsShrunk finds prefixes file e
+-- ---- at a path
+
+-- what an error leaves and tells: nothing was opened, or what was opened holds what the error left of the bytes there
+abbrev pub FailsShrinkAt : {S : Type 0} → Finding → List Text → (S → Option (List ℕ)) → Option (List ℕ) → ElfCommandError → Option S → Type 0
+FailsShrinkAt finds prefixes contents known e None = ⊤
+FailsShrinkAt finds prefixes contents known e (Some store) = FailsShrink finds prefixes known (contents store) e
+
+-- where nothing was opened, no lines are told
+abbrev pub IsQuietAt : {W S : Type 0} → W → W → ElfCommandError → Option S → Type 0
+IsQuietAt old new e None = new ≡ old
+IsQuietAt old new e (Some store) = IsQuiet old new e
 
 -- ---- any command
 

@@ -8,6 +8,7 @@ mod editing;
 mod engine;
 mod in_turn;
 mod noting;
+mod opening;
 mod printing;
 mod shrinking;
 
@@ -19,6 +20,7 @@ use editing::{edit_file, edit_telling};
 use elf_commands_steps::ElfCommandError;
 pub use elf_commands_steps::{FileProbe, Probe};
 pub use engine::run_elf;
+pub use opening::open_path;
 use printing::print_file;
 pub use printing::{print_path, print_store};
 use shrinking::shrink_file;

@@ -1,5 +1,5 @@
 -- Why a command for an ELF file answers that the file could not be read or written, or that nothing could be printed.
-use Rattle.std.specs.Prelude.{ℕ, ◌-◌, ◌^◌, ◌⊎◌, List, Option, ⊤}
+use Rattle.std.specs.Prelude.{ℕ, ◌-◌, ◌^◌, ◌⊎◌, List, Option, Some, None, ⊤}
 use Rattle.std.specs.declared.io.Error.{Error}
 use Rattle.byte_store.specs.Causes.{EndsBy, IsNotWhole}
 use Rattle.byte_store.specs.Counts.{RisesBy}
@@ -47,18 +47,23 @@ HasShrinkCause reads writes takes_none known old new said told (Io e) =
     RisesBy 1 said told ⊎ IsOfStore reads writes takes_none known old new e
 HasShrinkCause reads writes takes_none known old new said told e = ⊤
 
--- ---- at a path: the opening answered the error, or it is one of the store that was opened
+-- ---- at a path
 
-abbrev pub HasCauseAt : (Error → Type 0) → (Error → Type 0) → (Error → Type 0) → Type 0 → Option (List ℕ) → ElfCommandError → Type 0
-HasCauseAt opens reads writes takes_none known (Io e) =
-    opens e ⊎ ((failed : ℕ) × IsOfStore reads writes takes_none known 0 failed e)
-HasCauseAt opens reads writes takes_none known e = ⊤
+-- an error at a path: where nothing was opened, the opening answered it; else it is one of the store, which counted no
+-- failure before
+abbrev pub HasCauseAt : {S : Type 0} → (Error → Type 0) → (Error → Type 0) → (Error → Type 0) → Type 0 → (S → ℕ) → Option (List ℕ) → ElfCommandError → Option S → Type 0
+HasCauseAt opens reads writes takes_none failed known (Io e) None = opens e
+HasCauseAt opens reads writes takes_none failed known e None = ⊥
+HasCauseAt opens reads writes takes_none failed known e (Some store) = HasCause reads writes takes_none known 0 (failed store) e
 
+-- the opening answered the error, or it is one of the store that was opened
 abbrev pub HasReadCauseAt : (Error → Type 0) → (Error → Type 0) → Option (List ℕ) → ElfCommandError → Type 0
 HasReadCauseAt opens reads known (Io e) = opens e ⊎ ((failed : ℕ) × IsNotLoaded reads known 0 failed (read.Io e))
 HasReadCauseAt opens reads known e = ⊤
 
-abbrev pub HasShrinkCauseAt : (Error → Type 0) → (Error → Type 0) → (Error → Type 0) → Type 0 → Option (List ℕ) → ℕ → ℕ → ElfCommandError → Type 0
-HasShrinkCauseAt opens reads writes takes_none known said told (Io e) =
-    RisesBy 1 said told ⊎ opens e ⊎ ((failed : ℕ) × IsOfStore reads writes takes_none known 0 failed e)
-HasShrinkCauseAt opens reads writes takes_none known said told e = ⊤
+-- where nothing was opened, the opening answered the error; else it is one of the store, or what lines are told to failed
+abbrev pub HasShrinkCauseAt : {S : Type 0} → (Error → Type 0) → (Error → Type 0) → (Error → Type 0) → Type 0 → (S → ℕ) → Option (List ℕ) → ℕ → ℕ → ElfCommandError → Option S → Type 0
+HasShrinkCauseAt opens reads writes takes_none failed known said told (Io e) None = opens e
+HasShrinkCauseAt opens reads writes takes_none failed known said told e None = ⊥
+HasShrinkCauseAt opens reads writes takes_none failed known said told e (Some store) =
+    HasShrinkCause reads writes takes_none known 0 (failed store) said told e

@@ -1,5 +1,5 @@
 -- Why a command for a Mach-O file answers that the file could not be read or written.
-use Rattle.std.specs.Prelude.{ℕ, ◌⊎◌, List, Option, ⊤}
+use Rattle.std.specs.Prelude.{ℕ, ◌⊎◌, List, None, Option, Some, ⊤}
 use Rattle.std.specs.declared.io.Error.{Error}
 use Rattle.byte_store.specs.Causes.{EndsBy, IsNotRead}
 use Rattle.byte_store.specs.declared.reading.ReadError.TheVariants as read
@@ -16,8 +16,8 @@ abbrev pub HasCause : (Error → Type 0) → (Error → Type 0) → Type 0 → O
 HasCause reads writes takes_none known old new (Io e) = IsOfStore reads writes takes_none known old new e
 HasCause reads writes takes_none known old new e = ⊤
 
--- an error of reading or writing at a path: the opening answered it, or it is one of the store that was opened
-abbrev pub HasCauseAt : (Error → Type 0) → (Error → Type 0) → (Error → Type 0) → Type 0 → Option (List ℕ) → MachoCommandError → Type 0
-HasCauseAt opens reads writes takes_none known (Io e) =
-    opens e ⊎ ((failed : ℕ) × IsOfStore reads writes takes_none known 0 failed e)
-HasCauseAt opens reads writes takes_none known e = ⊤
+-- an error at a path: where nothing was opened, the opening answered it; else it is one of the store, which counted no failure before
+abbrev pub HasCauseAt : {S : Type 0} → (Error → Type 0) → (Error → Type 0) → (Error → Type 0) → Type 0 → (S → ℕ) → Option (List ℕ) → MachoCommandError → Option S → Type 0
+HasCauseAt opens reads writes takes_none failed known (Io e) None = opens e
+HasCauseAt opens reads writes takes_none failed known e None = ⊥
+HasCauseAt opens reads writes takes_none failed known e (Some store) = HasCause reads writes takes_none known 0 (failed store) e

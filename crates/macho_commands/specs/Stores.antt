@@ -1,5 +1,5 @@
 -- What a command makes of the bytes of a store, where they are known.
-use Rattle.std.specs.Prelude.{ℕ, ◌≡◌, ◌⊎◌, List, Option, Some, ⊤}
+use Rattle.std.specs.Prelude.{ℕ, ◌≡◌, ◌⊎◌, List, None, Option, Some, ⊤}
 use Rattle.byte_store.specs.Known.{Stays}
 use Rattle.byte_store.specs.Laid.{Patch, first_bytes, laid}
 use Rattle.macho_commands.specs.declared.error.MachoCommandError.{MachoCommandError}
@@ -31,7 +31,7 @@ abbrev pub FailsPatch : Signing → MachoMeaning → Option (List ℕ) → Optio
 FailsPatch choice meaning old new (Io e) = Stays old new ⊎ Torn choice meaning old new
 FailsPatch choice meaning old new e = RefusesPatch choice meaning old new e
 
--- what the error of a command tells of the bytes at its path; one of reading or writing them tells nothing
-abbrev pub TellsPath : Signing → MachoMeaning → Option (List ℕ) → MachoCommandError → Type 0
-TellsPath choice meaning known (Io e) = ⊤
-TellsPath choice meaning known e = (file : List ℕ) → known ≡ Some file → Tells (outcome choice meaning file) e
+-- what an error at a path leaves and tells: nothing was opened, or what was opened holds what the error left of the bytes there
+abbrev pub FailsPatchAt : {S : Type 0} → Signing → MachoMeaning → (S → Option (List ℕ)) → Option (List ℕ) → MachoCommandError → Option S → Type 0
+FailsPatchAt signing meaning contents known e None = ⊤
+FailsPatchAt signing meaning contents known e (Some store) = FailsPatch signing meaning known (contents store) e

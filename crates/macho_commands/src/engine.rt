@@ -10,8 +10,8 @@ ghost use Rattle.macho_commands.specs.Meaning.{file_of, macho_command_model};
 ghost use Rattle.macho_commands.specs.Notes.{TellsBy, TellsCommand, TellsOf, TellsSigned, TellsWanted, TellsWantedAt};
 ghost use Rattle.macho_commands.specs.Refusing.{IsRefusal, LeadsWith};
 ghost use Rattle.macho_commands.specs.Renewed.{PatchesOr};
-ghost use Rattle.macho_commands.specs.Stores.{FailsPatch, Patched, TellsPath};
-ghost use Rattle.macho_commands.specs.declared.error.MachoCommandError.TheVariants.{Memory};
+ghost use Rattle.macho_commands.specs.Stores.{FailsPatch, FailsPatchAt, Patched};
+ghost use Rattle.macho_commands.specs.declared.error.MachoCommandError.TheVariants.{Io, Memory};
 ghost use Rattle.macho_signing.specs.Thin.{AreAsLong, pages_of};
 
 use crate::command::MachoCommand;
@@ -24,13 +24,14 @@ use crate::sliced::patch_slices;
 use crate::verifying::verify_file;
 use arwen_macho::macho::{Front, MachoBatchError, MachoContainer, MachoEdit, lay_fronts};
 use byte_store::{Opens, Store};
-use command_words::{Notes, RegularFiles, words_of};
+use command_words::{NotEdited, Notes, RegularFiles, words_of};
 use macho_commands_signing::{
     Loaded, changes_of, front_changes, load_for_edits, load_fronts, load_slices, write_changes_of,
 };
 use macho_signatures::{Slot, lay_slots};
 use macho_signing::{NewSlots, Scope, signed_slots};
 use std::alloc::Global;
+use std::io;
 use std::rt::Files;
 
 /// The bytes of a file after a command: a parse accepts them again, and finds the edited load commands. Of
@@ -432,13 +433,18 @@ fn patch_loaded<S: Store>(
 
 /// Edits the bytes of the store at the command's path, as `patch_store` does, and hands the store back with the line of
 /// the note.
+///
+/// # Errors
+///
+/// Those of `patch_store`, and `Io` with what the opening answered. A store that was opened comes with the error, with the
+/// bytes that the error left in it.
 pub fn patch_path<'p, O: Opens<'p>>(
     alloc: Global,
     files: &O,
     command: &'p MachoCommand,
     notes: Notes,
     signing: Signing,
-) -> Result<(O::Opened, String), MachoCommandError>
+) -> Result<(O::Opened, String), NotEdited<O::Opened, MachoCommandError>>
     ensures patched { IfOk result (λ edited. Patched signing (macho_command_model command.now)
         (O.contents files.now (file_of (macho_command_model command.now)))
         (O.Opened.contents edited.0)) }
@@ -446,17 +452,40 @@ pub fn patch_path<'p, O: Opens<'p>>(
         (macho_command_model command.now) notes
         (O.contents files.now (file_of (macho_command_model command.now)))
         (string_bytes edited.1)) }
-    ensures err { IfErr result (λ e. MayFail (macho_command_model command.now) e) }
-    ensures tells { IfErr result (λ e. TellsPath signing (macho_command_model command.now)
-        (O.contents files.now (file_of (macho_command_model command.now))) e) }
-    ensures cause { IfErr result (HasCauseAt
+    ensures err { IfErr result (λ refused.
+        MayFail (macho_command_model command.now) refused.error) }
+    ensures left { IfErr result (λ refused. FailsPatchAt signing
+        (macho_command_model command.now) O.Opened.contents
+        (O.contents files.now (file_of (macho_command_model command.now)))
+        refused.error refused.store) }
+    ensures cause { IfErr result (λ refused. HasCauseAt
         (O.may_fail files.now (file_of (macho_command_model command.now)))
-        O.Opened.may_fail_read O.Opened.may_fail_write O.Opened.may_take_none
-        (O.contents files.now (file_of (macho_command_model command.now)))) }
+        O.Opened.may_fail_read O.Opened.may_fail_write O.Opened.may_take_none O.Opened.failed
+        (O.contents files.now (file_of (macho_command_model command.now)))
+        refused.error refused.store) }
 {
-    let mut store = files.open(command.path_to_binary())?;
-    let text = patch_store(alloc, &mut store, command, notes, signing)?;
-    Ok((store, text))
+    let mut store = match files.open(command.path_to_binary()) {
+        Ok(store) => store,
+        Err(error) => return Err(not_opened(error)),
+    };
+    match patch_store(alloc, &mut store, command, notes, signing) {
+        Ok(text) => Ok((store, text)),
+        Err(error) => Err(NotEdited {
+            error,
+            store: Some(store),
+        }),
+    }
+}
+
+/// The answer to an opening that failed.
+fn not_opened<S>(error: io::Error) -> NotEdited<S, MachoCommandError>
+    ensures error { result.error ≡ Io error }
+    ensures store { result.store ≡ None }
+{
+    NotEdited {
+        error: MachoCommandError::Io(error),
+        store: None,
+    }
 }
 
 /// Edits a Mach-O file in its place, leaves its signatures unless the command is `sign`, and tells no notes. Only bytes
@@ -530,6 +559,8 @@ fn patch_file<R: Files + AllocGlobal>(
     ensures { IfErr result (MayFail (macho_command_model command.now)) }
 {
     let files = RegularFiles { files: rt };
-    let (_store, text) = patch_path(rt.alloc(), &files, command, notes, signing)?;
-    Ok(text)
+    match patch_path(rt.alloc(), &files, command, notes, signing) {
+        Ok((_store, text)) => Ok(text),
+        Err(refused) => Err(refused.error),
+    }
 }

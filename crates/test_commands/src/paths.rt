@@ -1,7 +1,7 @@
 use crate::stores::{PLAIN, WITH_RPATH};
 use arwen_cli::cli::elf::{print_os_abi, print_path, set_os_abi};
 use arwen_cli::cli::{
-    ArwenError, ElfCommand, MachoCommand, Notes, Signing, add, edit_path, patch_path,
+    ArwenError, ElfCommand, MachoCommand, NotEdited, Notes, Signing, add, edit_path, patch_path,
 };
 use arwen_cli::elf::Sink;
 use byte_store::{MemoryFile, MemoryStore};
@@ -79,28 +79,49 @@ fn setting(alloc: Global) -> Result<ElfCommand, AllocError> {
     }
 }
 
-// The store that a command leaves of a file, and the lines of its notes. It is opened once more where memory was
-// refused.
+// The store that a command leaves of a file, and the lines of its notes.
+fn patched_once(
+    alloc: Global,
+    bytes: &[u8],
+    command: &MachoCommand,
+    notes: Notes,
+) -> Result<(MemoryStore, String), ArwenError> {
+    match patch_path(alloc, &file(alloc, bytes), command, notes, Signing::Left) {
+        Err(refused) => Err(ArwenError::from(refused.error)),
+        Ok(made) => Ok(made),
+    }
+}
+
+// The same; the file is opened once more where memory was refused.
 fn patched(
     alloc: Global,
     bytes: &[u8],
     command: &MachoCommand,
     notes: Notes,
 ) -> Result<(MemoryStore, String), ArwenError> {
-    let made = match patch_path(alloc, &file(alloc, bytes), command, notes, Signing::Left) {
-        Err(_) => patch_path(alloc, &file(alloc, bytes), command, notes, Signing::Left)?,
-        Ok(made) => made,
-    };
-    Ok(made)
+    match patched_once(alloc, bytes, command, notes) {
+        Err(_) => patched_once(alloc, bytes, command, notes),
+        made => made,
+    }
 }
 
-// The notes of a command for ELF files, in the same way.
+// The notes of a command for ELF files.
+fn noted_once(alloc: Global, command: &ElfCommand, notes: Notes) -> Result<String, ArwenError> {
+    match edit_path(alloc, &file(alloc, ELF), command, notes) {
+        Ok((_store, text)) => Ok(text),
+        Err(NotEdited { error, store }) => {
+            drop(store);
+            Err(ArwenError::from(error))
+        }
+    }
+}
+
+// They are told once more where memory was refused.
 fn noted(alloc: Global, command: &ElfCommand, notes: Notes) -> Result<String, ArwenError> {
-    let (_store, text) = match edit_path(alloc, &file(alloc, ELF), command, notes) {
-        Err(_) => edit_path(alloc, &file(alloc, ELF), command, notes)?,
-        Ok(made) => made,
-    };
-    Ok(text)
+    match noted_once(alloc, command, notes) {
+        Err(_) => noted_once(alloc, command, notes),
+        told => told,
+    }
 }
 
 // What is printed of a file, in the same way.

@@ -3,7 +3,7 @@ ghost use Rattle.std.specs.Prelude.{IfErr, IfOk, IsTrue, OnOk, length, string_by
 ghost use Rattle.byte_store.specs.Known.{HasLength, IsAll, Stays};
 ghost use Rattle.elf_commands.specs.ElfAsked.{elf_asked};
 ghost use Rattle.elf_commands.specs.ElfEngine.{AreAsked, AreEditsAsked, ElfMayFail};
-ghost use Rattle.elf_commands.specs.ElfStores.{ChangesNothing, FailsElf, IsElfPatched, TellsElfPath};
+ghost use Rattle.elf_commands.specs.ElfStores.{ChangesNothing, FailsElf, FailsElfAt, IsElfPatched};
 ghost use Rattle.elf_commands.specs.ElfWords.{edits_model};
 ghost use Rattle.elf_commands_steps.specs.Failures.{HasCause, HasCauseAt, HasWriteCause};
 ghost use Rattle.elf_commands.specs.Meaning.{elf_file_of, elf_command_model};
@@ -13,8 +13,9 @@ use crate::asked::{AskedEdits, asked_by};
 use crate::command::ElfCommand;
 use crate::elf::engine::edited_pieces;
 use crate::elf::in_turn::edit_in_turn;
+use crate::elf::opening::open_path;
 use byte_store::{Opens, Store};
-use command_words::{Notes, RegularFiles};
+use command_words::{NotEdited, Notes, RegularFiles};
 use elf_commands_steps::{ElfCommandError, load_elf, make_opened, tell};
 use elf_edits::ElfEdit;
 use std::alloc::Global;
@@ -132,13 +133,14 @@ fn edit_loaded<S: Store>(
 ///
 /// # Errors
 ///
-/// Those of `edit_store`, and `Io` with what the opening answered.
+/// Those of `edit_store`, and `Io` with what the opening answered. The store that was opened comes with the error, with
+/// what it left there.
 pub fn edit_path<'p, O: Opens<'p>>(
     alloc: Global,
     files: &O,
     command: &'p ElfCommand,
     notes: Notes,
-) -> Result<(O::Opened, String), ElfCommandError>
+) -> Result<(O::Opened, String), NotEdited<O::Opened, ElfCommandError>>
     ensures patched { IfOk result (λ edited. IsElfPatched
         (elf_asked (elf_command_model command.now))
         (O.contents files.now (elf_file_of (elf_command_model command.now)))
@@ -147,17 +149,26 @@ pub fn edit_path<'p, O: Opens<'p>>(
         (elf_asked (elf_command_model command.now)) (elf_file_of (elf_command_model command.now))
         (O.contents files.now (elf_file_of (elf_command_model command.now)))
         (string_bytes edited.1)) }
-    ensures err { IfErr result (ElfMayFail (elf_command_model command.now)) }
-    ensures tells { IfErr result (TellsElfPath (elf_asked (elf_command_model command.now))
-        (O.contents files.now (elf_file_of (elf_command_model command.now)))) }
-    ensures cause { IfErr result (HasCauseAt
+    ensures err { IfErr result (λ refused.
+        ElfMayFail (elf_command_model command.now) refused.error) }
+    ensures left { IfErr result (λ refused. FailsElfAt
+        (elf_asked (elf_command_model command.now)) O.Opened.contents
+        (O.contents files.now (elf_file_of (elf_command_model command.now)))
+        refused.error refused.store) }
+    ensures cause { IfErr result (λ refused. HasCauseAt
         (O.may_fail files.now (elf_file_of (elf_command_model command.now)))
-        O.Opened.may_fail_read O.Opened.may_fail_write O.Opened.may_take_none
-        (O.contents files.now (elf_file_of (elf_command_model command.now)))) }
+        O.Opened.may_fail_read O.Opened.may_fail_write O.Opened.may_take_none O.Opened.failed
+        (O.contents files.now (elf_file_of (elf_command_model command.now)))
+        refused.error refused.store) }
 {
-    let mut store = files.open(command.path_to_binary())?;
-    let text = edit_store(alloc, &mut store, command, notes)?;
-    Ok((store, text))
+    let mut store = open_path(files, command.path_to_binary())?;
+    match edit_store(alloc, &mut store, command, notes) {
+        Ok(text) => Ok((store, text)),
+        Err(error) => Err(NotEdited {
+            error,
+            store: Some(store),
+        }),
+    }
 }
 
 /// Edits a file in its place, and tells no notes.
@@ -197,6 +208,11 @@ fn edit_lent<R: Files + AllocGlobal>(
     ensures { IfErr result (ElfMayFail (elf_command_model command.now)) }
 {
     let files = RegularFiles { files: rt };
-    let (_store, text) = edit_path(rt.alloc(), &files, command, notes)?;
-    Ok(text)
+    match edit_path(rt.alloc(), &files, command, notes) {
+        Ok((_store, text)) => Ok(text),
+        Err(NotEdited { error, store }) => {
+            drop(store);
+            Err(error)
+        }
+    }
 }

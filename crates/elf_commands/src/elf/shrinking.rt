@@ -7,11 +7,12 @@ ghost use Rattle.elf_edits.specs.Edit.{ShrinkRunPath};
 ghost use Rattle.elf_commands.specs.ElfAsked.{shrinking};
 ghost use Rattle.elf_commands.specs.ElfEngine.{MayFailAs};
 ghost use Rattle.elf_commands_steps.specs.Failures.{HasShrinkCause, HasShrinkCauseAt, HasTellCause};
-ghost use Rattle.elf_commands.specs.ShrinkRuns.{FailsShrink, IsQuiet, IsShrunkBy, RunsShrink, ShrinksStore, TellsShrink, TellsShrunk, TellsShrunkPath};
+ghost use Rattle.elf_commands.specs.ShrinkRuns.{FailsShrink, FailsShrinkAt, IsQuiet, IsQuietAt, IsShrunkBy, RunsShrink, ShrinksStore, TellsShrink, TellsShrunk};
 
+use crate::elf::opening::open_path;
 use crate::elf::shrink_rpath::Args;
 use byte_store::{Opens, Store};
-use command_words::RegularFiles;
+use command_words::{NotEdited, RegularFiles};
 use elf_commands_steps::files::{CountedWrite, ElfContainer, ProbeAnswer, Sink, write_all_counted};
 use elf_commands_steps::{
     ElfCommandError, FileProbe, Probe, Shrunk, StandardError, answers_of, load_elf, make_opened,
@@ -148,32 +149,41 @@ fn shrink_loaded<S: Store, P: Probe, W: CountedWrite>(
 ///
 /// # Errors
 ///
-/// Those of `shrink_store`, and `Io` with what the opening answered.
+/// Those of `shrink_store`, and `Io` with what the opening answered, before any line is told. The store that was opened
+/// comes with the error, with what it left there.
 pub fn shrink_path<'p, O: Opens<'p>, P: Probe, W: CountedWrite>(
     alloc: Global,
     files: &O,
     args: &'p Args,
     probe: &P,
     out: &mut W,
-) -> Result<O::Opened, ElfCommandError>
+) -> Result<O::Opened, NotEdited<O::Opened, ElfCommandError>>
     ensures shrunk { IfOk result (λ store. ShrinksStore (P.may_find probe.now)
         (map string_bytes args.now.allowed_rpath_prefixes.items)
         (O.contents files.now (string_bytes args.now.path_to_binary))
         (O.Opened.contents store) (W.contents out.old) (W.contents out.new)) }
-    ensures err { IfErr result (MayFailAs
-        (shrinking (map string_bytes args.now.allowed_rpath_prefixes.items))) }
-    ensures tells { IfErr result (TellsShrunkPath (P.may_find probe.now)
-        (map string_bytes args.now.allowed_rpath_prefixes.items)
-        (O.contents files.now (string_bytes args.now.path_to_binary))) }
-    ensures cause { IfErr result (HasShrinkCauseAt
-        (O.may_fail files.now (string_bytes args.now.path_to_binary))
-        O.Opened.may_fail_read O.Opened.may_fail_write O.Opened.may_take_none
+    ensures err { IfErr result (λ refused. MayFailAs
+        (shrinking (map string_bytes args.now.allowed_rpath_prefixes.items)) refused.error) }
+    ensures left { IfErr result (λ refused. FailsShrinkAt (P.may_find probe.now)
+        (map string_bytes args.now.allowed_rpath_prefixes.items) O.Opened.contents
         (O.contents files.now (string_bytes args.now.path_to_binary))
-        (W.failed out.old) (W.failed out.new)) }
+        refused.error refused.store) }
+    ensures quiet { IfErr result (λ refused.
+        IsQuietAt out.old out.new refused.error refused.store) }
+    ensures cause { IfErr result (λ refused. HasShrinkCauseAt
+        (O.may_fail files.now (string_bytes args.now.path_to_binary))
+        O.Opened.may_fail_read O.Opened.may_fail_write O.Opened.may_take_none O.Opened.failed
+        (O.contents files.now (string_bytes args.now.path_to_binary))
+        (W.failed out.old) (W.failed out.new) refused.error refused.store) }
 {
-    let mut store = files.open(args.path_to_binary.as_str())?;
-    shrink_store(alloc, &mut store, args, probe, out)?;
-    Ok(store)
+    let mut store = open_path(files, args.path_to_binary.as_str())?;
+    match shrink_store(alloc, &mut store, args, probe, out) {
+        Ok(()) => Ok(store),
+        Err(error) => Err(NotEdited {
+            error,
+            store: Some(store),
+        }),
+    }
 }
 
 /// Shrinks the run paths of a file in its place. What it tells goes to the standard error.
@@ -197,6 +207,11 @@ fn shrink_lent<R: Files + Eprint + AllocGlobal>(rt: &R, args: &Args) -> Result<(
     let files = RegularFiles { files: rt };
     let probe = FileProbe { files: rt };
     let mut told = Sink::new(StandardError { to: rt });
-    shrink_path(rt.alloc(), &files, args, &probe, &mut told)?;
-    Ok(())
+    match shrink_path(rt.alloc(), &files, args, &probe, &mut told) {
+        Ok(_) => Ok(()),
+        Err(NotEdited { error, store }) => {
+            drop(store);
+            Err(error)
+        }
+    }
 }

@@ -1,7 +1,7 @@
 //! The notes of commands on files, which stay as they are.
 use crate::line::faults::tell;
 use arwen_cli::cli::{
-    ArwenError, Command, ElfCommand, MachoCommand, Notes, Signing, edit_path, patch_path,
+    ArwenError, Command, ElfCommand, MachoCommand, NotEdited, Notes, Signing, edit_path, patch_path,
 };
 use byte_store::MemoryFile;
 use std::alloc::Global;
@@ -39,8 +39,10 @@ fn macho_notes(rt: &HostRuntime, command: &MachoCommand) -> Result<String, Arwen
     let path = command.path_to_binary();
     let bytes = read_file(rt, path)?;
     let file = file_at(rt.alloc(), path, bytes.as_slice());
-    let (_store, notes) = patch_path(rt.alloc(), &file, command, Notes::Wanted, Signing::Left)?;
-    Ok(notes)
+    match patch_path(rt.alloc(), &file, command, Notes::Wanted, Signing::Left) {
+        Ok((_store, notes)) => Ok(notes),
+        Err(refused) => Err(ArwenError::from(refused.error)),
+    }
 }
 
 /// Those of a command for ELF files.
@@ -48,8 +50,13 @@ fn elf_notes(rt: &HostRuntime, command: &ElfCommand) -> Result<String, ArwenErro
     let path = command.path_to_binary();
     let bytes = read_file(rt, path)?;
     let file = file_at(rt.alloc(), path, bytes.as_slice());
-    let (_store, notes) = edit_path(rt.alloc(), &file, command, Notes::Wanted)?;
-    Ok(notes)
+    match edit_path(rt.alloc(), &file, command, Notes::Wanted) {
+        Ok((_store, notes)) => Ok(notes),
+        Err(NotEdited { error, store }) => {
+            drop(store);
+            Err(ArwenError::from(error))
+        }
+    }
 }
 
 /// A file of these bytes at a path.
