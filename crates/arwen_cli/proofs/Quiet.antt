@@ -2,9 +2,8 @@
 use Rattle.std.specs.Prelude.{◌&&◌}
 use Rattle.std.proofs.Common.{◌≡◌, ◌∙◌, ◌∷◌, [], Bool, List, ap, false, if◌then◌else◌, refl, subst, true}
 use Rattle.arwen_cli.specs.Line.{has_option}
-use Rattle.arwen_cli_options.specs.Moving.{has_move_word, is_elf_line, is_move_word, is_moving_line}
-use Rattle.arwen_cli_options.specs.Quiet.{is_mark, is_quiet_word, without_quiet}
-use Rattle.arwen_cli_options.specs.Signing.{is_macho_line, is_sign_word, unsigned, without_sign}
+use Rattle.arwen_cli_options.specs.Flags.{has_flag, is_mark, is_move_word, is_quiet_word, is_sign_word}
+use Rattle.arwen_cli_options.specs.Lines.{is_elf_line, is_macho_line, is_moving_line, unsigned, without_quiet, without_sign}
 use Rattle.arwen_cli.proofs.Values.{first_value}
 use Rattle.arwen_cli.proofs.Words.{IsValue}
 use Rattle.command_words.specs.Rows.{Text}
@@ -43,7 +42,7 @@ not_move : (word : Text) → IsValue word → is_move_word word ≡ false
 not_move [] is = refl
 not_move (x ∷ xs) is = simp is
 
-none_move : (words : List Text) → has_option words ≡ false → has_move_word words ≡ false
+none_move : (words : List Text) → has_option words ≡ false → has_flag is_move_word words ≡ false
 none_move [] none = refl
 none_move (word ∷ words) none =
     let parts = first_value word words none in
@@ -54,7 +53,7 @@ either_part true c h = h
 either_part false c h = refl
 
 pub unmoved : (words : List Text) → has_option words ≡ false → is_moving_line words ≡ false
-unmoved words plain = either_part (is_elf_line words) (has_move_word words) (none_move words plain)
+unmoved words plain = either_part (is_elf_line words) (has_flag is_move_word words) (none_move words plain)
 
 -- the words that are heard are those of the line
 heard_is : (heard audible words : List Text) → heard ≡ unsigned audible → audible ≡ without_quiet words → has_option words ≡ false → heard ≡ words

@@ -1,3 +1,2 @@
-pub mod Quiet
-pub mod Signing
-pub mod Moving
+pub mod Flags
+pub mod Lines
