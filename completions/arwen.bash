@@ -2,7 +2,7 @@
 _arwen() {
     local word="${COMP_WORDS[COMP_CWORD]}" words=""
     if [ "$COMP_CWORD" -eq 1 ]; then
-        COMPREPLY=($(compgen -W "macho elf show help --quiet --version" -- "$word"))
+        COMPREPLY=($(compgen -W "macho elf show patchelf install-name-tool help --quiet --version" -- "$word"))
         return
     fi
     if [ "${COMP_WORDS[1]}" = show ]; then
@@ -10,6 +10,9 @@ _arwen() {
         COMPREPLY=($(compgen -f -- "$word"))
         return
     fi
+    case "${COMP_WORDS[1]}" in
+    patchelf|install-name-tool) COMPREPLY=($(compgen -f -- "$word")); return ;;
+    esac
     if [ "$COMP_CWORD" -eq 2 ]; then
         case "${COMP_WORDS[1]}" in
         macho) words="delete-rpath change-rpath add-rpath change-install-name change-install-id apply sign verify help" ;;

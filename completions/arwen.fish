@@ -2,6 +2,8 @@
 complete -c arwen -n __fish_use_subcommand -f -a macho -d 'Edit a Mach-O file'
 complete -c arwen -n __fish_use_subcommand -f -a elf -d 'Edit or print an ELF file'
 complete -c arwen -n __fish_use_subcommand -f -a show -d 'Tell what files are, and what they ask of a loader'
+complete -c arwen -n __fish_use_subcommand -f -a patchelf -d 'Take a line of patchelf 0.18'
+complete -c arwen -n __fish_use_subcommand -f -a install-name-tool -d 'Take a line of install_name_tool'
 complete -c arwen -n __fish_use_subcommand -f -a help -d 'Print help'
 complete -c arwen -n '__fish_seen_subcommand_from macho; and not __fish_seen_subcommand_from delete-rpath change-rpath add-rpath change-install-name change-install-id apply sign verify' -f -a delete-rpath -d 'Remove a run path'
 complete -c arwen -n '__fish_seen_subcommand_from macho; and not __fish_seen_subcommand_from delete-rpath change-rpath add-rpath change-install-name change-install-id apply sign verify' -f -a change-rpath -d 'Put a run path in the place of another'

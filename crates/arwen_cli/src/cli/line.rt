@@ -35,6 +35,10 @@ Commands:
   show   Tell what files are, and what they ask of a loader
   help   Print this text, or the help of the command behind it
 
+Lines of other tools:
+  patchelf           Take a line of patchelf 0.18 (`--help` behind it lists the options)
+  install-name-tool  Take a line of install_name_tool (`--help` behind it lists the options)
+
 Options:
   -q, --quiet    Leave out notes; also behind the command's name
   -h, --help     Print this text
