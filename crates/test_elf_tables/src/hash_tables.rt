@@ -1,6 +1,5 @@
 //! Hash tables of symbols, and their versions in the order of such a table.
 
-mod loader;
 mod made;
 mod many;
 mod ordered;

@@ -2,6 +2,7 @@
 //! by the calls of each container.
 
 use super::{Edit, Sample, Step, walks};
+use crate::support::Runtime;
 
 // A command with the run path `/a`, low byte first.
 const PATH: &[u8] = b"\x1c\0\0\x80\x10\0\0\0\x0c\0\0\0/a\0\0";
@@ -416,22 +417,53 @@ const MAKE_EACH_KIND: [Step<'static>; 1] = [Step {
 // A file, and steps in it.
 type Row = (Sample<'static>, &'static [Step<'static>]);
 
-const ROWS: [Row; 16] = [
-    // Files without commands, which are filled.
+// Takes the steps of each row. (A table is kept in the frame of the test that names it, so the loop stands apart.)
+fn follow(rt: &impl Runtime, rows: &[Row]) {
+    for (sample, steps) in rows {
+        walks(rt, sample, steps);
+    }
+}
+
+// Files without commands, which are filled.
+const FILLS: [Row; 4] = [
     (EMPTY, &FILL_WIDE),
     (WIDE_BIG, &FILL_WIDE_BIG),
     (NARROW_LITTLE, &FILL_NARROW),
     (NARROW_BIG, &FILL_NARROW_BIG),
-    // Run paths that are changed and removed.
+];
+
+#[test]
+fn fills_files(rt: HostRuntime) {
+    follow(&rt, &FILLS);
+}
+
+// Run paths that are changed and removed.
+const PATHS: [Row; 4] = [
     (WITH_PATH, &CHANGE_PATH),
     (EQUAL_PATHS, &REMOVE_PATHS),
     (FULL, &CHANGE_NO_BYTE),
     (FULL, &LEAVE_ZEROS),
-    // Room that ends at the content, or with the last list.
+];
+
+#[test]
+fn follows_path_edits(rt: HostRuntime) {
+    follow(&rt, &PATHS);
+}
+
+// Room that ends at the content, or with the last list.
+const ROOMS: [Row; 3] = [
     (CONTENT_AT_256, &STOP_BEFORE_CONTENT),
     (CONTENT_AT_264, &REACH_CONTENT),
     (EMPTY, &DECIDE_ROOM),
-    // Names of libraries, own ones and those that are loaded.
+];
+
+#[test]
+fn stays_within_room(rt: HostRuntime) {
+    follow(&rt, &ROOMS);
+}
+
+// Names of libraries, own ones and those that are loaded.
+const NAMES: [Row; 5] = [
     (LIBRARY, &CHANGE_NAME),
     (LIBRARY, &CHANGE_OWN_NAME),
     (LIBX, &SHORTEN_NAME),
@@ -440,8 +472,6 @@ const ROWS: [Row; 16] = [
 ];
 
 #[test]
-fn follows_steps(rt: HostRuntime) {
-    for (sample, steps) in &ROWS {
-        walks(&rt, sample, steps);
-    }
+fn follows_name_edits(rt: HostRuntime) {
+    follow(&rt, &NAMES);
 }
