@@ -1,9 +1,10 @@
 -- What the answers to edits of symbols and sections say, and what they leave.
 use Rattle.std.specs.Prelude.{◌≡◌, Option, Some, None, Result, Ok, Err, MatchResult}
-use Rattle.elf_format.specs.Image.{Image}
+use Rattle.elf_format.specs.Image.{Image, shown}
 use Rattle.elf_symbol_edits.specs.declared.cause.Cause.{Cause}
 use Rattle.elf_symbol_edits.specs.declared.cause.Cause.TheVariants as causes
 use Rattle.elf_symbol_edits.specs.Cause.{step}
+use Rattle.elf_symbol_edits.specs.Laws.{shown_after}
 use Rattle.elf_symbol_edits.specs.SymbolEdit.{SymbolEdit}
 use Rattle.elf_apply.specs.declared.error.ElfError.{ElfError}
 use Rattle.elf_apply.specs.declared.error.ElfError.TheVariants.{Memory, Modify}
@@ -36,6 +37,7 @@ RefusesSymbolEdit Memory answer = Unit {0}
 RefusesSymbolEdit (Modify cause) answer = IsSymbolRefusal (symbol_cause_told cause) answer
 RefusesSymbolEdit other answer = ⊥
 
--- an answer to an edit, and what it leaves: the edited image; or what was there, and an error that tells the first cause
+-- an answer to an edit, and what it leaves: the edited image, which shows what the edit makes of what was shown; or what was there, and
+-- an error that tells the first cause
 abbrev pub TakesSymbolEdit : {T : Type 0} → SymbolEdit → Image → Image → Result T ElfError → Type 0
-TakesSymbolEdit edit old new answer = MatchResult answer (λ _. step edit old ≡ Ok new) (λ e. (new ≡ old) × RefusesSymbolEdit e (step edit old))
+TakesSymbolEdit edit old new answer = MatchResult answer (λ _. (step edit old ≡ Ok new) × (shown new ≡ shown_after edit old)) (λ e. (new ≡ old) × RefusesSymbolEdit e (step edit old))

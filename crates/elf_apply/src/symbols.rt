@@ -5,6 +5,7 @@ ghost use Rattle.elf_apply.specs.SymbolsTaken.{RefusesSymbolEdit, TakesSymbolEdi
 
 use crate::error::{ElfError, ModifyCause, Result};
 use elf_image::Builder;
+use elf_symbol_edits::laws::symbol_edits_show;
 use elf_symbol_edits::{Cause, SymbolEdit, SymbolEditError, make};
 use std::alloc::Global;
 
@@ -26,6 +27,9 @@ fn cause_error(cause: Cause) -> ElfError
 pub fn edit_symbols(builder: &mut Builder<'_>, alloc: Global, edit: SymbolEdit<'_>) -> Result<()>
     ensures { TakesSymbolEdit (edit_model edit.entry) builder.old builder.new result }
 {
+    symbol_edits_show();
+    // an image is one that was read and edited
+    let _source = builder.source();
     match make(alloc, builder, edit) {
         Ok(_) => Ok(()),
         Err(SymbolEditError::Refused(cause)) => Err(cause_error(cause)),

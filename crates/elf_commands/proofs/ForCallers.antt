@@ -1,13 +1,48 @@
--- What runs of the words of `apply` make and tell, whichever kinds their edits are of.
-use Rattle.std.proofs.Common.{ℕ, Bool, List, Option, Result, Ok, Err, true, false}
+-- What runs of commands make, leave and tell, for crates that stand on this one.
+use Rattle.std.proofs.Common.{◌≡◌, ℕ, Bool, List, Option, Result, Ok, Err, true, false, refl, subst, sym}
 use Rattle.std.specs.declared.alloc.Global.{Global}
 use Rattle.std.specs.declared.vec.Vec.{Vec}
 use Rattle.command_words.specs.declared.edits.EditFault.{EditFault}
+use Rattle.elf_edits.specs.Edit.{Edit}
+use Rattle.elf_edits.specs.Laws.{EditsShow}
+use Rattle.elf_image.specs.ReadImage.{ReadImagesHoldParts}
 use Rattle.elf_commands_steps.specs.Groups.{GroupEdit, has_symbols}
-use Rattle.elf_commands.specs.ElfAsked.{asked_of_edits, asked_of_words}
-use Rattle.elf_commands.specs.ElfEngine.{IsElfEdited, RunsElf, TellsEdit, TellsRun}
+use Rattle.elf_commands.specs.ElfAsked.{asked_of_edits, asked_of_words, one}
+use Rattle.elf_commands.specs.ElfEngine.{IsEditedBy, IsEditedTo, IsElfEdited, LeavesElf, RunsElf, TellsEdit, TellsRun, bytes_left}
 use Rattle.elf_commands.specs.Meaning.{ElfMeaning}
 use Rattle.elf_commands_steps.specs.declared.error.ElfCommandError.{ElfCommandError}
+use Rattle.elf_commands.proofs.ElfOutcomes.{source_is}
+
+-- ## Of one edit
+
+edited_to : EditsShow → ReadImagesHoldParts → (edits : List Edit) (file : List ℕ) (answer : Option (Vec ℕ Global)) → IsEditedBy edits file answer → IsEditedTo edits file (bytes_left file answer)
+edited_to edits_show hold_parts edits file answer edited = by_mark edited.made.changed refl
+  where
+    by_mark : (b : Bool) → edited.made.changed ≡ b → IsEditedTo edits file (bytes_left file answer)
+    by_mark false same = subst (λ (o : Option (Vec ℕ Global)). IsEditedTo edits file (bytes_left file o)) (sym (edited.unchanged same)) (record {
+      made = edited.made;
+      makes = edited.makes;
+      written = record {
+        unchanged = λ _. sym (source_is edits_show hold_parts edits file edited.makes.read edited.made edited.makes.is_read edited.makes.runs);
+        edited = λ other. absurd (cc);
+      };
+      shows = λ other. absurd (cc);
+    })
+    by_mark true other =
+        let (new, is, written, shows) = edited.changed other in
+        subst (λ (o : Option (Vec ℕ Global)). IsEditedTo edits file (bytes_left file o)) (sym is) (record {
+          made = edited.made;
+          makes = edited.makes;
+          written = record { unchanged = λ same. absurd (cc); edited = λ _. written };
+          shows = λ _. shows;
+        })
+
+-- the bytes that there are after an answer to one edit are those that it leaves
+pub left_after : EditsShow → ReadImagesHoldParts → (edit : Edit) (file : List ℕ) (answer : Option (Vec ℕ Global)) → IsElfEdited (one edit) file answer → LeavesElf (one edit) file (bytes_left file answer)
+left_after edits_show hold_parts edit file answer edited =
+    record { edits = edited.edits; are = edited.are; left = edited_to edits_show hold_parts edited.edits file answer edited.edited }
+
+-- ## Of the words of `apply`, whichever kinds the edits are of
 
 runs_edits : (meaning : ElfMeaning) (mixed : Bool) (edits : List GroupEdit) (file : List ℕ) (answer : Option (Vec ℕ Global)) (old new : Option (List ℕ)) → RunsElf meaning (asked_of_edits mixed edits) file answer old new
     → IsElfEdited (asked_of_edits mixed edits) file answer

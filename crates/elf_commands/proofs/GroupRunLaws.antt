@@ -1,5 +1,5 @@
 -- What edits of both kinds, one after the other, make of files and stores.
-use Rattle.std.proofs.Common.{◌≡◌, ◌∙◌, [], ◌∷◌, ℕ, Bool, List, Option, Result, Ok, Err, true, false, ap, subst, sym, inl, inr, refl}
+use Rattle.std.proofs.Common.{◌≡◌, ◌∙◌, [], ◌∷◌, ℕ, Bool, List, Option, Some, Result, Ok, Err, true, false, ap, subst, sym, inl, inr, refl}
 use Rattle.std.specs.declared.alloc.Global.{Global}
 use Rattle.std.specs.declared.vec.Vec.{Vec}
 use Rattle.byte_store.specs.Composed.{made_of}
@@ -7,18 +7,20 @@ use Rattle.byte_store.specs.Known.{Becomes, IsAll}
 use Rattle.byte_store.specs.declared.composed.Difference.{Difference}
 use Rattle.command_words.specs.declared.edits.EditFault.{EditFault}
 use Rattle.elf_edits.specs.Laws.{EditsShow}
-use Rattle.elf_image.specs.Image.{Image, image_of}
+use Rattle.elf_image.specs.Image.{Image, image_of, shown}
 use Rattle.elf_image.specs.ReadImage.{ReadImagesHoldParts}
+use Rattle.elf_image.specs.Views.{section_view}
 use Rattle.elf_apply.specs.declared.batch.ElfBatchError.{ElfBatchError}
 use Rattle.elf_apply.specs.declared.error.ElfError.{ElfError}
 use Rattle.elf_apply.specs.declared.error.ElfError.TheVariants as elf
 use Rattle.elf_commands_steps.specs.Written.{IsImageWritten, IsNoImage}
+use Rattle.elf_write_spec.specs.WrittenFile.{IsWrittenOf}
 use Rattle.elf_symbol_edits.specs.Laws.{SymbolEditsKeep}
 use Rattle.elf_symbol_edits.specs.SymbolEdit.{SymbolEdit}
 use Rattle.elf_commands_steps.specs.Groups.{GroupEdit, MakeInTurn, MakesNext, RefuseInTurn, TellsInTurn, has_symbols, plain, symbols}
 use Rattle.elf_commands.specs.ElfAsked.{ElfAsked, asked_of_edits, asked_of_words, asks_edits, asks_in_turn, in_turn, of_symbols, one, printing, several, shrinking}
 use Rattle.elf_commands_steps.specs.Images.{AreChanged, TellsNoImage}
-use Rattle.elf_commands.specs.ElfEngine.{AreAskedInTurn, AreEditedInTurn, IsElfEdited, LeaveInTurn, LeavesElf, MakesInTurn, TellsEdit, TellsRefusedInTurn, elf_refusal}
+use Rattle.elf_commands.specs.ElfEngine.{AreAskedInTurn, AreEditedInTurn, IsElfEdited, LeaveInTurn, LeavesElf, MakesInTurn, ShowInTurn, TellsEdit, TellsRefusedInTurn, elf_refusal}
 use Rattle.elf_commands_steps.specs.ElfErrors.{answer_to_elf, answer_to_elf_batch, answer_to_elf_fault}
 use Rattle.elf_commands.specs.ElfStores.{IsElfPatched}
 use Rattle.elf_commands_steps.specs.declared.error.ElfCommandError.{ElfCommandError}
@@ -34,7 +36,7 @@ next_source shows keep (symbols edit) old new makes = (keep.keeps edit old new m
 turn_source : EditsShow → SymbolEditsKeep → (edits : List GroupEdit) (old new : Image) → MakeInTurn edits old new → new.source ≡ old.source
 turn_source shows keep [] old new same = ap (λ (i : Image). i.source) same
 turn_source shows keep (edit ∷ edits) old new made =
-    turn_source shows keep edits made.0 new made.2 ∙ next_source shows keep edit old made.0 made.1
+    turn_source shows keep edits made.0 new made.3 ∙ next_source shows keep edit old made.0 made.1
 
 -- the edited image has the file as its source
 pub source_in_turn : EditsShow → SymbolEditsKeep → ReadImagesHoldParts → (edits : List GroupEdit) (file : List ℕ) (read made : Image) → image_of file ≡ Ok read → MakeInTurn edits read made → made.source ≡ file
@@ -47,34 +49,60 @@ source_in_turn shows keep hold_parts edits file read made is make =
 pub makes_in_turn : (edits : List GroupEdit) (file : List ℕ) (read made : Image) → image_of file ≡ Ok read → MakeInTurn edits read made → MakesInTurn edits file made
 makes_in_turn edits file read made is make = record { read = read; is_read = is; make = make }
 
-are_edited : (edits : List GroupEdit) (file : List ℕ) (made : Image) (answer : Option (Vec ℕ Global)) → MakesInTurn edits file made → AreChanged made answer → AreEditedInTurn edits file answer
-are_edited edits file made answer makes changed = record { made = made; makes = makes; changed = changed }
+-- the file's image shows what its section headers show
+abbrev pub IsShown : List ℕ → Image → Type 0
+IsShown file read = section_view file ≡ Some (shown read)
 
-leave : (edits : List GroupEdit) (file new : List ℕ) (made : Image) → MakesInTurn edits file made → IsImageWritten made new → LeaveInTurn edits file new
-leave edits file new made makes written = record { made = made; makes = makes; written = written }
+show_in_turn : (edits : List GroupEdit) (file new : List ℕ) (made : Image) (makes : MakesInTurn edits file made) → IsShown file makes.read → IsWrittenOf made new → ShowInTurn edits file new made
+show_in_turn edits file new made makes was_shown written = record {
+  read = makes.read;
+  is_read = makes.is_read;
+  was_shown = was_shown;
+  are_edited = makes.make;
+  by_sections = written.by_sections;
+  by_loader = written.by_loader;
+}
+
+are_edited : (edits : List GroupEdit) (file : List ℕ) (made : Image) (answer : Option (Vec ℕ Global)) (makes : MakesInTurn edits file made) → IsShown file makes.read → AreChanged made answer → AreEditedInTurn edits file answer
+are_edited edits file made answer makes was_shown changed = record {
+  made = made;
+  makes = makes;
+  unchanged = changed.same;
+  changed = λ other.
+      let (new, is, written) = changed.other other in
+      (new, is, written, show_in_turn edits file new.items made makes was_shown written);
+}
+
+leave : (edits : List GroupEdit) (file new : List ℕ) (made : Image) (makes : MakesInTurn edits file made) → IsShown file makes.read → IsImageWritten made new → LeaveInTurn edits file new
+leave edits file new made makes was_shown written = record {
+  made = made;
+  makes = makes;
+  written = written;
+  shows = λ other. show_in_turn edits file new made makes was_shown (written.edited other);
+}
 
 -- the answer for the image that the asked edits make
-pub edited_as_asked : (a : ElfAsked) (edits : List GroupEdit) (file : List ℕ) (made : Image) (answer : Option (Vec ℕ Global)) → AreAskedInTurn a edits → MakesInTurn edits file made → AreChanged made answer → IsElfEdited a file answer
-edited_as_asked (of_symbols edit) edits file made answer are makes changed = subst (λ (l : List GroupEdit). AreEditedInTurn l file answer) are (are_edited edits file made answer makes changed)
-edited_as_asked (in_turn asked) edits file made answer are makes changed = subst (λ (l : List GroupEdit). AreEditedInTurn l file answer) are (are_edited edits file made answer makes changed)
-edited_as_asked (one edit) edits file made answer are makes changed = absurd are
-edited_as_asked (several read) edits file made answer are makes changed = absurd are
-edited_as_asked (shrinking prefixes) edits file made answer are makes changed = absurd are
-edited_as_asked printing edits file made answer are makes changed = absurd are
+pub edited_as_asked : (a : ElfAsked) (edits : List GroupEdit) (file : List ℕ) (made : Image) (answer : Option (Vec ℕ Global)) → AreAskedInTurn a edits → (makes : MakesInTurn edits file made) → IsShown file makes.read → AreChanged made answer → IsElfEdited a file answer
+edited_as_asked (of_symbols edit) edits file made answer are makes was_shown changed = subst (λ (l : List GroupEdit). AreEditedInTurn l file answer) are (are_edited edits file made answer makes was_shown changed)
+edited_as_asked (in_turn asked) edits file made answer are makes was_shown changed = subst (λ (l : List GroupEdit). AreEditedInTurn l file answer) are (are_edited edits file made answer makes was_shown changed)
+edited_as_asked (one edit) edits file made answer are makes was_shown changed = absurd are
+edited_as_asked (several read) edits file made answer are makes was_shown changed = absurd are
+edited_as_asked (shrinking prefixes) edits file made answer are makes was_shown changed = absurd are
+edited_as_asked printing edits file made answer are makes was_shown changed = absurd are
 
 -- what it is written to is left
-left_as_asked : (a : ElfAsked) (edits : List GroupEdit) (file new : List ℕ) (made : Image) → AreAskedInTurn a edits → MakesInTurn edits file made → IsImageWritten made new → LeavesElf a file new
-left_as_asked (of_symbols edit) edits file new made are makes written = subst (λ (l : List GroupEdit). LeaveInTurn l file new) are (leave edits file new made makes written)
-left_as_asked (in_turn asked) edits file new made are makes written = subst (λ (l : List GroupEdit). LeaveInTurn l file new) are (leave edits file new made makes written)
-left_as_asked (one edit) edits file new made are makes written = absurd are
-left_as_asked (several read) edits file new made are makes written = absurd are
-left_as_asked (shrinking prefixes) edits file new made are makes written = absurd are
-left_as_asked printing edits file new made are makes written = absurd are
+left_as_asked : (a : ElfAsked) (edits : List GroupEdit) (file new : List ℕ) (made : Image) → AreAskedInTurn a edits → (makes : MakesInTurn edits file made) → IsShown file makes.read → IsImageWritten made new → LeavesElf a file new
+left_as_asked (of_symbols edit) edits file new made are makes was_shown written = subst (λ (l : List GroupEdit). LeaveInTurn l file new) are (leave edits file new made makes was_shown written)
+left_as_asked (in_turn asked) edits file new made are makes was_shown written = subst (λ (l : List GroupEdit). LeaveInTurn l file new) are (leave edits file new made makes was_shown written)
+left_as_asked (one edit) edits file new made are makes was_shown written = absurd are
+left_as_asked (several read) edits file new made are makes was_shown written = absurd are
+left_as_asked (shrinking prefixes) edits file new made are makes was_shown written = absurd are
+left_as_asked printing edits file new made are makes was_shown written = absurd are
 
-pub pieces_left : (a : ElfAsked) (edits : List GroupEdit) (file : List ℕ) (made : Image) (d : Difference) → AreAskedInTurn a edits → MakesInTurn edits file made → made.source ≡ file → IsImageWritten made (made_of made.source d) → LeavesElf a file (made_of file d)
-pieces_left a edits file made d are makes source written =
+pub pieces_left : (a : ElfAsked) (edits : List GroupEdit) (file : List ℕ) (made : Image) (d : Difference) → AreAskedInTurn a edits → (makes : MakesInTurn edits file made) → IsShown file makes.read → made.source ≡ file → IsImageWritten made (made_of made.source d) → LeavesElf a file (made_of file d)
+pieces_left a edits file made d are makes was_shown source written =
     let P : List ℕ → Type 0 = λ l. IsImageWritten made (made_of l d) in
-    left_as_asked a edits file (made_of file d) made are makes (subst P source written)
+    left_as_asked a edits file (made_of file d) made are makes was_shown (subst P source written)
 
 -- ## Why there are no bytes
 

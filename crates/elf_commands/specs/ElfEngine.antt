@@ -3,7 +3,6 @@ use Rattle.std.specs.Prelude.{ℕ, ◌≡◌, ◌⊎◌, List, [], ◌∷◌, Op
 use Rattle.std.specs.declared.alloc.Global.{Global}
 use Rattle.std.specs.declared.vec.Vec.{Vec}
 use Rattle.elf_apply.specs.Told.{RefusesAt}
-use Rattle.elf_commands_steps.specs.Images.{AreChanged}
 use Rattle.elf_commands_steps.specs.Written.{IsImageWritten, IsNoImage}
 use Rattle.elf_apply.specs.declared.batch.ElfBatchError.{ElfBatchError}
 use Rattle.elf_apply.specs.declared.error.ElfError.{ElfError}
@@ -68,17 +67,30 @@ pub record MakesInTurn (edits : List GroupEdit) (file : List ℕ) (made : Image)
   pub is_read : image_of file ≡ Ok read
   pub make : MakeInTurn edits read made
 
--- An answer to them: no bytes where the image is as it was, else those of the edited image.
+-- New bytes of a file show them, by their section headers and to a loader that knows their program headers alone: what the section
+-- headers of the old bytes show, after one edit and the next, in the final form of the image that the edits make.
+pub record ShowInTurn (edits : List GroupEdit) (file new : List ℕ) (made : Image) : Type 0 where
+  pub read : Image
+  pub is_read : image_of file ≡ Ok read
+  pub was_shown : section_view file ≡ Some (shown read)
+  pub are_edited : MakeInTurn edits read made
+  pub by_sections : section_view new ≡ Some (final_view (image_at_read made) made)
+  pub by_loader : loader_view new (dynamic_symbol_count new) ≡ Some (final_view (image_at_read made) made)
+
+-- An answer to them: no bytes where the image is as it was, else those of the edited image, which show the edits.
 pub record AreEditedInTurn (edits : List GroupEdit) (file : List ℕ) (answer : Option (Vec ℕ Global)) : Type 0 where
   pub made : Image
   pub makes : MakesInTurn edits file made
-  pub changed : AreChanged made answer
+  pub unchanged : made.changed ≡ false → answer ≡ None
+  pub changed : made.changed ≡ true → (new : Vec ℕ Global) × (answer ≡ Some new)
+      × IsWrittenOf made new.items × ShowInTurn edits file new.items made
 
--- The bytes that they leave of a file: those of the image that they make of it.
+-- The bytes that they leave of a file: those of the image that they make of it. Where it was changed, they show the edits.
 pub record LeaveInTurn (edits : List GroupEdit) (file new : List ℕ) : Type 0 where
   pub made : Image
   pub makes : MakesInTurn edits file made
   pub written : IsImageWritten made new
+  pub shows : made.changed ≡ true → ShowInTurn edits file new made
 
 -- ---- which answer tells why there are no bytes; want of memory may be answered in any case
 

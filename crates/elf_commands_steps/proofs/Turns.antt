@@ -2,8 +2,8 @@
 use Rattle.std.proofs.Common.{◌≡◌, ◌∙◌, ◌+◌, ◌<◌, ◌++◌, [], ◌∷◌, ℕ, List, drop, get_or, length, map, arith, refl, sym, ap, subst, inl, inr}
 use Rattle.std.proofs.lemmas.List.{drop_more}
 use Rattle.elf_apply.specs.declared.error.ElfError.{ElfError}
-use Rattle.elf_image.specs.Image.{Image}
-use Rattle.elf_commands_steps.specs.Groups.{GroupEdit, MakeInTurn, MakesNext, RefuseInTurn, RefusesNext, group_model, plain, plain_of, symbols}
+use Rattle.elf_image.specs.Image.{Image, shown}
+use Rattle.elf_commands_steps.specs.Groups.{GroupEdit, MakeInTurn, MakesNext, RefuseInTurn, RefusesNext, group_model, plain, plain_of, shown_next, symbols}
 use Rattle.elf_commands_steps.specs.declared.groups.GroupEdit.{GroupEdit as GroupHeld}
 
 -- what the edits from one on make of an image, and what they tell of it, is what all of them make of the first, and tell
@@ -20,9 +20,9 @@ starts all first = record {
 }
 
 -- one edit more was made
-pub goes_on : (all : List GroupEdit) (edit : GroupEdit) (rest : List GroupEdit) (first image next : Image) (done : ℕ) → StandsAt all (edit ∷ rest) first image done → MakesNext edit image next → StandsAt all rest first next (done + 1)
-goes_on all edit rest first image next done stands makes = record {
-  makes = λ new make. stands.makes new (next, makes, make);
+pub goes_on : (all : List GroupEdit) (edit : GroupEdit) (rest : List GroupEdit) (first image next : Image) (done : ℕ) → StandsAt all (edit ∷ rest) first image done → MakesNext edit image next → shown next ≡ shown_next edit image → StandsAt all rest first next (done + 1)
+goes_on all edit rest first image next done stands makes shows = record {
+  makes = λ new make. stands.makes new (next, makes, shows, make);
   refuses = λ index e refuse.
       let told = stands.refuses (index + 1) e (inr (next, index, refl, makes, refuse)) in
       let same : index + 1 + done ≡ index + (done + 1) = omega arith in

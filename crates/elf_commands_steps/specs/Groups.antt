@@ -7,8 +7,11 @@ use Rattle.elf_apply.specs.declared.error.ElfError.{ElfError}
 use Rattle.elf_edits.specs.Batch.{run}
 use Rattle.elf_edits.specs.Edit.{Edit}
 use Rattle.elf_edits.specs.EditModel.{edit_model}
-use Rattle.elf_image.specs.Image.{Image}
+use Rattle.elf_edits.specs.Edited.{edited_view}
+use Rattle.elf_image.specs.Image.{Image, shown}
+use Rattle.elf_image.specs.Views.{View}
 use Rattle.elf_symbol_edits.specs.Cause.{step}
+use Rattle.elf_symbol_edits.specs.Laws.{shown_after}
 use Rattle.elf_symbol_edits.specs.SymbolEdit.{SymbolEdit}
 use Rattle.elf_commands_steps.specs.SymbolTexts.{symbol_texts_model}
 use Rattle.elf_commands_steps.specs.declared.groups.GroupEdit.{GroupEdit as GroupHeld}
@@ -44,15 +47,20 @@ abbrev pub MakesNext : GroupEdit → Image → Image → Type 0
 MakesNext (plain edit) old new = run (edit ∷ []) old ≡ Ok new
 MakesNext (symbols edit) old new = step edit old ≡ Ok new
 
+-- what is shown after an edit that an image takes
+abbrev pub shown_next : GroupEdit → Image → View
+shown_next (plain edit) old = edited_view old.header.e_machine edit (shown old)
+shown_next (symbols edit) old = shown_after edit old
+
 -- an error tells the cause of a refused edit, or there was no memory
 abbrev pub RefusesNext : GroupEdit → Image → ElfError → Type 0
 RefusesNext (plain edit) old e = (index : ℕ) × RefusesAt index e (run (edit ∷ []) old)
 RefusesNext (symbols edit) old e = RefusesSymbolEdit e (step edit old)
 
--- edits make an image of another one, each of what the one before it left
+-- edits make an image of another one, each of what the one before it left, and each shows what it makes of what was shown then
 abbrev pub MakeInTurn : List GroupEdit → Image → Image → Type 0
 MakeInTurn [] old new = new ≡ old
-MakeInTurn (edit ∷ edits) old new = (mid : Image) × MakesNext edit old mid × MakeInTurn edits mid new
+MakeInTurn (edit ∷ edits) old new = (mid : Image) × MakesNext edit old mid × (shown mid ≡ shown_next edit old) × MakeInTurn edits mid new
 
 -- the edit with this number, counted from 0, is refused, and those before it are not
 abbrev pub RefuseInTurn : List GroupEdit → Image → ℕ → ElfError → Type 0

@@ -2,12 +2,14 @@
 ghost use Rattle.std.specs.Prelude.{◌≡◌, ◌++◌, ◌∷◌, [], IfErr, IfOk, OnOk, map};
 ghost use Rattle.elf_apply.specs.Taken.{edits_model};
 ghost use Rattle.elf_edits.specs.EditModel.{edit_model};
-ghost use Rattle.elf_commands_steps.specs.Groups.{MakeInTurn, MakesNext, RefusesNext, TellsInTurn, group_model, has_symbols as are_some_symbols, plain_of};
+ghost use Rattle.elf_commands_steps.specs.Groups.{MakeInTurn, MakesNext, RefusesNext, TellsInTurn, group_model, has_symbols as are_some_symbols, plain_of, shown_next};
+ghost use Rattle.elf_image.specs.Image.{shown};
 ghost use Rattle.elf_commands_steps.specs.Groups.GroupEdit.{plain};
 
 use crate::symbol_texts::SymbolTexts;
 use arwen_elf::elf::{ElfBatchError, ElfContainer, ElfError};
 use elf_edits::ElfEdit;
+use elf_edits::laws::batches_are_their_edits;
 use std::alloc::{AllocError, Global};
 use std::slice;
 
@@ -81,6 +83,8 @@ pub fn apply_in_turn(
 /// Makes one edit in an image.
 fn apply_next(alloc: Global, elf: &mut ElfContainer<'_>, edit: &GroupEdit) -> Result<(), ElfError>
     ensures made { OnOk result (MakesNext (group_model edit.now) elf.old.inner elf.new.inner) }
+    ensures shows { OnOk result
+        (shown elf.new.inner ≡ shown_next (group_model edit.now) elf.old.inner) }
     ensures told { IfErr result (RefusesNext (group_model edit.now) elf.old.inner) }
 {
     match edit {
@@ -93,8 +97,11 @@ fn apply_next(alloc: Global, elf: &mut ElfContainer<'_>, edit: &GroupEdit) -> Re
 fn apply_plain(alloc: Global, elf: &mut ElfContainer<'_>, edit: &ElfEdit) -> Result<(), ElfError>
     ensures made { OnOk result
         (MakesNext (plain (edit_model edit.now)) elf.old.inner elf.new.inner) }
+    ensures shows { OnOk result
+        (shown elf.new.inner ≡ shown_next (plain (edit_model edit.now)) elf.old.inner) }
     ensures told { IfErr result (RefusesNext (plain (edit_model edit.now)) elf.old.inner) }
 {
+    batches_are_their_edits();
     match elf.apply(alloc, slice::from_ref(edit)) {
         Ok(()) => Ok(()),
         Err(error) => Err(error.fault),

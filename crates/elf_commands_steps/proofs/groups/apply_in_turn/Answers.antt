@@ -12,4 +12,4 @@ loop-index-preserved c =
     let rest = map group_model (drop (i + 1) edits) in
     let Stands : List GroupEdit → Type 0 = λ l. StandsAt all l c.args.elf.now.inner c.loop-index.elf.inner i in
     let stands = subst Stands (next_is edits i edit c.loop-index-test.true c.index-edits-index.is) c.loop-index.invariant in
-    goes_on all (group_model edit) rest c.args.elf.now.inner c.loop-index.elf.inner c.apply_next.new.elf.inner i stands c.in_default.ensures.made
+    goes_on all (group_model edit) rest c.args.elf.now.inner c.loop-index.elf.inner c.apply_next.new.elf.inner i stands c.in_default.ensures.made c.in_default.ensures.shows

@@ -11,7 +11,7 @@ returns-in-Ok-clause-ok c =
     let a : ElfAsked = elf_asked (elf_command_model c.args.command.now) in
     let edits : List GroupEdit = map group_model c.args.edits.now in
     let makes = makes_in_turn edits c.args.bytes.now c.in_ok-elf.elf.inner _ c.in_ok-elf.ensures.reads.0 c.in-Ok.ensures.made in
-    IfOk-weaker c.changed_bytes.result _ _ (λ answer changed. edited_as_asked a edits c.args.bytes.now _ answer c.requires makes changed) c.changed_bytes.ensures.ok
+    IfOk-weaker c.changed_bytes.result _ _ (λ answer changed. edited_as_asked a edits c.args.bytes.now _ answer c.requires makes c.in_ok-elf.ensures.shows.0 changed) c.changed_bytes.ensures.ok
 
 pub returns-in-Ok-clause-err : goal.returns-in-Ok-clause-err
 returns-in-Ok-clause-err c =

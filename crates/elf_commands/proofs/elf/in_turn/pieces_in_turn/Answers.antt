@@ -19,7 +19,7 @@ returns-in-Ok-clause-left c =
     let edits : List GroupEdit = map group_model c.args.edits.now in
     let source = source_in_turn c.edits_show.ensures c.symbol_edits_keep.ensures c.read_images_hold_parts.ensures edits c.args.bytes.now c.in_ok-elf.elf.inner _ c.in_ok-elf.ensures.reads.0 c.in-Ok.ensures.made in
     let makes = makes_in_turn edits c.args.bytes.now c.in_ok-elf.elf.inner _ c.in_ok-elf.ensures.reads.0 c.in-Ok.ensures.made in
-    IfOk-weaker c.pieces_of.result _ _ (λ d written. pieces_left a edits c.args.bytes.now _ d c.requires makes source written) c.pieces_of.ensures.bytes
+    IfOk-weaker c.pieces_of.result _ _ (λ d written. pieces_left a edits c.args.bytes.now _ d c.requires makes c.in_ok-elf.ensures.shows.0 source written) c.pieces_of.ensures.bytes
 
 pub returns-in-Ok-clause-err : goal.returns-in-Ok-clause-err
 returns-in-Ok-clause-err c =
