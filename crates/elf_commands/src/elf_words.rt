@@ -7,7 +7,8 @@ ghost use Rattle.command_words.specs.Groups.{TellsFault, TellsWrong};
 ghost use Rattle.command_words.specs.Rows.{given_model, given_without_path, kind_model, meant_with};
 ghost use Rattle.command_words.specs.WordValues.{TellsValues};
 
-use crate::command::{ElfCommand, elf_table};
+use crate::command::ElfCommand;
+use crate::tables::elf_table;
 use command_words::{
     EditKind, EditsError, Row, Values, edit_row, no_edit, no_values, other_words,
     values_without_path,

@@ -6,9 +6,11 @@ mod asked;
 mod command;
 pub mod elf;
 mod elf_words;
+mod tables;
 
-pub use command::{ElfCommand, elf_table};
+pub use command::ElfCommand;
 pub use elf_commands_steps::{
     ElfCommandError, GroupEdit, SymbolTexts, apply_in_turn, files, plain_edits,
 };
 pub use elf_words::parse_elf_edits;
+pub use tables::elf_table;
