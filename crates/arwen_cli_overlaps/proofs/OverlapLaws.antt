@@ -3,7 +3,7 @@ use Rattle.std.proofs.Common.{◌≡◌, ℕ, List, Result, Ok, Err, sym, subst}
 use Rattle.elf_edits.specs.Batch.{run}
 use Rattle.elf_edits.specs.Edit.{Edit}
 use Rattle.elf_image.specs.Image.{Image, image_of}
-use Rattle.elf_commands_steps.specs.Groups.{GroupEdit, MakeInTurn}
+use Rattle.elf_commands.specs.Groups.{GroupEdit, MakeInTurn}
 use Rattle.elf_commands.specs.ElfAsked.{ElfAsked, in_turn, of_symbols, one, printing, several, shrinking}
 use Rattle.elf_commands.specs.ElfEngine.{AreAskedInTurn, AreEditsAsked, Makes, MakesInTurn}
 use Rattle.arwen_cli_overlaps.specs.Overlaps.{MakesAsked, TellsOverlap, TellsPair}

@@ -2,7 +2,7 @@
 use Rattle.std.specs.Prelude.{ℕ, ◌≡◌, List, [], ◌∷◌, Ok}
 use Rattle.elf_commands.specs.ElfAsked.{ElfAsked, in_turn, of_symbols, one, several}
 use Rattle.elf_commands.specs.ElfEngine.{Makes, MakesInTurn}
-use Rattle.elf_commands_steps.specs.Groups.{symbols}
+use Rattle.elf_commands.specs.Groups.{symbols}
 use Rattle.elf_image.specs.Image.{Image}
 use Rattle.elf_layout_plan.specs.Plan.{resized}
 use Rattle.elf_layout_reasons.specs.Advice.{pair_text}

@@ -4,7 +4,7 @@ ghost use Rattle.elf_commands.specs.ElfAsked.{elf_asked};
 ghost use Rattle.elf_commands.specs.ElfEngine.{AreAskedInTurn, AreEditsAsked};
 ghost use Rattle.elf_commands.specs.ElfWords.{edits_model};
 ghost use Rattle.elf_commands.specs.Meaning.{elf_command_model};
-ghost use Rattle.elf_commands_steps.specs.Groups.{MakeInTurn, group_model};
+ghost use Rattle.elf_commands.specs.Groups.{MakeInTurn, group_model};
 ghost use Rattle.elf_edits.specs.Batch.{run};
 ghost use Rattle.arwen_cli_overlaps.specs.Overlaps.{TellsMade, TellsOverlap, TellsPair};
 

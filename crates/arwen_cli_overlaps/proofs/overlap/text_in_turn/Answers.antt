@@ -1,6 +1,6 @@
 -- Of the image that the edits make of what was read.
 use Rattle.std.proofs.Common.{map}
-use Rattle.elf_commands_steps.specs.Groups.{group_model}
+use Rattle.elf_commands.specs.Groups.{group_model}
 use Rattle.std.proofs.lemmas.Option.{IfSome_then}
 use Rattle.elf_commands.specs.ElfAsked.{elf_asked}
 use Rattle.elf_commands.specs.Meaning.{elf_command_model}
