@@ -46,7 +46,7 @@ source_in_turn shows keep hold_parts edits file read made is make =
 
 -- ## Over bytes
 
-pub makes_in_turn : (edits : List GroupEdit) (file : List ℕ) (read made : Image) → image_of file ≡ Ok read → MakeInTurn edits read made → MakesInTurn edits file made
+abbrev pub makes_in_turn : (edits : List GroupEdit) (file : List ℕ) (read made : Image) → image_of file ≡ Ok read → MakeInTurn edits read made → MakesInTurn edits file made
 makes_in_turn edits file read made is make = record { read = read; is_read = is; make = make }
 
 -- the file's image shows what its section headers show
