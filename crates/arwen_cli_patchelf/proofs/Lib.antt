@@ -1,3 +1,4 @@
+pub mod FirstSteps
 pub mod OutputLaws
 pub mod PatchLaws
 pub mod PrintLaws

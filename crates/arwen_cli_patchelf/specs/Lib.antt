@@ -1,3 +1,4 @@
+pub mod FirstFound
 pub mod Made
 pub mod Output
 pub mod Patched

@@ -7,12 +7,12 @@ use Rattle.elf_edits.specs.Edit.{Answer, ShrinkRunPath}
 use Rattle.elf_commands.specs.ElfAsked.{ElfAsked, elf_asked, one}
 use Rattle.elf_commands.specs.ElfEngine.{LeavesElf, TellsEdit}
 use Rattle.elf_commands.specs.Meaning.{apply_moving_elf}
-use Rattle.elf_commands.specs.ShrinkRuns.{AreFoundIn, TellsShrunk}
 use Rattle.elf_commands.specs.ElfCommandError.{ElfCommandError}
 use Rattle.elf_commands.specs.ElfCommandError.TheVariants.{Io, Memory}
 use Rattle.elf_commands.specs.Shrinking.{Finding}
 use Rattle.arwen_cli_peers.specs.Options.{Text}
 use Rattle.arwen_cli_patchelf_lines.specs.Plans.{PlanMeant}
+use Rattle.arwen_cli_patchelf.specs.FirstFound.{AreFirstFoundIn, TellsFirstShrunk}
 
 -- the prefixes by which run paths shrink, where they do
 abbrev pub prefixes_meant : Option (Vec (String Global) Global) → Option (List Text)
@@ -24,11 +24,11 @@ words_ask words = elf_asked (apply_moving_elf [] words)
 
 -- ## The two steps
 
--- bytes with run paths that shrank by answers that may be found; without this step they stay
+-- bytes with run paths that shrank by answers that keep the first directories alone; without this step they stay
 abbrev pub IsShrunkTo : Finding → Option (List Text) → List ℕ → List ℕ → Type 0
 IsShrunkTo finds None file new = new ≡ file
 IsShrunkTo finds (Some prefixes) file new =
-    (answers : List Answer) × AreFoundIn finds file answers × LeavesElf (one (ShrinkRunPath prefixes answers)) file new
+    (answers : List Answer) × AreFirstFoundIn finds prefixes file answers × LeavesElf (one (ShrinkRunPath prefixes answers)) file new
 
 -- bytes that `apply` makes with these words; without words they stay
 abbrev pub IsAppliedTo : List Text → List ℕ → List ℕ → Type 0
@@ -38,7 +38,7 @@ IsAppliedTo (word ∷ words) file new = LeavesElf (words_ask (word ∷ words)) f
 -- why they are not made
 abbrev pub TellsUnshrunk : Finding → Option (List Text) → List ℕ → ElfCommandError → Type 0
 TellsUnshrunk finds None file e = ⊥
-TellsUnshrunk finds (Some prefixes) file e = TellsShrunk finds prefixes file e
+TellsUnshrunk finds (Some prefixes) file e = TellsFirstShrunk finds prefixes file e
 
 abbrev pub TellsUnapplied : List Text → List ℕ → ElfCommandError → Type 0
 TellsUnapplied [] file e = ⊥

@@ -1,6 +1,7 @@
 //! What lines of `patchelf` do to files: what they ask for is printed, and their plan is made of the bytes of stores and files.
 #![tactic(auto)]
 
+mod first_found;
 mod making;
 mod patching;
 mod print_texts;

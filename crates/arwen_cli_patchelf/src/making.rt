@@ -1,12 +1,12 @@
 //! What plans make of bytes in memory.
-ghost use Rattle.std.specs.Prelude.{◌≡◌, IfErr, IfOk, OnOk};
+ghost use Rattle.std.specs.Prelude.{Some, IfErr, IfOk, map, string_bytes};
 ghost use Rattle.arwen_cli_patchelf_lines.specs.Plans.{plan_model};
-ghost use Rattle.arwen_cli_patchelf.specs.Made.{IsMadeOf, TellsUnmade, answer_in_memory};
-ghost use Rattle.arwen_cli_patchelf.specs.Patched.{IsPatched, TellsPlanPath};
+ghost use Rattle.arwen_cli_patchelf.specs.Made.{IsAppliedTo, IsMadeOf, IsShrunkTo, TellsUnapplied, TellsUnmade, TellsUnshrunk, prefixes_meant};
 
-use crate::steps::{apply_if, shrink_if};
+use crate::first_found::shrunk_bytes;
+use crate::steps::{apply_if, in_memory};
 use arwen_cli_patchelf_lines::Plan;
-use byte_store::{MemoryStore, Store};
+use byte_store::MemoryStore;
 use elf_commands::ElfCommandError;
 use elf_commands::elf::Probe;
 use std::alloc::Global;
@@ -27,38 +27,59 @@ pub fn made_bytes<P: Probe>(
     ensures err { IfErr result
         (TellsUnmade (P.may_find probe.now) (plan_model plan.now) bytes.items) }
 {
+    let shrunk = shrink_if(alloc, bytes, &plan.shrinks, probe)?;
+    applied(alloc, shrunk, plan.words.as_slice())
+}
+
+/// The bytes with shrunk run paths, where these are to shrink.
+fn shrink_if<P: Probe>(
+    alloc: Global,
+    bytes: Vec<u8>,
+    shrinks: &Option<Vec<String>>,
+    probe: &P,
+) -> Result<Vec<u8>, ElfCommandError>
+    ensures shrunk { IfOk result (λ made. IsShrunkTo (P.may_find probe.now)
+        (prefixes_meant shrinks.now) bytes.items made.items) }
+    ensures err { IfErr result
+        (TellsUnshrunk (P.may_find probe.now) (prefixes_meant shrinks.now) bytes.items) }
+{
+    match shrinks {
+        Some(prefixes) => shrunk(alloc, bytes, prefixes.as_slice(), probe),
+        None => Ok(bytes),
+    }
+}
+
+/// The bytes with shrunk run paths, the same where nothing goes.
+fn shrunk<P: Probe>(
+    alloc: Global,
+    bytes: Vec<u8>,
+    prefixes: &[String],
+    probe: &P,
+) -> Result<Vec<u8>, ElfCommandError>
+    ensures shrunk { IfOk result (λ made. IsShrunkTo (P.may_find probe.now)
+        (Some (map string_bytes prefixes.now)) bytes.items made.items) }
+    ensures err { IfErr result (TellsUnshrunk (P.may_find probe.now)
+        (Some (map string_bytes prefixes.now)) bytes.items) }
+{
+    let new = shrunk_bytes(alloc, bytes.as_slice(), prefixes, probe)?;
+    match new {
+        Some(new) => Ok(new),
+        None => Ok(bytes),
+    }
+}
+
+/// The bytes that `apply` makes of others with these words.
+fn applied(alloc: Global, bytes: Vec<u8>, words: &[String]) -> Result<Vec<u8>, ElfCommandError>
+    ensures applied { IfOk result (λ made.
+        IsAppliedTo (map string_bytes words.now) bytes.items made.items) }
+    ensures err { IfErr result (TellsUnapplied (map string_bytes words.now) bytes.items) }
+{
     let mut store = MemoryStore::new(bytes);
-    match take_steps(alloc, &mut store, plan, probe) {
+    match apply_if(alloc, &mut store, words) {
         Ok(()) => Ok(store.bytes),
         Err(error) => {
             drop(store);
             Err(in_memory(error))
         }
-    }
-}
-
-/// Makes a plan of the bytes of a store, one step and then the other. Where the second is refused, the first is made.
-fn take_steps<S: Store, P: Probe>(
-    alloc: Global,
-    store: &mut S,
-    plan: &Plan,
-    probe: &P,
-) -> Result<(), ElfCommandError>
-    ensures patched { OnOk result (IsPatched (P.may_find probe.now) (plan_model plan.now)
-        (S.contents store.old) (S.contents store.new)) }
-    ensures tells { IfErr result (TellsPlanPath (P.may_find probe.now)
-        (plan_model plan.now) (S.contents store.old)) }
-{
-    shrink_if(alloc, store, &plan.shrinks, probe)?;
-    apply_if(alloc, store, plan.words.as_slice())
-}
-
-/// The error of a store in memory, of which calls fail only for want of it.
-fn in_memory(error: ElfCommandError) -> ElfCommandError
-    ensures { result ≡ answer_in_memory error }
-{
-    match error {
-        ElfCommandError::Io(_) => ElfCommandError::Memory,
-        error => error,
     }
 }

@@ -8,7 +8,7 @@ ghost use Rattle.arwen_cli_patchelf.specs.Made.{AsksNothing, IsMadeOf, TellsUnma
 ghost use Rattle.arwen_cli_patchelf.specs.Patched.{FailsPatch, FailsPatchAt, IsPatched, IsPatchedAt, IsUnwritten};
 
 use crate::making::made_bytes;
-use crate::steps::{apply_if, shrink_paths};
+use crate::steps::apply_if;
 use arwen_cli_patchelf_lines::{Plan, load};
 use byte_store::{Opens, Store, replace};
 use command_words::NotEdited;
@@ -58,7 +58,7 @@ pub fn patch_path<'p, O: Opens<'p>, P: Probe>(
 ///
 /// # Errors
 ///
-/// Those of `edit_store` and of `shrink_store` of `elf_commands`.
+/// Those of `edit_store` of `elf_commands`, and of `made_bytes`.
 pub fn patch_store<S: Store, P: Probe>(
     alloc: Global,
     store: &mut S,
@@ -75,9 +75,6 @@ pub fn patch_store<S: Store, P: Probe>(
 {
     match &plan.shrinks {
         None => apply_if(alloc, store, plan.words.as_slice()),
-        Some(prefixes) if plan.words.is_empty() => {
-            shrink_paths(alloc, store, prefixes.as_slice(), probe)
-        }
         Some(_) => remake(alloc, store, plan, probe),
     }
 }

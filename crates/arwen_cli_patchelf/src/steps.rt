@@ -1,68 +1,17 @@
-//! The two steps of a plan, each in a store: run paths shrink, and the words of `apply` are made.
-ghost use Rattle.std.specs.Prelude.{◌≡◌, [], Some, IfErr, IfOk, OnOk, map, string_bytes};
+//! The words of a plan, made in a store, and what both steps of a plan need.
+ghost use Rattle.std.specs.Prelude.{◌≡◌, [], IfErr, IfOk, OnOk, map, string_bytes};
 ghost use Rattle.byte_store.specs.Fault.{IsOkAndSame};
 ghost use Rattle.elf_commands.specs.ElfStores.{FailsElf, IsElfPatched};
 ghost use Rattle.elf_commands.specs.Failures.{HasCause};
 ghost use Rattle.elf_commands.specs.Meaning.{apply_moving_elf, elf_command_model};
-ghost use Rattle.elf_commands.specs.ShrinkRuns.{FailsShrink};
-ghost use Rattle.arwen_cli_patchelf.specs.Made.{prefixes_meant, words_ask};
-ghost use Rattle.arwen_cli_patchelf.specs.Steps.{FailsApplied, FailsShrunk, IsAppliedStore, IsShrunkStore};
+ghost use Rattle.arwen_cli_patchelf.specs.Made.{answer_in_memory, words_ask};
+ghost use Rattle.arwen_cli_patchelf.specs.Steps.{FailsApplied, IsAppliedStore};
 
-use crate::unheard::Unheard;
 use byte_store::Store;
 use command_words::Notes;
-use elf_commands::elf::{Probe, apply, edit_store, shrink_rpath, shrink_store};
+use elf_commands::elf::{apply, edit_store};
 use elf_commands::{ElfCommand, ElfCommandError};
 use std::alloc::{AllocError, Global};
-
-/// Shrinks the run paths in a store, where they are to shrink. What goes is not told.
-pub(crate) fn shrink_if<S: Store, P: Probe>(
-    alloc: Global,
-    store: &mut S,
-    shrinks: &Option<Vec<String>>,
-    probe: &P,
-) -> Result<(), ElfCommandError>
-    ensures shrunk { OnOk result (IsShrunkStore (P.may_find probe.now)
-        (prefixes_meant shrinks.now) (S.contents store.old) (S.contents store.new)) }
-    ensures left { IfErr result (FailsShrunk (P.may_find probe.now)
-        (prefixes_meant shrinks.now) (S.contents store.old) (S.contents store.new)) }
-{
-    match shrinks {
-        Some(prefixes) => shrink_paths(alloc, store, prefixes.as_slice(), probe),
-        None => Ok(()),
-    }
-}
-
-/// Shrinks the run paths in a store. What goes is not told.
-pub(crate) fn shrink_paths<S: Store, P: Probe>(
-    alloc: Global,
-    store: &mut S,
-    prefixes: &[String],
-    probe: &P,
-) -> Result<(), ElfCommandError>
-    ensures shrunk { OnOk result (IsShrunkStore (P.may_find probe.now)
-        (Some (map string_bytes prefixes.now)) (S.contents store.old) (S.contents store.new)) }
-    ensures left { IfErr result (FailsShrink (P.may_find probe.now)
-        (map string_bytes prefixes.now) (S.contents store.old) (S.contents store.new)) }
-    ensures cause { IfErr result (HasCause S.may_fail_read S.may_fail_write S.may_take_none
-        (S.contents store.old) (S.failed store.old) (S.failed store.new)) }
-{
-    let args = shrink_args(alloc, prefixes)?;
-    let answer = shrink_store(alloc, store, &args, probe, &mut Unheard);
-    drop(args);
-    answer
-}
-
-/// The values of the command by which run paths shrink, without a path.
-fn shrink_args(alloc: Global, prefixes: &[String]) -> Result<shrink_rpath::Args, AllocError>
-    ensures { IfOk result (λ args. map string_bytes args.allowed_rpath_prefixes.items
-        ≡ map string_bytes prefixes.now) }
-{
-    Ok(shrink_rpath::Args {
-        path_to_binary: String::new(alloc),
-        allowed_rpath_prefixes: texts_copied(alloc, prefixes)?,
-    })
-}
 
 /// Makes the edits that words name in a store, where there are words.
 pub(crate) fn apply_if<S: Store>(
@@ -118,7 +67,7 @@ fn apply_command(alloc: Global, words: &[String]) -> Result<ElfCommand, AllocErr
 }
 
 /// The same texts, owned apart.
-fn texts_copied(alloc: Global, texts: &[String]) -> Result<Vec<String>, AllocError>
+pub(crate) fn texts_copied(alloc: Global, texts: &[String]) -> Result<Vec<String>, AllocError>
     ensures { IfOk result (λ copies. map string_bytes copies.items ≡ map string_bytes texts.now) }
 {
     let mut copies = Vec::with_capacity(alloc, texts.len())?;
@@ -126,4 +75,14 @@ fn texts_copied(alloc: Global, texts: &[String]) -> Result<Vec<String>, AllocErr
         copies.push(String::from_str(alloc, text.as_str())?)?;
     }
     Ok(copies)
+}
+
+/// The error of a step that is made in memory, where calls fail only for want of it.
+pub(crate) fn in_memory(error: ElfCommandError) -> ElfCommandError
+    ensures { result ≡ answer_in_memory error }
+{
+    match error {
+        ElfCommandError::Io(_) => ElfCommandError::Memory,
+        error => error,
+    }
 }

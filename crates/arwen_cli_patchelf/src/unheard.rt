@@ -1,7 +1,5 @@
 //! A writer of what nobody hears.
-ghost use Rattle.std.specs.Prelude.{ℕ};
 
-use elf_commands::files::CountedWrite;
 use std::io;
 use std::io::Write;
 
@@ -16,18 +14,5 @@ impl Write for Unheard {
 
     fn flush(&mut self) -> io::Result<()> {
         Ok(())
-    }
-}
-
-// No write of it fails.
-impl CountedWrite for Unheard {
-    ghost failed = { λ _. 0 };
-
-    fn put(&mut self, buffer: &[u8]) -> io::Result<usize> {
-        Ok(buffer.len())
-    }
-
-    fn failures(&self) -> u64 {
-        0
     }
 }
