@@ -1,5 +1,5 @@
 -- Answers by which, of the directories that hold a needed library, the first alone is kept for it.
-use Rattle.std.specs.Prelude.{ℕ, ◌≡◌, ◌==◌, ◌&&◌, Bool, true, false, List, Option, Some, None, Ok, map, take, slice_get, ⊤}
+use Rattle.std.specs.Prelude.{ℕ, ◌≡◌, ◌==◌, ◌&&◌, Bool, true, false, List, Option, Some, None, Ok, map, take, slice_get, unwrap_or, [], ⊤}
 use Rattle.std.specs.List.{list_any}
 use Rattle.std.specs.Str.{bytes_eq}
 use Rattle.elf_edits.specs.Edit.{Answer, ShrinkRunPath}
@@ -7,7 +7,6 @@ use Rattle.elf_edits.specs.Shrunk.{is_allowed}
 use Rattle.elf_edits_shrink.specs.Questions.{shrink_questions}
 use Rattle.elf_image.specs.Image.{Image, image_of, shown}
 use Rattle.elf_image.specs.Options.{is_some_and}
-use Rattle.elf_commands_steps.specs.Reads.{entries_shown}
 use Rattle.elf_commands.specs.ElfAsked.{one}
 use Rattle.elf_commands.specs.ElfEngine.{TellsEdit}
 use Rattle.elf_commands.specs.ElfCommandError.{ElfCommandError}
@@ -41,7 +40,7 @@ pub record AreFirstFound (finds : Finding) (prefixes : List Text) (machine : ℕ
 -- the answers are for just the pairs that have to be looked for before the run paths of an image shrink
 abbrev pub AreFirstFoundOf : Finding → List Text → Image → List Answer → Type 0
 AreFirstFoundOf finds prefixes image answers =
-    AreFirstFound finds prefixes image.header.e_machine (shrink_questions (entries_shown (shown image))) answers
+    AreFirstFound finds prefixes image.header.e_machine (shrink_questions (unwrap_or (shown image).entries [])) answers
 
 -- of a file that is accepted
 abbrev pub AreFirstFoundIn : Finding → List Text → List ℕ → List Answer → Type 0
