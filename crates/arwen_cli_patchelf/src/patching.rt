@@ -10,8 +10,8 @@ ghost use Rattle.arwen_cli_patchelf.specs.Patched.{FailsPatch, FailsPatchAt, IsP
 use crate::making::made_bytes;
 use crate::steps::apply_if;
 use arwen_cli_patchelf_lines::{Plan, load};
-use byte_store::{Opens, Store, replace};
-use command_words::NotEdited;
+use byte_store::{Store, replace};
+use command_words::{NotEdited, OpensOnce};
 use elf_commands::ElfCommandError;
 use elf_commands::elf::{Probe, open_path};
 use std::alloc::Global;
@@ -23,22 +23,22 @@ use std::alloc::Global;
 ///
 /// Those of `patch_store`, and `Io` with what the opening answered. The store that was opened comes with the error, with
 /// what it left there.
-pub fn patch_path<'p, O: Opens<'p>, P: Probe>(
+pub fn patch_path<'p, O: OpensOnce<'p> + Drop, P: Probe>(
     alloc: Global,
-    files: &O,
+    files: O,
     path: &'p str,
     plan: &Plan,
     probe: &P,
 ) -> Result<Option<O::Opened>, NotEdited<O::Opened, ElfCommandError>>
     ensures patched { IfOk result (IsPatchedAt O.Opened.contents (P.may_find probe.now)
-        (plan_model plan.now) (O.contents files.now path.now)) }
+        (plan_model plan.now) (O.contents files path.now)) }
     ensures idle { AsksNothing (plan_model plan.now) → IsOkAnd result (λ store. store ≡ None) }
     ensures left { IfErr result (λ refused. FailsPatchAt O.Opened.contents
-        (P.may_find probe.now) (plan_model plan.now) (O.contents files.now path.now)
+        (P.may_find probe.now) (plan_model plan.now) (O.contents files path.now)
         refused.error refused.store) }
-    ensures cause { IfErr result (λ refused. HasCauseAt (O.may_fail files.now path.now)
+    ensures cause { IfErr result (λ refused. HasCauseAt (O.may_fail files path.now)
         O.Opened.may_fail_read O.Opened.may_fail_write O.Opened.may_take_none O.Opened.failed
-        (O.contents files.now path.now) refused.error refused.store) }
+        (O.contents files path.now) refused.error refused.store) }
 {
     if asks_nothing(plan) {
         return Ok(None);

@@ -11,7 +11,8 @@ use crate::print_texts::print_text;
 use arwen_cli_patchelf_lines::load;
 use arwen_cli_peers::AskedOption;
 use arwen_cli_peers::asked::is_given;
-use byte_store::{Opens, Store};
+use byte_store::Store;
+use command_words::OpensOnce;
 use elf_commands::ElfCommandError;
 use elf_commands::files::{CountedWrite, ElfContainer, ElfError, write_all_counted};
 use std::alloc::{AllocError, Global};
@@ -86,25 +87,25 @@ fn option_of(print: Print) -> &'static str
 /// Those of the first print that fails; those before it are printed. `Io` where the opening or a read of the file failed; `Elf`
 /// where the file is none that is read, or, with `ElfError::Io`, where the writer failed, which it counted, and got the first
 /// bytes of the print.
-pub fn print_path<'p, O: Opens<'p>, W: CountedWrite>(
+pub fn print_path<'p, O: OpensOnce<'p> + Drop, W: CountedWrite>(
     alloc: Global,
-    files: &O,
+    files: O,
     path: &'p str,
     prints: &[Print],
     out: &mut W,
 ) -> Result<(), ElfCommandError>
     ensures printed { OnOk result (PrintsAll prints.now
-        (O.contents files.now path.now) (W.contents out.old) (W.contents out.new)) }
+        (O.contents files path.now) (W.contents out.old) (W.contents out.new)) }
     ensures err { IfErr result PrintMayFail }
     ensures tells { IfErr result (TellsPrints W.contents W.failed prints.now
-        (O.contents files.now path.now) out.old out.new) }
-    ensures cause { IfErr result (HasPrintCauseAt (O.may_fail files.now path.now)
-        O.Opened.may_fail_read (O.contents files.now path.now)) }
+        (O.contents files path.now) out.old out.new) }
+    ensures cause { IfErr result (HasPrintCauseAt (O.may_fail files path.now)
+        O.Opened.may_fail_read (O.contents files path.now)) }
 {
     if prints.is_empty() {
         return Ok(());
     }
-    let mut store = files.open(path)?;
+    let mut store = files.open_once(path)?;
     print_each(alloc, &mut store, prints, out)
 }
 

@@ -8,6 +8,7 @@ mod file;
 mod key_value;
 mod not_edited;
 mod noting;
+mod opens_once;
 mod rows;
 mod word_values;
 
@@ -19,5 +20,6 @@ pub use file::{MOST_BYTES, RegularFiles};
 pub use key_value::{KeyValueError, decimal_number, parse_key_val};
 pub use not_edited::NotEdited;
 pub use noting::Notes;
+pub use opens_once::OpensOnce;
 pub use rows::{Row, Value, ValueForm, ValueOption, Values, find_row};
 pub use word_values::{ValueError, number_of, pairs_of};

@@ -23,8 +23,8 @@ use crate::signing::{Signing, Signs};
 use crate::sliced::patch_slices;
 use crate::verifying::verify_file;
 use arwen_macho::macho::{Front, MachoBatchError, MachoContainer, MachoEdit, lay_fronts};
-use byte_store::{Opens, Store};
-use command_words::{NotEdited, Notes, RegularFiles, words_of};
+use byte_store::Store;
+use command_words::{NotEdited, Notes, OpensOnce, RegularFiles, words_of};
 use macho_commands_signing::{
     Loaded, changes_of, front_changes, load_for_edits, load_fronts, load_slices, write_changes_of,
 };
@@ -438,33 +438,33 @@ fn patch_loaded<S: Store>(
 ///
 /// Those of `patch_store`, and `Io` with what the opening answered. A store that was opened comes with the error, with the
 /// bytes that the error left in it.
-pub fn patch_path<'p, O: Opens<'p>>(
+pub fn patch_path<'p, O: OpensOnce<'p>>(
     alloc: Global,
-    files: &O,
+    files: O,
     command: &'p MachoCommand,
     notes: Notes,
     signing: Signing,
 ) -> Result<(O::Opened, String), NotEdited<O::Opened, MachoCommandError>>
     ensures patched { IfOk result (λ edited. Patched signing (macho_command_model command.now)
-        (O.contents files.now (file_of (macho_command_model command.now)))
+        (O.contents files (file_of (macho_command_model command.now)))
         (O.Opened.contents edited.0)) }
     ensures told { IfOk result (λ edited. TellsWantedAt signing
         (macho_command_model command.now) notes
-        (O.contents files.now (file_of (macho_command_model command.now)))
+        (O.contents files (file_of (macho_command_model command.now)))
         (string_bytes edited.1)) }
     ensures err { IfErr result (λ refused.
         MayFail (macho_command_model command.now) refused.error) }
     ensures left { IfErr result (λ refused. FailsPatchAt signing
         (macho_command_model command.now) O.Opened.contents
-        (O.contents files.now (file_of (macho_command_model command.now)))
+        (O.contents files (file_of (macho_command_model command.now)))
         refused.error refused.store) }
     ensures cause { IfErr result (λ refused. HasCauseAt
-        (O.may_fail files.now (file_of (macho_command_model command.now)))
+        (O.may_fail files (file_of (macho_command_model command.now)))
         O.Opened.may_fail_read O.Opened.may_fail_write O.Opened.may_take_none O.Opened.failed
-        (O.contents files.now (file_of (macho_command_model command.now)))
+        (O.contents files (file_of (macho_command_model command.now)))
         refused.error refused.store) }
 {
-    let mut store = match files.open(command.path_to_binary()) {
+    let mut store = match files.open_once(command.path_to_binary()) {
         Ok(store) => store,
         Err(error) => return Err(not_opened(error)),
     };

@@ -14,8 +14,8 @@ use crate::command::ElfCommand;
 use crate::elf::engine::edited_pieces;
 use crate::elf::in_turn::edit_in_turn;
 use crate::elf::opening::open_path;
-use byte_store::{Opens, Store};
-use command_words::{NotEdited, Notes, RegularFiles};
+use byte_store::Store;
+use command_words::{NotEdited, Notes, OpensOnce, RegularFiles};
 use elf_commands_steps::{ElfCommandError, load_elf, make_opened, tell};
 use elf_edits::ElfEdit;
 use std::alloc::Global;
@@ -135,30 +135,30 @@ fn edit_loaded<S: Store>(
 ///
 /// Those of `edit_store`, and `Io` with what the opening answered. The store that was opened comes with the error, with
 /// what it left there.
-pub fn edit_path<'p, O: Opens<'p>>(
+pub fn edit_path<'p, O: OpensOnce<'p>>(
     alloc: Global,
-    files: &O,
+    files: O,
     command: &'p ElfCommand,
     notes: Notes,
 ) -> Result<(O::Opened, String), NotEdited<O::Opened, ElfCommandError>>
     ensures patched { IfOk result (λ edited. IsElfPatched
         (elf_asked (elf_command_model command.now))
-        (O.contents files.now (elf_file_of (elf_command_model command.now)))
+        (O.contents files (elf_file_of (elf_command_model command.now)))
         (O.Opened.contents edited.0)) }
     ensures told { IfOk result (λ edited. TellsWantedAt notes
         (elf_asked (elf_command_model command.now)) (elf_file_of (elf_command_model command.now))
-        (O.contents files.now (elf_file_of (elf_command_model command.now)))
+        (O.contents files (elf_file_of (elf_command_model command.now)))
         (string_bytes edited.1)) }
     ensures err { IfErr result (λ refused.
         ElfMayFail (elf_command_model command.now) refused.error) }
     ensures left { IfErr result (λ refused. FailsElfAt
         (elf_asked (elf_command_model command.now)) O.Opened.contents
-        (O.contents files.now (elf_file_of (elf_command_model command.now)))
+        (O.contents files (elf_file_of (elf_command_model command.now)))
         refused.error refused.store) }
     ensures cause { IfErr result (λ refused. HasCauseAt
-        (O.may_fail files.now (elf_file_of (elf_command_model command.now)))
+        (O.may_fail files (elf_file_of (elf_command_model command.now)))
         O.Opened.may_fail_read O.Opened.may_fail_write O.Opened.may_take_none O.Opened.failed
-        (O.contents files.now (elf_file_of (elf_command_model command.now)))
+        (O.contents files (elf_file_of (elf_command_model command.now)))
         refused.error refused.store) }
 {
     let mut store = open_path(files, command.path_to_binary())?;

@@ -2,8 +2,8 @@
 ghost use Rattle.std.specs.Prelude.{◌≡◌, IfErr, IfOk};
 ghost use Rattle.elf_commands.specs.ElfStores.{IsUnopened};
 
-use byte_store::{Opens, Store};
-use command_words::NotEdited;
+use byte_store::Store;
+use command_words::{NotEdited, OpensOnce};
 use elf_commands_steps::ElfCommandError;
 
 /// Opens the store at a path for reading.
@@ -11,17 +11,17 @@ use elf_commands_steps::ElfCommandError;
 /// # Errors
 ///
 /// `Io` with what the opening answered; no store comes with it.
-pub fn open_path<'p, O: Opens<'p>>(
-    files: &O,
+pub fn open_path<'p, O: OpensOnce<'p>>(
+    files: O,
     path: &'p str,
 ) -> Result<O::Opened, NotEdited<O::Opened, ElfCommandError>>
     ensures bytes { IfOk result (λ store.
-        O.Opened.contents store ≡ O.contents files.now path.now) }
+        O.Opened.contents store ≡ O.contents files path.now) }
     ensures fresh { IfOk result (λ store. O.Opened.failed store ≡ 0) }
     ensures err { IfErr result (λ refused.
-        IsUnopened (O.may_fail files.now path.now) refused.error refused.store) }
+        IsUnopened (O.may_fail files path.now) refused.error refused.store) }
 {
-    match files.open(path) {
+    match files.open_once(path) {
         Ok(store) => Ok(store),
         Err(error) => Err(NotEdited {
             error: ElfCommandError::Io(error),

@@ -9,8 +9,8 @@ ghost use Rattle.elf_image.specs.Image.{image_of, shown};
 
 use crate::command::ElfCommand;
 use crate::elf::engine::print_asked;
-use byte_store::{Opens, Store};
-use command_words::RegularFiles;
+use byte_store::Store;
+use command_words::{OpensOnce, RegularFiles};
 use elf_commands_steps::files::{CountedWrite, ElfContainer, ElfError, Sink, write_all_counted};
 use elf_commands_steps::{ElfCommandError, load_elf};
 use std::alloc::{AllocError, Global};
@@ -94,24 +94,24 @@ fn write_text<W: CountedWrite>(text: &[u8], out: &mut W) -> Result<(), ElfError>
 /// # Errors
 ///
 /// Those of `print_store`, and `Io` with what the opening answered.
-pub fn print_path<'p, O: Opens<'p>, W: CountedWrite>(
+pub fn print_path<'p, O: OpensOnce<'p>, W: CountedWrite>(
     alloc: Global,
-    files: &O,
+    files: O,
     command: &'p ElfCommand,
     out: &mut W,
 ) -> Result<(), ElfCommandError>
     ensures printed { OnOk result (PrintsStored (elf_command_model command.now)
-        (O.contents files.now (elf_file_of (elf_command_model command.now)))
+        (O.contents files (elf_file_of (elf_command_model command.now)))
         (W.contents out.old) (W.contents out.new)) }
     ensures err { IfErr result PrintMayFail }
     ensures tells { IfErr result (TellsStored W.contents W.failed (elf_command_model command.now)
-        (O.contents files.now (elf_file_of (elf_command_model command.now))) out.old out.new) }
+        (O.contents files (elf_file_of (elf_command_model command.now))) out.old out.new) }
     ensures cause { IfErr result (HasReadCauseAt
-        (O.may_fail files.now (elf_file_of (elf_command_model command.now)))
+        (O.may_fail files (elf_file_of (elf_command_model command.now)))
         O.Opened.may_fail_read
-        (O.contents files.now (elf_file_of (elf_command_model command.now)))) }
+        (O.contents files (elf_file_of (elf_command_model command.now)))) }
 {
-    let mut store = files.open(command.path_to_binary())?;
+    let mut store = files.open_once(command.path_to_binary())?;
     print_store(alloc, &mut store, command, out)
 }
 

@@ -11,8 +11,8 @@ ghost use Rattle.elf_commands.specs.ShrinkRuns.{FailsShrink, FailsShrinkAt, IsQu
 
 use crate::elf::opening::open_path;
 use crate::elf::shrink_rpath::Args;
-use byte_store::{Opens, Store};
-use command_words::{NotEdited, RegularFiles};
+use byte_store::Store;
+use command_words::{NotEdited, OpensOnce, RegularFiles};
 use elf_commands_steps::files::{CountedWrite, ElfContainer, ProbeAnswer, Sink, write_all_counted};
 use elf_commands_steps::{
     ElfCommandError, FileProbe, Probe, Shrunk, StandardError, answers_of, load_elf, make_opened,
@@ -151,29 +151,29 @@ fn shrink_loaded<S: Store, P: Probe, W: CountedWrite>(
 ///
 /// Those of `shrink_store`, and `Io` with what the opening answered, before any line is told. The store that was opened
 /// comes with the error, with what it left there.
-pub fn shrink_path<'p, O: Opens<'p>, P: Probe, W: CountedWrite>(
+pub fn shrink_path<'p, O: OpensOnce<'p>, P: Probe, W: CountedWrite>(
     alloc: Global,
-    files: &O,
+    files: O,
     args: &'p Args,
     probe: &P,
     out: &mut W,
 ) -> Result<O::Opened, NotEdited<O::Opened, ElfCommandError>>
     ensures shrunk { IfOk result (λ store. ShrinksStore (P.may_find probe.now)
         (map string_bytes args.now.allowed_rpath_prefixes.items)
-        (O.contents files.now (string_bytes args.now.path_to_binary))
+        (O.contents files (string_bytes args.now.path_to_binary))
         (O.Opened.contents store) (W.contents out.old) (W.contents out.new)) }
     ensures err { IfErr result (λ refused. MayFailAs
         (shrinking (map string_bytes args.now.allowed_rpath_prefixes.items)) refused.error) }
     ensures left { IfErr result (λ refused. FailsShrinkAt (P.may_find probe.now)
         (map string_bytes args.now.allowed_rpath_prefixes.items) O.Opened.contents
-        (O.contents files.now (string_bytes args.now.path_to_binary))
+        (O.contents files (string_bytes args.now.path_to_binary))
         refused.error refused.store) }
     ensures quiet { IfErr result (λ refused.
         IsQuietAt out.old out.new refused.error refused.store) }
     ensures cause { IfErr result (λ refused. HasShrinkCauseAt
-        (O.may_fail files.now (string_bytes args.now.path_to_binary))
+        (O.may_fail files (string_bytes args.now.path_to_binary))
         O.Opened.may_fail_read O.Opened.may_fail_write O.Opened.may_take_none O.Opened.failed
-        (O.contents files.now (string_bytes args.now.path_to_binary))
+        (O.contents files (string_bytes args.now.path_to_binary))
         (W.failed out.old) (W.failed out.new) refused.error refused.store) }
 {
     let mut store = open_path(files, args.path_to_binary.as_str())?;
