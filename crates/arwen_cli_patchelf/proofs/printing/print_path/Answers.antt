@@ -11,4 +11,4 @@ returns-in_err-store-clause-tells g c =
 pub returns-clause-cause : goal.returns-clause-cause
 returns-clause-cause g c =
     IfErr-weaker c.print_each.result _ _ (λ e why.
-    print_cause_at (g.O.Opens.may_fail c.args.files.now c.args.path.now) g.O.Opened.Store.may_fail_read (g.O.Opens.contents c.args.files.now c.args.path.now) _ e c.in_ok-store.ensures.bytes why) c.print_each.ensures.cause
+    print_cause_at (g.O.OpensOnce.may_fail c.args.files c.args.path.now) g.O.Opened.Store.may_fail_read (g.O.OpensOnce.contents c.args.files c.args.path.now) _ e c.in_ok-store.ensures.bytes why) c.print_each.ensures.cause
