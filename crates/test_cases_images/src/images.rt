@@ -177,10 +177,15 @@ fn copies_made(alloc: Global, image: &Builder<'_>) -> Result<(bool, bool), Alloc
     Ok((is_copied, is_same_when_read_again(alloc, image)?))
 }
 
+/// What an image shows, as text.
+fn text_of(alloc: Global, image: &Builder<'_>) -> Result<String, AllocError> {
+    format!(in alloc; "{image:?}")
+}
+
 /// Whether images show the same.
 fn is_same(alloc: Global, one: &Builder<'_>, other: &Builder<'_>) -> Result<bool, AllocError> {
-    let text = format!(in alloc; "{one:?}")?;
-    Ok(format!(in alloc; "{other:?}")? == text)
+    let text = text_of(alloc, one)?;
+    Ok(text_of(alloc, other)? == text)
 }
 
 fn is_copy_same(alloc: Global, image: &Builder<'_>) -> Result<bool, AllocError> {
@@ -198,7 +203,16 @@ fn edited<'d>(alloc: Global, image: &Builder<'d>) -> Result<Builder<'d>, AllocEr
 /// Whether an edited copy keeps its symbols, and what is read once more of it shows what the image does.
 fn is_same_when_read_again(alloc: Global, image: &Builder<'_>) -> Result<bool, AllocError> {
     let copy = edited(alloc, image)?;
-    let read = copy.read_source(alloc)?;
     let keeps = copy.keeps_static_symbols() && copy.keeps_dynamic_symbols();
-    Ok(keeps && is_same(alloc, image, &read)?)
+    Ok(keeps && is_read_same(alloc, image, &copy)?)
+}
+
+/// Whether what is read once more of a copy shows what the image does.
+fn is_read_same(
+    alloc: Global,
+    image: &Builder<'_>,
+    copy: &Builder<'_>,
+) -> Result<bool, AllocError> {
+    let read = copy.read_source(alloc)?;
+    is_same(alloc, image, &read)
 }
