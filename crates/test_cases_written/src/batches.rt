@@ -14,17 +14,10 @@ fn edit_of(word: &str) -> ElfEdit {
     }
 }
 
-/// A list of one item.
-fn list_of<T: Drop>(alloc: Global, item: T) -> Result<Vec<T>, AllocError> {
-    let mut list = Vec::new(alloc);
-    list.push(item)?;
-    Ok(list)
-}
-
 /// Each word is a batch of one edit.
 impl Names for Vec<Vec<ElfEdit>> {
     fn put(&mut self, alloc: Global, word: &str) -> Result<(), AllocError> {
-        push(self, list_of(alloc, edit_of(word))?)
+        push(self, vec![in alloc; edit_of(word)]?)
     }
 }
 
