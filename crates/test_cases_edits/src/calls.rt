@@ -23,9 +23,9 @@ pub(crate) fn call(
         ElfEdit::NoDefaultLib => file.no_default_lib(alloc),
         ElfEdit::RemoveNeeded(names) => file.remove_needed(alloc, names.as_slice()),
         ElfEdit::RemoveRpath => file.remove_runpath(),
-        ElfEdit::RenameDynamicSymbols(pairs) => rename_symbols(alloc, file, pairs.as_slice()),
-        ElfEdit::ReplaceLibrary(pairs) => replace_library(alloc, file, pairs.as_slice()),
-        ElfEdit::ReplaceNeeded(pairs) => replace_needed(alloc, file, pairs.as_slice()),
+        ElfEdit::RenameDynamicSymbols(pairs)
+        | ElfEdit::ReplaceLibrary(pairs)
+        | ElfEdit::ReplaceNeeded(pairs) => call_with_pairs(alloc, file, edit, pairs.as_slice()),
         ElfEdit::SetExecStack => file.set_exec_stack(alloc),
         ElfEdit::SetInterpreter(text) => file.set_interpreter(alloc, text.as_slice()),
         ElfEdit::SetOsAbi(name) => file.set_os_abi(alloc, name.as_str()),
@@ -47,34 +47,19 @@ fn add_runpaths(
     }
 }
 
-/// Replaces needed libraries by pairs of an old and a new name.
-fn replace_needed(
+/// Renames dynamic symbols, or replaces libraries, by pairs of an old and a new name.
+fn call_with_pairs(
     alloc: Global,
     file: &mut ElfContainer<'_>,
+    edit: &ElfEdit,
     pairs: &[(Vec<u8>, Vec<u8>)],
 ) -> Result<(), ElfError> {
     let names = map_of(alloc, pairs)?;
-    file.replace_needed(alloc, &names)
-}
-
-/// Replaces libraries with the versions that are needed of them, by pairs of an old and a new name.
-fn replace_library(
-    alloc: Global,
-    file: &mut ElfContainer<'_>,
-    pairs: &[(Vec<u8>, Vec<u8>)],
-) -> Result<(), ElfError> {
-    let names = map_of(alloc, pairs)?;
-    file.replace_library(alloc, &names)
-}
-
-/// Renames dynamic symbols by pairs of an old and a new name.
-fn rename_symbols(
-    alloc: Global,
-    file: &mut ElfContainer<'_>,
-    pairs: &[(Vec<u8>, Vec<u8>)],
-) -> Result<(), ElfError> {
-    let names = map_of(alloc, pairs)?;
-    file.rename_dynamic_symbols(alloc, &names)
+    match edit {
+        ElfEdit::ReplaceNeeded(_) => file.replace_needed(alloc, &names),
+        ElfEdit::ReplaceLibrary(_) => file.replace_library(alloc, &names),
+        _ => file.rename_dynamic_symbols(alloc, &names),
+    }
 }
 
 /// The map of pairs.
@@ -83,10 +68,20 @@ fn map_of(
     pairs: &[(Vec<u8>, Vec<u8>)],
 ) -> Result<HashMap<Vec<u8>, Vec<u8>>, AllocError> {
     let mut names = HashMap::new(alloc);
-    for (old, new) in pairs {
-        put_pair(alloc, old.as_slice(), new.as_slice(), &mut names)?;
-    }
+    put_pairs(alloc, pairs, &mut names)?;
     Ok(names)
+}
+
+/// Puts copies of pairs into a map.
+fn put_pairs(
+    alloc: Global,
+    pairs: &[(Vec<u8>, Vec<u8>)],
+    names: &mut HashMap<Vec<u8>, Vec<u8>>,
+) -> Result<(), AllocError> {
+    for (old, new) in pairs {
+        put_pair(alloc, old.as_slice(), new.as_slice(), names)?;
+    }
+    Ok(())
 }
 
 /// Puts a copy of a pair into a map.

@@ -2,6 +2,7 @@
 use elf_image::Dynamic;
 use patch_bytes::ByteString;
 use std::alloc::{AllocError, Global};
+use test_cases_files::words::push;
 
 /// The tags that have names here (gABI, Dynamic Section).
 static TAGS: [(&str, u64); 7] = [
@@ -39,14 +40,13 @@ fn add_entry(alloc: Global, word: &str, entries: &mut Vec<Dynamic<'_>>) -> Resul
     let (name, value) = word.split_once('=').unwrap_or((word, ""));
     let tag = tag_of(name);
     match name {
-        "STRTAB" => entries.push(Dynamic::Auto { tag })?,
-        "DEBUG" | "FLAGS_1" => entries.push(Dynamic::Integer {
-            tag,
-            val: value.parse::<u64>().unwrap_or(0),
-        })?,
-        _ => add_text(alloc, tag, value, entries)?,
+        "STRTAB" => push(entries, Dynamic::Auto { tag }),
+        "DEBUG" | "FLAGS_1" => {
+            let val = value.parse::<u64>().unwrap_or(0);
+            push(entries, Dynamic::Integer { tag, val })
+        }
+        _ => add_text(alloc, tag, value, entries),
     }
-    Ok(())
 }
 
 /// Adds an entry with a text.
@@ -57,19 +57,28 @@ pub(crate) fn add_text(
     entries: &mut Vec<Dynamic<'_>>,
 ) -> Result<(), AllocError> {
     let val = ByteString::owned(Vec::from_slice(alloc, text.as_bytes())?);
-    entries.push(Dynamic::Text { tag, val })?;
-    Ok(())
+    push(entries, Dynamic::Text { tag, val })
 }
 
 /// The entries that the words of a line are.
 pub(crate) fn entries_of<'d>(alloc: Global, line: &str) -> Result<Vec<Dynamic<'d>>, AllocError> {
     let mut entries = Vec::new(alloc);
+    add_entries(alloc, line, &mut entries)?;
+    Ok(entries)
+}
+
+/// Adds the entries that the words of a line are.
+fn add_entries(
+    alloc: Global,
+    line: &str,
+    entries: &mut Vec<Dynamic<'_>>,
+) -> Result<(), AllocError> {
     for word in line.split(' ') {
         if !word.is_empty() {
-            add_entry(alloc, word, &mut entries)?;
+            add_entry(alloc, word, entries)?;
         }
     }
-    Ok(entries)
+    Ok(())
 }
 
 /// Puts down bytes as text, a character each; a NUL is `~`.

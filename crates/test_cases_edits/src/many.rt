@@ -44,13 +44,23 @@ fn edit_by_words(
 /// A list of so many run paths, and behind them so many needed libraries.
 fn long_list<'d>(alloc: Global, paths: u32, needed: u32) -> Result<Vec<Dynamic<'d>>, AllocError> {
     let mut entries = Vec::new(alloc);
-    for number in 0..paths {
-        add_numbered(alloc, DT_RUNPATH, "/path", number, &mut entries)?;
-    }
-    for number in 0..needed {
-        add_numbered(alloc, DT_NEEDED, "lib", number, &mut entries)?;
-    }
+    add_many(alloc, DT_RUNPATH, "/path", paths, &mut entries)?;
+    add_many(alloc, DT_NEEDED, "lib", needed, &mut entries)?;
     Ok(entries)
+}
+
+/// Adds so many entries, whose texts have numbers behind them.
+fn add_many(
+    alloc: Global,
+    tag: u64,
+    front: &str,
+    count: u32,
+    entries: &mut Vec<Dynamic<'_>>,
+) -> Result<(), AllocError> {
+    for number in 0..count {
+        add_numbered(alloc, tag, front, number, entries)?;
+    }
+    Ok(())
 }
 
 /// Adds an entry whose text has a number behind it.

@@ -40,14 +40,34 @@ fn call(alloc: Global, writer: &mut Writer<'_>, line: &str) -> Result<(), ElfErr
     let (name, words) = split_kind(line);
     match name {
         "elf_rename_symbols" | "rename_symbols" | "rename_sections" => {
-            let names = pairs_in(alloc, words)?;
-            rename(alloc, writer, name, &names)
+            rename_by_words(alloc, writer, name, words)
         }
-        _ => {
-            let names = names_in(alloc, words)?;
-            delete(alloc, writer, name, &names)
-        }
+        _ => delete_by_words(alloc, writer, name, words),
     }
+}
+
+/// Makes a call with pairs that stand in words.
+fn rename_by_words(
+    alloc: Global,
+    writer: &mut Writer<'_>,
+    call: &str,
+    words: &str,
+) -> Result<(), ElfError> {
+    let mut names = HashMap::new(alloc);
+    put_pairs(alloc, words, &mut names)?;
+    rename(alloc, writer, call, &names)
+}
+
+/// Makes a call with names that stand in words.
+fn delete_by_words(
+    alloc: Global,
+    writer: &mut Writer<'_>,
+    call: &str,
+    words: &str,
+) -> Result<(), ElfError> {
+    let mut names = HashSet::new(alloc);
+    put_words(alloc, words, &mut names)?;
+    delete(alloc, writer, call, &names)
 }
 
 /// Makes a call by which symbols or sections get other names.
@@ -79,24 +99,32 @@ fn delete(
     }
 }
 
-/// The pairs of an old and a new name that stand between blanks.
-fn pairs_in(alloc: Global, words: &str) -> Result<HashMap<Vec<u8>, Vec<u8>>, AllocError> {
-    let mut names = HashMap::new(alloc);
+/// Puts the pairs of an old and a new name that stand between blanks into a map.
+fn put_pairs(
+    alloc: Global,
+    words: &str,
+    names: &mut HashMap<Vec<u8>, Vec<u8>>,
+) -> Result<(), AllocError> {
     for word in words.split(' ') {
         if let Some((old, new)) = word.split_once('=') {
-            put_pair(alloc, old.as_bytes(), new.as_bytes(), &mut names)?;
+            put_pair(alloc, old.as_bytes(), new.as_bytes(), names)?;
         }
     }
-    Ok(names)
+    Ok(())
 }
 
-/// The names that stand between blanks.
-fn names_in(alloc: Global, words: &str) -> Result<HashSet<Vec<u8>>, AllocError> {
-    let mut names = HashSet::new(alloc);
+/// Puts the names that stand between blanks into a set.
+fn put_words(alloc: Global, words: &str, names: &mut HashSet<Vec<u8>>) -> Result<(), AllocError> {
     for word in words.split(' ') {
-        names.insert(Vec::from_slice(alloc, word.as_bytes())?)?;
+        put_word(names, Vec::from_slice(alloc, word.as_bytes())?)?;
     }
-    Ok(names)
+    Ok(())
+}
+
+/// Puts a name into a set.
+fn put_word(names: &mut HashSet<Vec<u8>>, word: Vec<u8>) -> Result<(), AllocError> {
+    names.insert(word)?;
+    Ok(())
 }
 
 /// Puts down the names of a file's static symbols in a line, and those of its sections in another one.

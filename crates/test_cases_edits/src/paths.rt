@@ -4,7 +4,7 @@ use elf_edits_shrink::{ProbeAnswer, Reason, Removed, shrink_questions};
 use elf_image::Dynamic;
 use patch_bytes::ByteString;
 use std::alloc::{AllocError, Global};
-use test_cases_files::words::{split_parts, texts_of};
+use test_cases_files::words::{push, split_parts, texts_of};
 
 /// The machine of the images here.
 const MACHINE: u16 = 62;
@@ -32,12 +32,17 @@ fn put_questions(
 /// Puts down pairs of a directory and a library, a line for each.
 fn put_pairs(pairs: &[(&[u8], &[u8])], out: &mut String) -> Result<(), AllocError> {
     for (directory, needed) in pairs {
-        put_text(directory, out)?;
-        out.push(' ')?;
-        put_text(needed, out)?;
-        out.push('\n')?;
+        put_pair(directory, needed, out)?;
     }
     Ok(())
+}
+
+/// Puts down a directory and a library.
+fn put_pair(directory: &[u8], needed: &[u8], out: &mut String) -> Result<(), AllocError> {
+    put_text(directory, out)?;
+    out.push(' ')?;
+    put_text(needed, out)?;
+    out.push('\n')
 }
 
 /// The answer that a word DIRECTORY,LIBRARY,MACHINE is; without a machine, nothing was found.
@@ -56,7 +61,7 @@ pub(crate) fn answers_of(alloc: Global, line: &str) -> Result<Vec<ProbeAnswer<'_
     let mut made = Vec::new(alloc);
     for word in line.split(' ') {
         if !word.is_empty() {
-            made.push(answer_of(word))?;
+            push(&mut made, answer_of(word))?;
         }
     }
     Ok(made)

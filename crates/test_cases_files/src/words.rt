@@ -20,12 +20,18 @@ fn word_of(word: &str) -> &str {
     if word == "''" { "" } else { word }
 }
 
+/// Puts an item behind others.
+pub fn push<T: Drop>(items: &mut Vec<T>, item: T) -> Result<(), AllocError> {
+    items.push(item)?;
+    Ok(())
+}
+
 /// The words of a text between which a character stands.
 pub fn split_words(alloc: Global, text: &str, separator: char) -> Result<Vec<&str>, AllocError> {
     let mut words = Vec::new(alloc);
     for word in text.split(separator) {
         if !word.is_empty() {
-            words.push(word_of(word))?;
+            push(&mut words, word_of(word))?;
         }
     }
     Ok(words)
@@ -72,10 +78,16 @@ pub fn texts_of(alloc: Global, line: &str) -> Result<Vec<Vec<u8>>, AllocError> {
 /// The lines of a text as bytes.
 fn texts_in(alloc: Global, text: &str) -> Result<Vec<Vec<u8>>, AllocError> {
     let mut texts = Vec::new(alloc);
+    put_texts(alloc, text, &mut texts)?;
+    Ok(texts)
+}
+
+/// Puts the lines of a text behind others, as bytes.
+fn put_texts(alloc: Global, text: &str, texts: &mut Vec<Vec<u8>>) -> Result<(), AllocError> {
     for word in text.split('\n') {
         if !word.is_empty() {
-            texts.push(Vec::from_slice(alloc, word_of(word).as_bytes())?)?;
+            push(texts, Vec::from_slice(alloc, word_of(word).as_bytes())?)?;
         }
     }
-    Ok(texts)
+    Ok(())
 }

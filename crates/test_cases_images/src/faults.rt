@@ -35,11 +35,21 @@ fn fault_of<T>(answer: &Result<T, ElfError>) -> Option<ElfFault> {
     }
 }
 
+/// The fault for which the writer refuses a file.
+fn writer_fault(alloc: Global, bytes: &[u8]) -> Option<ElfFault> {
+    fault_of(&writer(alloc, bytes))
+}
+
+/// The fault for which the container refuses a file.
+fn container_fault(alloc: Global, bytes: &[u8]) -> Option<ElfFault> {
+    fault_of(&parse(alloc, bytes))
+}
+
 fn faults_of(alloc: Global, bytes: &[u8]) -> Faults {
     [
         image_fault(alloc, bytes),
-        fault_of(&writer(alloc, bytes)),
-        fault_of(&parse(alloc, bytes)),
+        writer_fault(alloc, bytes),
+        container_fault(alloc, bytes),
     ]
 }
 

@@ -1,7 +1,7 @@
 //! The image of a file.
 ghost use Rattle.std.specs.Prelude.{◌<◌, length};
 
-use crate::lists::{print_definition, print_entries, print_need, print_segments, print_symbols};
+use crate::lists::{print_definitions, print_entries, print_needs, print_segments, print_symbols};
 use elf_image::constants::SHT_DYNSYM;
 use elf_image::{Builder, ElfFault, Header, Section, SectionData};
 use patch_bytes::{ByteOrder2, Wide};
@@ -19,10 +19,10 @@ pub(crate) fn read<'f>(alloc: Global, bytes: &'f [u8]) -> Result<Builder<'f>, El
 
 /// Prints the image of bytes.
 pub(crate) fn print_image(rt: &HostRuntime, bytes: &[u8], image: &Builder<'_>) -> io::Result<()> {
-    println!(rt; "{:?}", outline_of(bytes, image))?;
+    print_outline(rt, bytes, image)?;
     print_headers(rt, image)?;
     print_lists(rt, image)?;
-    println!(rt; "{:?}", places_of(image))?;
+    print_places(rt, image)?;
     print_copies(rt, image)
 }
 
@@ -48,6 +48,10 @@ fn outline_of<'a>(bytes: &[u8], image: &'a Builder<'_>) -> Outline<'a> {
         is_changed: image.changed(),
         is_source: image.source() == bytes,
     }
+}
+
+fn print_outline(rt: &HostRuntime, bytes: &[u8], image: &Builder<'_>) -> io::Result<()> {
+    println!(rt; "{:?}", outline_of(bytes, image))
 }
 
 fn print_headers(rt: &HostRuntime, image: &Builder<'_>) -> io::Result<()> {
@@ -103,13 +107,9 @@ fn print_lists(rt: &HostRuntime, image: &Builder<'_>) -> io::Result<()> {
 }
 
 fn print_versions(rt: &HostRuntime, image: &Builder<'_>) -> io::Result<()> {
-    for definition in &image.versions().definitions {
-        print_definition(rt, definition)?;
-    }
-    for need in &image.versions().needs {
-        print_need(rt, need)?;
-    }
-    Ok(())
+    let versions = image.versions();
+    print_definitions(rt, &versions.definitions)?;
+    print_needs(rt, &versions.needs)
 }
 
 /// Where parts of an image stand, and whether they have their numbers of read.
@@ -141,6 +141,10 @@ fn places_of(image: &Builder<'_>) -> Places {
         ),
         are_symbols_kept: image.keeps_static_symbols() && image.keeps_dynamic_symbols(),
     }
+}
+
+fn print_places(rt: &HostRuntime, image: &Builder<'_>) -> io::Result<()> {
+    println!(rt; "{:?}", places_of(image))
 }
 
 /// Whether each static symbol has its position as its number.
@@ -177,10 +181,15 @@ fn copies_made(alloc: Global, image: &Builder<'_>) -> Result<(bool, bool), Alloc
     Ok((is_copied, is_same_when_read_again(alloc, image)?))
 }
 
+/// What an image shows, as text.
+fn text_of(alloc: Global, image: &Builder<'_>) -> Result<String, AllocError> {
+    format!(in alloc; "{image:?}")
+}
+
 /// Whether images show the same.
 fn is_same(alloc: Global, one: &Builder<'_>, other: &Builder<'_>) -> Result<bool, AllocError> {
-    let text = format!(in alloc; "{one:?}")?;
-    Ok(format!(in alloc; "{other:?}")? == text)
+    let text = text_of(alloc, one)?;
+    Ok(text_of(alloc, other)? == text)
 }
 
 fn is_copy_same(alloc: Global, image: &Builder<'_>) -> Result<bool, AllocError> {
@@ -198,7 +207,21 @@ fn edited<'d>(alloc: Global, image: &Builder<'d>) -> Result<Builder<'d>, AllocEr
 /// Whether an edited copy keeps its symbols, and what is read once more of it shows what the image does.
 fn is_same_when_read_again(alloc: Global, image: &Builder<'_>) -> Result<bool, AllocError> {
     let copy = edited(alloc, image)?;
-    let read = copy.read_source(alloc)?;
+    keeps_all(alloc, image, &copy)
+}
+
+/// Whether a copy keeps its symbols, and what is read once more of it shows what the image does.
+fn keeps_all(alloc: Global, image: &Builder<'_>, copy: &Builder<'_>) -> Result<bool, AllocError> {
     let keeps = copy.keeps_static_symbols() && copy.keeps_dynamic_symbols();
-    Ok(keeps && is_same(alloc, image, &read)?)
+    Ok(keeps && is_read_same(alloc, image, copy)?)
+}
+
+/// Whether what is read once more of a copy shows what the image does.
+fn is_read_same(
+    alloc: Global,
+    image: &Builder<'_>,
+    copy: &Builder<'_>,
+) -> Result<bool, AllocError> {
+    let read = copy.read_source(alloc)?;
+    is_same(alloc, image, &read)
 }

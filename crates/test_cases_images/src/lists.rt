@@ -73,8 +73,18 @@ fn are_parts_same(symbols: SymbolsNow<'_>, i: usize) -> bool
         && numbers.st_size == symbol.st_size
 }
 
+pub(crate) fn print_definitions(
+    rt: &HostRuntime,
+    definitions: &[VersionDef<'_>],
+) -> io::Result<()> {
+    for definition in definitions {
+        print_definition(rt, definition)?;
+    }
+    Ok(())
+}
+
 /// Prints the names of a version behind its index and its flags.
-pub(crate) fn print_definition(rt: &HostRuntime, definition: &VersionDef<'_>) -> io::Result<()> {
+fn print_definition(rt: &HostRuntime, definition: &VersionDef<'_>) -> io::Result<()> {
     print!(rt; "defines {} {}", definition.index, definition.flags)?;
     for name in &definition.names {
         print!(rt; " {}", Text(name.as_slice()))?;
@@ -82,8 +92,15 @@ pub(crate) fn print_definition(rt: &HostRuntime, definition: &VersionDef<'_>) ->
     println!(rt;)
 }
 
+pub(crate) fn print_needs(rt: &HostRuntime, needs: &[VersionNeed<'_>]) -> io::Result<()> {
+    for need in needs {
+        print_need(rt, need)?;
+    }
+    Ok(())
+}
+
 /// Prints a library, and the versions that are needed of it.
-pub(crate) fn print_need(rt: &HostRuntime, need: &VersionNeed<'_>) -> io::Result<()> {
+fn print_need(rt: &HostRuntime, need: &VersionNeed<'_>) -> io::Result<()> {
     print!(rt; "needs {}", Text(need.file.as_slice()))?;
     for version in &need.versions {
         print_version(rt, version)?;

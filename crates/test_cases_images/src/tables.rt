@@ -8,15 +8,6 @@ use std::alloc::{AllocError, Global};
 use std::io;
 use test_cases_written::words::{bytes_of, first};
 
-/// A table of symbols in parts.
-#[derive(Drop)]
-struct Parts {
-    form: Form,
-    texts: Vec<u8>,
-    records: Vec<u8>,
-    versions: Option<Vec<u8>>,
-}
-
 /// The form that a class and an order are.
 fn form_of(class: &str, order: &str) -> Form {
     Form {
@@ -29,44 +20,52 @@ fn form_of(class: &str, order: &str) -> Form {
     }
 }
 
-/// The versions that words are, none without words.
-fn versions_of(alloc: Global, words: &str) -> Result<Option<Vec<u8>>, AllocError> {
-    match words {
-        "" => Ok(None),
-        word => Ok(Some(bytes_of(alloc, word)?)),
+/// The bytes that a word is, made again where memory was refused.
+fn bytes_again(alloc: Global, word: &str) -> Result<Vec<u8>, AllocError> {
+    match bytes_of(alloc, word) {
+        Err(_) => bytes_of(alloc, word),
+        bytes => bytes,
     }
-}
-
-/// The parts that words are.
-fn parts_of(alloc: Global, words: &str) -> Result<Parts, AllocError> {
-    let (class, words) = first(words);
-    let (order, words) = first(words);
-    let (texts, words) = first(words);
-    let (records, versions) = first(words);
-    let texts = bytes_of(alloc, texts)?;
-    let records = bytes_of(alloc, records)?;
-    Ok(Parts {
-        form: form_of(class, order),
-        texts,
-        records,
-        versions: versions_of(alloc, versions)?,
-    })
 }
 
 /// Prints the symbols of a table, or that a name is missing.
 pub(crate) fn print_table(rt: &HostRuntime, words: &str) -> io::Result<()> {
-    match parts_of(rt.alloc(), words) {
-        Err(_) => print_parts(rt, &parts_of(rt.alloc(), words)?),
-        Ok(parts) => print_parts(rt, &parts),
-    }
+    let (class, words) = first(words);
+    let (order, words) = first(words);
+    let (texts, words) = first(words);
+    let texts = bytes_again(rt.alloc(), texts)?;
+    print_with_texts(rt, form_of(class, order), &texts, words)
 }
 
-fn print_parts(rt: &HostRuntime, parts: &Parts) -> io::Result<()> {
-    let versions = match &parts.versions {
-        Some(versions) => Some(versions.as_slice()),
-        None => None,
-    };
-    match Symbols::read(parts.form, &parts.texts, &parts.records, versions) {
+/// The same of a table with these texts.
+fn print_with_texts(rt: &HostRuntime, form: Form, texts: &[u8], words: &str) -> io::Result<()> {
+    let (records, versions) = first(words);
+    let records = bytes_again(rt.alloc(), records)?;
+    print_with_records(rt, form, (texts, &records), versions)
+}
+
+/// The same of a table with these texts and records, without versions where there is no word.
+fn print_with_records(
+    rt: &HostRuntime,
+    form: Form,
+    (texts, records): (&[u8], &[u8]),
+    word: &str,
+) -> io::Result<()> {
+    if word.is_empty() {
+        return print_parts(rt, form, (texts, records), None);
+    }
+    let versions = bytes_again(rt.alloc(), word)?;
+    print_parts(rt, form, (texts, records), Some(&versions))
+}
+
+/// The same of a table in parts.
+fn print_parts<'a>(
+    rt: &HostRuntime,
+    form: Form,
+    (texts, records): (&'a [u8], &'a [u8]),
+    versions: Option<&'a [u8]>,
+) -> io::Result<()> {
+    match Symbols::read(form, texts, records, versions) {
         Some(symbols) => print_read(rt, &symbols),
         None => println!(rt; "a name is missing"),
     }
@@ -110,10 +109,8 @@ fn is_read<'a>(texts: &'a [u8], record: &'a [u8]) -> bool {
 
 /// Prints at which of the first 20 places of a string table a name is that a symbol can have, and a text.
 pub(crate) fn print_places(rt: &HostRuntime, words: &str) -> io::Result<()> {
-    match bytes_of(rt.alloc(), words) {
-        Err(_) => print_each(rt, &bytes_of(rt.alloc(), words)?),
-        Ok(texts) => print_each(rt, &texts),
-    }
+    let texts = bytes_again(rt.alloc(), words)?;
+    print_each(rt, &texts)
 }
 
 fn print_each(rt: &HostRuntime, texts: &[u8]) -> io::Result<()> {

@@ -1,34 +1,31 @@
 //! Batch after batch of edits.
 
 use crate::edits::tell;
-use crate::words::number;
+use crate::words::{Names, filled, number, push};
 use arwen_elf::elf::{ElfBatchError, ElfContainer, ElfEdit, ElfError, Writer};
 use std::alloc::{AllocError, Global};
 use std::io;
 
-/// The batch that a word is: the run path goes, or a page size is set.
-fn batch_of(alloc: Global, word: &str) -> Result<Vec<ElfEdit>, AllocError> {
-    let mut batch = Vec::new(alloc);
-    batch.push(match u32::try_from(number(word)).unwrap_or(0) {
+/// The edit that a word is: the run path goes, or a page size is set.
+fn edit_of(word: &str) -> ElfEdit {
+    match u32::try_from(number(word)).unwrap_or(0) {
         0 => ElfEdit::RemoveRpath,
         size => ElfEdit::SetPageSize(size),
-    })?;
-    Ok(batch)
+    }
 }
 
-fn batches_of(alloc: Global, words: &str) -> Result<Vec<Vec<ElfEdit>>, AllocError> {
-    let mut batches = Vec::new(alloc);
-    for word in words.split(' ') {
-        batches.push(batch_of(alloc, word)?)?;
+/// Each word is a batch of one edit.
+impl Names for Vec<Vec<ElfEdit>> {
+    fn put(&mut self, alloc: Global, word: &str) -> Result<(), AllocError> {
+        push(self, vec![in alloc; edit_of(word)]?)
     }
-    Ok(batches)
 }
 
 /// Answers of batches.
 type Answers = Vec<Result<(), ElfBatchError>>;
 
 fn apply(alloc: Global, file: &mut Writer<'_>, words: &str) -> Result<Answers, AllocError> {
-    let batches = batches_of(alloc, words)?;
+    let batches = filled(alloc, Vec::new(alloc), words)?;
     file.apply_each(alloc, &batches)
 }
 

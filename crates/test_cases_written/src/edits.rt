@@ -1,6 +1,6 @@
 //! Edits of files by the calls of their writer.
 
-use crate::words::{first, number, texts_of};
+use crate::words::{Names, filled, first, number, texts_of};
 use arwen_elf::elf::{ElfContainer, ElfError, Writer};
 use std::alloc::{AllocError, Global};
 use std::collections::{HashMap, HashSet};
@@ -31,23 +31,38 @@ pub fn tell_answer(rt: &HostRuntime, answer: &Result<(), ElfError>) -> io::Resul
 }
 
 /// The names as a set.
-fn set_of(alloc: Global, words: &str) -> Result<HashSet<Vec<u8>>, AllocError> {
-    let mut names = HashSet::new(alloc);
-    for word in words.split(' ') {
-        names.insert(Vec::from_slice(alloc, word.as_bytes())?)?;
+impl Names for HashSet<Vec<u8>> {
+    fn put(&mut self, alloc: Global, word: &str) -> Result<(), AllocError> {
+        let name = Vec::from_slice(alloc, word.as_bytes())?;
+        self.insert(name)?;
+        Ok(())
     }
-    Ok(names)
 }
 
 /// The pairs of an old and a new name as a map; of an old name that comes twice the last pair counts.
-fn map_of(alloc: Global, words: &str) -> Result<HashMap<Vec<u8>, Vec<u8>>, AllocError> {
-    let mut names = HashMap::new(alloc);
-    for word in words.split(' ') {
+impl Names for HashMap<Vec<u8>, Vec<u8>> {
+    fn put(&mut self, alloc: Global, word: &str) -> Result<(), AllocError> {
         let (old, new) = word.split_once('=').unwrap_or((word, ""));
-        let old = Vec::from_slice(alloc, old.as_bytes())?;
-        names.insert(old, Vec::from_slice(alloc, new.as_bytes())?)?;
+        put_pair(alloc, old.as_bytes(), new.as_bytes(), self)
     }
-    Ok(names)
+}
+
+/// Puts a pair into a map.
+fn put_pair(
+    alloc: Global,
+    old: &[u8],
+    new: &[u8],
+    names: &mut HashMap<Vec<u8>, Vec<u8>>,
+) -> Result<(), AllocError> {
+    let key = Vec::from_slice(alloc, old)?;
+    names.insert(key, Vec::from_slice(alloc, new)?)?;
+    Ok(())
+}
+
+/// Renames dynamic symbols by pairs.
+fn rename_symbols(alloc: Global, file: &mut Writer<'_>, pairs: &str) -> Result<(), ElfError> {
+    let names = filled(alloc, HashMap::new(alloc), pairs)?;
+    file.elf_rename_dynamic_symbols(alloc, &names)
 }
 
 /// Does an edit of the dynamic symbols, or another.
@@ -58,13 +73,16 @@ fn edit_symbols(
     values: &str,
 ) -> Result<(), ElfError> {
     match name {
-        "rename-dynamic-symbols" => {
-            let names = map_of(alloc, values)?;
-            file.elf_rename_dynamic_symbols(alloc, &names)
-        }
+        "rename-dynamic-symbols" => rename_symbols(alloc, file, values),
         "clear-symbol-version" => file.elf_clear_symbol_version(alloc, values.as_bytes()),
         _ => edit_paths(alloc, file, name, values),
     }
+}
+
+/// Adds directories to the run path.
+fn add_paths(alloc: Global, file: &mut Writer<'_>, paths: &str) -> Result<(), ElfError> {
+    let texts = texts_of(alloc, paths)?;
+    file.elf_add_runpath(alloc, &texts)
 }
 
 /// Does an edit of the run paths.
@@ -75,13 +93,36 @@ fn edit_paths(
     values: &str,
 ) -> Result<(), ElfError> {
     match name {
-        "add-rpath" => {
-            let texts = texts_of(alloc, values)?;
-            file.elf_add_runpath(alloc, &texts)
-        }
+        "add-rpath" => add_paths(alloc, file, values),
         "set-rpath" => file.elf_set_runpath(alloc, values.as_bytes()),
         "remove-rpath" => file.elf_delete_runpath(),
         _ => Ok(()),
+    }
+}
+
+/// Adds needed libraries.
+fn add_needed(alloc: Global, file: &mut Writer<'_>, names: &str) -> Result<(), ElfError> {
+    let names = texts_of(alloc, names)?;
+    file.elf_add_needed(alloc, &names)
+}
+
+/// Removes needed libraries.
+fn remove_needed(alloc: Global, file: &mut Writer<'_>, names: &str) -> Result<(), ElfError> {
+    let names = filled(alloc, HashSet::new(alloc), names)?;
+    file.elf_delete_needed(alloc, &names)
+}
+
+/// Does an edit of the needed libraries, or another.
+fn edit_needed(
+    alloc: Global,
+    file: &mut Writer<'_>,
+    name: &str,
+    values: &str,
+) -> Result<(), ElfError> {
+    match name {
+        "add-needed" => add_needed(alloc, file, values),
+        "remove-needed" => remove_needed(alloc, file, values),
+        _ => edit_symbols(alloc, file, name, values),
     }
 }
 
@@ -89,10 +130,6 @@ fn edit_paths(
 fn edit(alloc: Global, file: &mut Writer<'_>, words: &str) -> Result<(), ElfError> {
     let (name, values) = first(words);
     match name {
-        "remove-needed" => {
-            let names = set_of(alloc, values)?;
-            file.elf_delete_needed(alloc, &names)
-        }
         "set-soname" => file.elf_set_soname(alloc, values.as_bytes()),
         "set-os-abi" => file.elf_set_osabi(alloc, values),
         "set-exec-stack" => file.elf_set_exec_stack(alloc),
@@ -100,12 +137,8 @@ fn edit(alloc: Global, file: &mut Writer<'_>, words: &str) -> Result<(), ElfErro
             file.allow_dynamic_move();
             Ok(())
         }
-        "add-needed" => {
-            let names = texts_of(alloc, values)?;
-            file.elf_add_needed(alloc, &names)
-        }
         "set-page-size" => file.elf_set_page_size(u32::try_from(number(values)).unwrap_or(0)),
-        _ => edit_symbols(alloc, file, name, values),
+        _ => edit_needed(alloc, file, name, values),
     }
 }
 

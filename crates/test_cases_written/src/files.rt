@@ -40,14 +40,18 @@ fn changed(rt: &HostRuntime, name: &str, changes: &str) -> io::Result<Vec<u8>> {
 
 /// Bytes with a change.
 fn changed_once(alloc: Global, bytes: Vec<u8>, change: &str) -> Result<Vec<u8>, AllocError> {
-    match (change.split_once(':'), change.split_once("..")) {
-        (Some((offset, hex)), _) => overwritten(alloc, bytes, place(offset), hex),
-        (None, Some(("", length))) => resized(alloc, &bytes, place(length)),
-        (None, Some((start, _))) => Vec::from_slice(
-            alloc,
-            bytes.get(place(start)..).unwrap_or(&[]),
-        ),
-        _ => Ok(bytes),
+    match change.split_once(':') {
+        Some((offset, hex)) => overwritten(alloc, bytes, place(offset), hex),
+        None => cut(alloc, bytes, change),
+    }
+}
+
+/// Bytes of another length, or without some in front.
+fn cut(alloc: Global, bytes: Vec<u8>, change: &str) -> Result<Vec<u8>, AllocError> {
+    match change.split_once("..") {
+        Some(("", length)) => resized(alloc, &bytes, place(length)),
+        Some((start, _)) => Vec::from_slice(alloc, bytes.get(place(start)..).unwrap_or(&[])),
+        None => Ok(bytes),
     }
 }
 

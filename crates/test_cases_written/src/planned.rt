@@ -1,5 +1,6 @@
 //! What is written by calls that are handed a plan.
-ghost use Rattle.std.specs.Prelude.{IsTrue};
+ghost use Rattle.std.specs.Prelude.{◌≡◌, IsTrue};
+ghost use Rattle.elf_image.specs.Kept.{image_at_read};
 ghost use Rattle.elf_layout_plan.specs.Plan.{IsPlan, resized};
 ghost use Rattle.elf_layout_plan.specs.Refusals.{do_sizes_of_image_fit};
 
@@ -99,6 +100,21 @@ fn do_pieces_of_read_agree(
     requires sized { IsTrue (do_sizes_of_image_fit image.now) }
 {
     let read = read_source(alloc, image)?;
-    let difference = image_pieces_from_read(alloc, &read, image, plan)?;
+    do_pieces_from_read_agree(alloc, &read, image, plan, new)
+}
+
+/// The same, where its source was read as this image.
+fn do_pieces_from_read_agree<'d>(
+    alloc: Global,
+    read: &Builder<'d>,
+    image: &Builder<'d>,
+    plan: &Plan,
+    new: &[u8],
+) -> Result<bool, LayoutFault>
+    requires read { read.now ≡ image_at_read image.now }
+    requires planned { IsPlan (resized image.now) plan.now }
+    requires sized { IsTrue (do_sizes_of_image_fit image.now) }
+{
+    let difference = image_pieces_from_read(alloc, read, image, plan)?;
     Ok(makes(alloc, image.source(), &difference, new)?)
 }

@@ -27,13 +27,19 @@ pub struct Row<'a>(pub &'a [u8]);
 impl fmt::Display for Row<'_> {
     fn fmt<W: fmt::Write>(&self, f: &mut fmt::Formatter<W>) -> fmt::Result {
         for group in self.0.chunks(4) {
-            write!(f, " ")?;
-            for byte in group {
-                write!(f, "{byte:02x}")?;
-            }
+            put_group(group, f)?;
         }
         Ok(())
     }
+}
+
+/// Puts down a group of bytes behind a blank.
+fn put_group<W: fmt::Write>(group: &[u8], f: &mut fmt::Formatter<W>) -> fmt::Result {
+    write!(f, " ")?;
+    for byte in group {
+        write!(f, "{byte:02x}")?;
+    }
+    Ok(())
 }
 
 /// Bytes as text, a character each, `~` for a NUL.

@@ -34,23 +34,58 @@ fn byte(digits: &[u8]) -> u8 {
     value
 }
 
+/// Puts an item behind others.
+pub(crate) fn push<T: Drop>(items: &mut Vec<T>, item: T) -> Result<(), AllocError> {
+    items.push(item)?;
+    Ok(())
+}
+
 /// The bytes that a word in hex is, none for `-`.
 pub fn bytes_of(alloc: Global, word: &str) -> Result<Vec<u8>, AllocError> {
     let mut made = Vec::new(alloc);
-    if word == "-" {
-        return Ok(made);
-    }
-    for digits in word.as_bytes().chunks(2) {
-        made.push(byte(digits))?;
+    if word != "-" {
+        put_bytes(word, &mut made)?;
     }
     Ok(made)
 }
 
+/// Puts the bytes that a word in hex is behind others.
+fn put_bytes(word: &str, bytes: &mut Vec<u8>) -> Result<(), AllocError> {
+    for digits in word.as_bytes().chunks(2) {
+        push(bytes, byte(digits))?;
+    }
+    Ok(())
+}
+
+/// What words are put into.
+pub(crate) trait Names: Drop {
+    /// Puts a word into it.
+    fn put(&mut self, alloc: Global, word: &str) -> Result<(), AllocError>;
+}
+
+/// The words as texts.
+impl Names for Vec<Vec<u8>> {
+    fn put(&mut self, alloc: Global, word: &str) -> Result<(), AllocError> {
+        push(self, Vec::from_slice(alloc, word.as_bytes())?)
+    }
+}
+
+/// Names with each word of some.
+pub(crate) fn filled<N: Names>(alloc: Global, empty: N, words: &str) -> Result<N, AllocError> {
+    let mut names = empty;
+    put_words(alloc, &mut names, words)?;
+    Ok(names)
+}
+
+/// Puts each word of some into names.
+fn put_words<N: Names>(alloc: Global, names: &mut N, words: &str) -> Result<(), AllocError> {
+    for word in words.split(' ') {
+        names.put(alloc, word)?;
+    }
+    Ok(())
+}
+
 /// The words as texts.
 pub fn texts_of(alloc: Global, words: &str) -> Result<Vec<Vec<u8>>, AllocError> {
-    let mut made = Vec::new(alloc);
-    for word in words.split(' ') {
-        made.push(Vec::from_slice(alloc, word.as_bytes())?)?;
-    }
-    Ok(made)
+    filled(alloc, Vec::new(alloc), words)
 }

@@ -4,36 +4,35 @@ use elf_image::Builder;
 use elf_layout::{LayoutFault, Plan, SectionPlace, lay_out, sizes_of};
 use elf_layout_plan::read_source;
 use std::alloc::{AllocError, Global};
-use test_slow_layout::plain::{Piece, Plain, plain_of};
+use test_slow_layout::plain::{Part, Piece, Plain, plain_of};
 use test_slow_layout::slow::{Found, Slow, lay_out_slowly};
 use test_slow_layout::standing::{Slot, slot_at};
 
 /// A section stands where it was found.
-fn is_place(place: &SectionPlace, part_type: u32, part_flags: u64, slot: &Slot) -> bool {
-    place.sh_type == part_type
-        && place.sh_flags == part_flags
+fn is_place(place: &SectionPlace, part: &Part, slot: &Slot) -> bool {
+    place.sh_type == part.sh_type
+        && place.sh_flags == part.sh_flags
         && u128::from(place.sh_addr) == slot.address
         && u128::from(place.sh_offset) == slot.offset
         && u128::from(place.sh_size) == slot.size
 }
 
-fn are_places(plan: &Plan, plain: &Plain, slow: &Slow) -> bool {
-    if plan.places().len() != plain.parts.len() {
-        return false;
+/// A section has a place, which is the one that was found.
+fn has_place(plan: &Plan, part: &Part, slow: &Slow) -> bool {
+    let slot = slot_at(&slow.standing.slots, part.position);
+    match (plan.places().get(part.position), slot) {
+        (Some(place), Some(slot)) => is_place(place, part, &slot),
+        _ => false,
     }
+}
+
+fn are_places(plan: &Plan, plain: &Plain, slow: &Slow) -> bool {
     for part in &plain.parts {
-        let is_one = match (
-            plan.places().get(part.position),
-            slot_at(&slow.standing.slots, part.position),
-        ) {
-            (Some(place), Some(slot)) => is_place(place, part.sh_type, part.sh_flags, &slot),
-            _ => false,
-        };
-        if !is_one {
+        if !has_place(plan, part, slow) {
             return false;
         }
     }
-    true
+    plan.places().len() == plain.parts.len()
 }
 
 /// A program header is the one that was found.

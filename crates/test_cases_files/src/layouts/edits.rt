@@ -13,9 +13,10 @@ pub(crate) fn compare(
     if before.is_empty() {
         return compare_once(alloc, bytes, last);
     }
-    match write_all(alloc, bytes, before)? {
-        Some(bytes) => compare_once(alloc, &bytes, last),
-        None => Ok("not written"),
+    match write_all(alloc, bytes, before) {
+        Ok(bytes) => compare_once(alloc, &bytes, last),
+        Err(ElfError::Memory) => Err(AllocError),
+        Err(_) => Ok("not written"),
     }
 }
 
@@ -28,17 +29,13 @@ fn compare_once(alloc: Global, bytes: &[u8], words: &str) -> Result<&'static str
     }
 }
 
-/// The bytes of a file after edits by words, written before each word `again` and at the end; `None` where it isn't written.
-fn write_all(alloc: Global, bytes: &[u8], words: &str) -> Result<Option<Vec<u8>>, AllocError> {
+/// The bytes of a file after edits by words, written before each word `again` and at the end.
+fn write_all(alloc: Global, bytes: &[u8], words: &str) -> Result<Vec<u8>, ElfError> {
     let mut file = Vec::from_slice(alloc, bytes)?;
     for part in words.split(" again ") {
-        match write_once(alloc, &file, part) {
-            Ok(written) => file = written,
-            Err(ElfError::Memory) => return Err(AllocError),
-            Err(_) => return Ok(None),
-        }
+        file = write_once(alloc, &file, part)?;
     }
-    Ok(Some(file))
+    Ok(file)
 }
 
 /// The bytes of a file after edits by words.
