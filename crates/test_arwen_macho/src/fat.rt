@@ -1,6 +1,6 @@
 //! Fat files: their slices are edited as one.
 
-use crate::containers::{Edit, Step, walk};
+use crate::containers::{Edit, Step, walk_fat};
 use crate::support::{Runtime, put, same, shows};
 use arwen_macho::macho::{
     FatMachoContainer, Front, MachoBatchError, MachoContainer, MachoEdit, MachoError, lay_fronts,
@@ -73,8 +73,7 @@ pub(crate) fn joined(alloc: Global, slices: &[(u32, &[u8])]) -> Result<Vec<u8>, 
 // Takes steps in a fat file of slices, by the calls of both containers. Places are those in the whole file.
 fn walks(rt: &impl Runtime, slices: &[(u32, &[u8])], steps: &[Step<'_>]) {
     let file = sure!(rt; joined(rt.alloc(), slices));
-    walk::<FatMachoContainer<'_>, _>(rt, &file, &[0], steps);
-    walk::<MachoContainer<'_>, _>(rt, &file, &[0], steps);
+    walk_fat(rt, &file, &[0], steps);
 }
 
 // Slices of three forms.

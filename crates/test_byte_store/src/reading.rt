@@ -61,9 +61,13 @@ fn expect_folder<S: Store>(rt: &impl Runtime, store: &mut S) {
     same(rt, "failures", &(is_fault, store.failures()), &(true, 1));
 }
 
+fn expect_folder_at<R: Runtime + Files>(rt: &R, path: &str) {
+    expect_folder(rt, &mut sure!(rt; FileStore::open(rt, path)));
+}
+
 #[test]
 fn folder_that_is_read(rt: HostRuntime) {
-    expect_folder(&rt, &mut sure!(&rt; FileStore::open(&rt, ".")));
+    expect_folder_at(&rt, ".");
 }
 
 // A file that is created, and gets two bytes.
@@ -108,11 +112,20 @@ const XY: [Piece<'static>; 1] = [Piece {
     bytes: b"XY",
 }];
 
-// Loads a file of six bytes, and lays a piece over it.
-fn patch<R: Runtime + Files>(rt: &R, store: &mut FileStore<'_, R>) {
+// Loads a store of six bytes.
+fn expect_six_bytes<S: Store>(rt: &impl Runtime, store: &mut S) {
     expect!(rt; load_whole(rt.alloc(), store, 9), Some(6), b"abcdef");
-    let is_laid = store.open_for_writing().is_ok() && write_pieces(store, 6, &XY).is_ok();
-    same(rt, "is laid", &is_laid, &true);
+}
+
+// Lays a piece over a file of six bytes.
+fn is_laid<R: Files>(file: &mut FileStore<'_, R>) -> bool {
+    file.open_for_writing().is_ok() && write_pieces(file, 6, &XY).is_ok()
+}
+
+// Loads a file of six bytes, and lays a piece over it.
+fn patch<R: Runtime + Files>(rt: &R, file: &mut FileStore<'_, R>) {
+    expect_six_bytes(rt, file);
+    same(rt, "is laid", &is_laid(file), &true);
 }
 
 fn expect_patched<R: Runtime + Files>(rt: &R, path: &str) {

@@ -5,22 +5,22 @@ use patch_bytes::ByteString;
 use std::alloc::{AllocError, Global};
 
 // Whether a string's bytes are lent to be changed. None are where memory is refused.
-fn is_lent(rt: &impl Runtime, string: &mut ByteString<'_>) -> bool {
-    string.to_mut(rt.alloc()).is_ok()
+fn is_lent(alloc: Global, string: &mut ByteString<'_>) -> bool {
+    string.to_mut(alloc).is_ok()
 }
 
-// Bytes that a string owns are lent without memory. One that cannot be copied stays as it was, and is then.
-fn lend(rt: &impl Runtime, string: &mut ByteString<'_>, bytes: &[u8]) {
+// Whether bytes that a string owns are lent without memory. One that cannot be copied stays as it was, and is then.
+fn is_lent_twice(alloc: Global, string: &mut ByteString<'_>, bytes: &[u8]) -> bool {
     let was_owned = string.is_owned();
-    let is_first = is_lent(rt, string) || !was_owned;
+    let is_first = is_lent(alloc, string) || !was_owned;
     let stays = string.as_slice() == bytes;
-    let is_second = is_lent(rt, string);
-    let found = (
-        is_first && stays && is_second,
-        string.is_owned(),
-        string.as_slice(),
-    );
-    same(rt, "lent", &found, &(true, true, bytes));
+    is_lent(alloc, string) && is_first && stays
+}
+
+fn lend(rt: &impl Runtime, string: &mut ByteString<'_>, bytes: &[u8]) {
+    let is_lent = is_lent_twice(rt.alloc(), string, bytes) && string.is_owned();
+    same(rt, "is lent", &is_lent, &true);
+    same_bytes(rt, "lent", string.as_slice(), bytes);
 }
 
 fn push(alloc: Global, string: &mut ByteString<'_>) -> Result<(), AllocError> {

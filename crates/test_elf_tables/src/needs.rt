@@ -5,11 +5,11 @@ ghost use Rattle.elf_image.specs.ImageModel.{needs_model};
 ghost use Rattle.elf_tables.specs.Strings.{place_of};
 ghost use Rattle.elf_tables.specs.VersionRecords.{has_needs_texts};
 
-use crate::support::{Runtime, table_of};
+use crate::support::{Failure, Runtime, answers, table_of};
 use elf_image::{VersionNeed, VersionNeedName};
 use elf_tables::{Finished, build_verneed};
 use patch_bytes::{ByteOrder2, ByteString};
-use std::alloc::AllocError;
+use std::alloc::{AllocError, Global};
 
 // Whether a table has the names of these versions.
 fn has_all(versions: &[VersionNeedName<'_>], table: &Finished<'_>) -> bool
@@ -47,10 +47,10 @@ type Needs<'n> = (&'static [u8], &'n [(u16, u16, &'static [u8])]);
 
 // The versions as they are kept.
 fn kept_versions(
-    rt: &impl Runtime,
+    alloc: Global,
     versions: &[(u16, u16, &'static [u8])],
 ) -> Result<Vec<VersionNeedName<'static>>, AllocError> {
-    let mut kept = Vec::new(rt.alloc());
+    let mut kept = Vec::new(alloc);
     for (index, flags, name) in versions {
         kept.push(VersionNeedName {
             index: *index,
@@ -61,17 +61,20 @@ fn kept_versions(
     Ok(kept)
 }
 
+// A library as it is kept.
+fn kept_library(alloc: Global, library: &Needs<'_>) -> Result<VersionNeed<'static>, AllocError> {
+    let versions = kept_versions(alloc, library.1)?;
+    Ok(VersionNeed {
+        file: ByteString::borrowed(library.0),
+        versions,
+    })
+}
+
 // The libraries as they are kept.
-fn kept(
-    rt: &impl Runtime,
-    libraries: &[Needs<'_>],
-) -> Result<Vec<VersionNeed<'static>>, AllocError> {
-    let mut kept = Vec::new(rt.alloc());
-    for (file, versions) in libraries {
-        kept.push(VersionNeed {
-            file: ByteString::borrowed(file),
-            versions: kept_versions(rt, versions)?,
-        })?;
+fn kept(alloc: Global, libraries: &[Needs<'_>]) -> Result<Vec<VersionNeed<'static>>, AllocError> {
+    let mut kept = Vec::new(alloc);
+    for library in libraries {
+        kept.push(kept_library(alloc, library)?)?;
     }
     Ok(kept)
 }
@@ -84,15 +87,21 @@ struct Row<'n> {
     bytes: Option<&'static [u8]>,
 }
 
-// Compares the table of versions whose texts stand in another.
-fn expect(rt: &impl Runtime, row: &Row<'_>, table: &Finished<'_>, records: &[VersionNeed<'_>]) {
-    assert!(rt; has_names(records, table), "texts of versions");
-    expect!(rt; build_verneed(rt.alloc(), records, table, ByteOrder2::Little), row.bytes);
+// The bytes of the table of versions whose texts stand in another.
+fn built(
+    alloc: Global,
+    records: &[VersionNeed<'_>],
+    table: &Finished<'_>,
+) -> Result<Vec<u8>, Failure> {
+    if !has_names(records, table) {
+        return Err(Failure::Unmet);
+    }
+    Ok(build_verneed(alloc, records, table, ByteOrder2::Little)?)
 }
 
-fn follow(rt: &impl Runtime, row: &Row<'_>) {
-    let records = sure!(rt; kept(rt, row.libraries));
-    expect(rt, row, &table_of(rt, row.texts), &records);
+fn built_of(alloc: Global, row: &Row<'_>) -> Result<Vec<u8>, Failure> {
+    let table = table_of(alloc, row.texts)?;
+    built(alloc, &kept(alloc, row.libraries)?, &table)
 }
 
 const NEEDED: [Row<'static>; 2] = [
@@ -116,27 +125,37 @@ const NEEDED: [Row<'static>; 2] = [
     },
 ];
 
+fn expect(rt: &impl Runtime, row: &Row<'_>) {
+    let found = again!(rt; built_of(rt.alloc(), row));
+    answers(rt, "needed versions", &found, row.bytes);
+}
+
 #[test]
 fn needed_versions(rt: HostRuntime) {
     for row in &NEEDED {
-        follow(&rt, row);
+        expect(&rt, row);
     }
 }
 
 // One version, again and again.
-fn repeated_version(rt: &impl Runtime) -> Result<Vec<(u16, u16, &'static [u8])>, AllocError> {
-    let mut versions: Vec<(u16, u16, &'static [u8])> = Vec::new(rt.alloc());
+fn repeated_version(alloc: Global) -> Result<Vec<(u16, u16, &'static [u8])>, AllocError> {
+    let mut versions: Vec<(u16, u16, &'static [u8])> = Vec::new(alloc);
     versions.resize(65_536, (2, 0, b"abc"))?;
     Ok(versions)
 }
 
-#[test]
-fn too_many_versions(rt: HostRuntime) {
-    let versions = sure!(&rt; repeated_version(&rt));
+fn many_built(alloc: Global) -> Result<Vec<u8>, Failure> {
+    let versions = repeated_version(alloc)?;
     let row = Row {
         libraries: &[(b"abc", &versions)],
         texts: &[b"abc"],
         bytes: None,
     };
-    follow(&rt, &row);
+    built_of(alloc, &row)
+}
+
+#[test]
+fn too_many_versions(rt: HostRuntime) {
+    let found = settled!(many_built(rt.alloc()));
+    answers(&rt, "too many versions", &found, None);
 }

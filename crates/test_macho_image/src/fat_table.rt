@@ -124,11 +124,15 @@ const FRONTS: [(&[u8], MachFault); 7] = [
     (b"\xca\xfe\xba\xbf\0\0\0\0", MachFault::BadMagic),
 ];
 
+fn expect_fault(rt: &impl Runtime, bytes: &[u8], fault: MachFault) {
+    let found = again!(rt; answer_of(rt, bytes, &[]));
+    same(rt, "a front's fault", &found, &Err(fault));
+}
+
 #[test]
 fn refuses_other_fronts(rt: HostRuntime) {
     for (bytes, fault) in &FRONTS {
-        let found = again!(&rt; answer_of(&rt, bytes, &[]));
-        same(&rt, "a front's fault", &found, &Err(*fault));
+        expect_fault(&rt, bytes, *fault);
     }
 }
 

@@ -176,7 +176,9 @@ ByteString { source: [0, 0, 0, 27, 0, 0, 0, 24, 0, 0, 0, 1, 0, 0, 0, 2, 0, 0, 0,
 copy: None }]";
 
 // A file, and what it shows.
-const SHOWN: [(&[u8], What, &str); 34] = [
+type Shown = (&'static [u8], What, &'static str);
+
+const SHOWN: [Shown; 34] = [
     (NARROW_LITTLE, What::Header, NARROW_HEADER),
     (
         NARROW_LITTLE,
@@ -234,12 +236,21 @@ const SHOWN: [(&[u8], What, &str); 34] = [
     (WITH_EMPTY_PATH, What::Libraries, "[]"),
 ];
 
+fn expect_both(rt: &impl Runtime, row: &Shown) -> Result<(), MachFault> {
+    expect_lent(rt, row.0, row.1, row.2)?;
+    expect_owned(rt, row.0, row.1, row.2)
+}
+
+// Looks at each file. (A table is kept in the frame of the test that names it, so the loop stands apart.)
+fn look_at_each(rt: &impl Runtime, rows: &[Shown]) {
+    for row in rows {
+        sure!(rt; expect_both(rt, row));
+    }
+}
+
 #[test]
 fn shows_files(rt: HostRuntime) {
-    for (bytes, what, want) in &SHOWN {
-        sure!(&rt; expect_lent(&rt, bytes, *what, want));
-        sure!(&rt; expect_owned(&rt, bytes, *what, want));
-    }
+    look_at_each(&rt, &SHOWN);
 }
 
 // The bytes that a file hands out which was not edited: lent ones, and its own.
@@ -318,11 +329,15 @@ const FRONTS: [Front; 9] = [
     ),
 ];
 
+fn refuse_each(rt: &impl Runtime, rows: &[Front]) {
+    for row in rows {
+        sure!(rt; expect_answer(rt, row.0, row.1, row.2));
+    }
+}
+
 #[test]
 fn refuses_headers(rt: HostRuntime) {
-    for (what, bytes, want) in &FRONTS {
-        sure!(&rt; expect_answer(&rt, what, bytes, want));
-    }
+    refuse_each(&rt, &FRONTS);
 }
 
 // A wide file of 640 bytes, low byte first: its two counts and six words behind its header, and what is told of it.
