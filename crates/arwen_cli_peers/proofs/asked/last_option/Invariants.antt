@@ -1,7 +1,7 @@
 use Rattle.std.proofs.Common.{◌≡◌, drop, map, option_map, string_bytes}
 use Rattle.arwen_cli_peers.specs.EditWords.{asked_model, last_from, last_of}
 use Rattle.arwen_cli_peers.specs.Options.{values_of}
-use Rattle.arwen_cli_peers.proofs.asked.last_of.Given as goal
+use Rattle.arwen_cli_peers.proofs.asked.last_option.Given as goal
 
 -- the last of the options that are left, or else of those so far, is the last of all
 abbrev pub invariant-loop-option : goal.invariant-loop-option
