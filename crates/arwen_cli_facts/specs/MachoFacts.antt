@@ -11,7 +11,7 @@ use Rattle.macho_image.specs.declared.format.Ctx.{Ctx}
 use Rattle.macho_edits.specs.State.{available_in, laid_bytes}
 use Rattle.arwen_macho.specs.FatState.{Slice}
 use Rattle.arwen_elf.specs.Prints.{lossily}
-use Rattle.arwen_cli_signatures.specs.SignatureFacts.{SignatureFacts, signature_facts, signature_model}
+use Rattle.arwen_cli_facts.specs.SignatureFacts.{SignatureFacts, signature_facts, signature_model}
 use Rattle.arwen_cli_facts.specs.Texts.{text_model, texts_model}
 use Rattle.arwen_cli_facts.specs.declared.macho.MachoNames.{MachoNames}
 use Rattle.arwen_cli_facts.specs.declared.macho.MachoSummary.{MachoSummary}

@@ -5,12 +5,12 @@ ghost use Rattle.macho_image.specs.Commands.{libs_of, load_commands_of, rpaths_o
 ghost use Rattle.macho_edits.specs.State.{laid_bytes};
 ghost use Rattle.arwen_macho.specs.FatSlice.{slice_model};
 ghost use Rattle.arwen_elf.specs.Prints.{lossily};
-ghost use Rattle.arwen_cli_signatures.specs.SignatureFacts.{signature_facts, signature_model};
+ghost use Rattle.arwen_cli_facts.specs.SignatureFacts.{signature_facts, signature_model};
 ghost use Rattle.arwen_cli_facts.specs.MachoFacts.{MachoNamesOf, header_pad_of, is_signature as tells_signature, macho_facts, macho_model, slice_told, told_slice};
 ghost use Rattle.arwen_cli_facts.specs.Texts.{texts_model};
 
+use crate::signature::{SignatureSummary, signature_summary};
 use crate::text::{text_if, texts_of};
-use arwen_cli_signatures::{SignatureSummary, signature_summary};
 use arwen_macho::macho::{CommandVariant, Ctx, FatMacho, LoadCommand, MachO, SingleMachO};
 use macho_edits::room::{available, commands_end};
 use std::alloc::{AllocError, Global};

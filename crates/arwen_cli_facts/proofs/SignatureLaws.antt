@@ -2,7 +2,7 @@
 use Rattle.std.proofs.Common.{◌≡◌, ℕ, List, Some, refl, subst, Option}
 use Rattle.macho_signatures.specs.declared.signature.Signature.{Signature}
 use Rattle.macho_signing.specs.Thin.{Holds, HoldsSignature, has_identity, thin_directories}
-use Rattle.arwen_cli_signatures.specs.SignatureFacts.{ContentsFacts, contents_facts, facts_held, readable}
+use Rattle.arwen_cli_facts.specs.SignatureFacts.{ContentsFacts, contents_facts, facts_held, readable}
 
 -- the directories that are read are the file's, and so is whether an identity signed
 directories_are : (bytes : List ℕ) (found : Signature) (holds : HoldsSignature bytes found) → thin_directories bytes ≡ found.directories.items

@@ -3,7 +3,7 @@ ghost use Rattle.std.specs.Prelude.{◌≡◌, ◌≢◌, IfOk, drop, length, ma
 ghost use Rattle.macho_signatures.specs.Pages.{unfit_from};
 ghost use Rattle.macho_signing.specs.Thin.{Holds, HoldsSignature};
 ghost use Rattle.macho_signing.specs.declared.fault.SigningFault.TheVariants.{Memory};
-ghost use Rattle.arwen_cli_signatures.specs.SignatureFacts.{contents_facts, contents_model, facts_held, fault_facts, identifier_of, is_linker_signed, kind_of, lossily, signature_facts, signature_model};
+ghost use Rattle.arwen_cli_facts.specs.SignatureFacts.{contents_facts, contents_model, facts_held, fault_facts, identifier_of, is_linker_signed, kind_of, lossily, signature_facts, signature_model};
 
 use bstr::ByteSlice;
 use macho_signatures::{Directory, HashKind, Signature};
@@ -14,7 +14,7 @@ use std::alloc::{AllocError, Global};
 pub const CS_LINKER_SIGNED: u32 = 0x2_0000;
 
 /// Who made a code signature.
-#[derive(Clone, Copy, Debug, PartialEq, Eq)]
+#[derive(Clone, Copy, PartialEq, Eq)]
 pub enum SignatureKind {
     /// No identity signed.
     AdHoc,
@@ -25,7 +25,7 @@ pub enum SignatureKind {
 }
 
 /// What a code signature says.
-#[derive(Debug, Drop)]
+#[derive(Drop)]
 pub struct SignatureContents {
     /// Who made it.
     pub kind: SignatureKind,
@@ -38,7 +38,7 @@ pub struct SignatureContents {
 }
 
 /// What is told of a code signature.
-#[derive(Debug, Drop)]
+#[derive(Drop)]
 pub enum SignatureSummary {
     /// What it says.
     Read(SignatureContents),

@@ -1,6 +1,6 @@
-use Rattle.arwen_cli_signatures.specs.SignatureFacts.{contents_model}
-use Rattle.arwen_cli_signatures.proofs.FactLaws.{facts_of_held}
-use Rattle.arwen_cli_signatures.proofs.summary.summary_of.Goals as goal
+use Rattle.arwen_cli_facts.specs.SignatureFacts.{contents_model}
+use Rattle.arwen_cli_facts.proofs.SignatureLaws.{facts_of_held}
+use Rattle.arwen_cli_facts.proofs.signature.summary_of.Goals as goal
 
 pub returns-in_ok-contents-in-Some : goal.returns-in_ok-contents-in-Some
 returns-in_ok-contents-in-Some c =

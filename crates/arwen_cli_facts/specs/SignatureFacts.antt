@@ -8,12 +8,12 @@ use Rattle.macho_signing.specs.Place.{signature_place}
 use Rattle.macho_signing.specs.Thin.{has_identity, thin_directories, thin_fault}
 use Rattle.macho_signing.specs.declared.fault.SigningFault.{SigningFault}
 use Rattle.macho_signing.specs.declared.place.Place.{Place}
-use Rattle.arwen_cli_signatures.specs.declared.summary.SignatureContents.{SignatureContents}
-use Rattle.arwen_cli_signatures.specs.declared.summary.SignatureKind.{SignatureKind}
-use Rattle.arwen_cli_signatures.specs.declared.summary.SignatureKind.TheVariants.{AdHoc, Identity, LinkerSigned}
-use Rattle.arwen_cli_signatures.specs.declared.summary.SignatureSummary.{SignatureSummary}
-use Rattle.arwen_cli_signatures.specs.declared.summary.SignatureSummary.TheVariants.{Read, Refused}
-use Rattle.arwen_cli_signatures.specs.declared.summary.TheConstants.{CS_LINKER_SIGNED}
+use Rattle.arwen_cli_facts.specs.declared.signature.SignatureContents.{SignatureContents}
+use Rattle.arwen_cli_facts.specs.declared.signature.SignatureKind.{SignatureKind}
+use Rattle.arwen_cli_facts.specs.declared.signature.SignatureKind.TheVariants.{AdHoc, Identity, LinkerSigned}
+use Rattle.arwen_cli_facts.specs.declared.signature.SignatureSummary.{SignatureSummary}
+use Rattle.arwen_cli_facts.specs.declared.signature.SignatureSummary.TheVariants.{Read, Refused}
+use Rattle.arwen_cli_facts.specs.declared.signature.TheConstants.{CS_LINKER_SIGNED}
 
 pub record ContentsFacts : Type 0 where
   pub kind : SignatureKind

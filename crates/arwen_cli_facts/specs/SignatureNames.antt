@@ -8,8 +8,8 @@ use Rattle.macho_signatures.specs.declared.fault.SignatureFault.{SignatureFault}
 use Rattle.macho_signatures.specs.declared.fault.SignatureFault.TheVariants as signature
 use Rattle.macho_signing.specs.declared.fault.SigningFault.{SigningFault}
 use Rattle.macho_signing.specs.declared.fault.SigningFault.TheVariants as signing
-use Rattle.arwen_cli_signatures.specs.declared.summary.SignatureKind.{SignatureKind}
-use Rattle.arwen_cli_signatures.specs.declared.summary.SignatureKind.TheVariants.{AdHoc, Identity, LinkerSigned}
+use Rattle.arwen_cli_facts.specs.declared.signature.SignatureKind.{SignatureKind}
+use Rattle.arwen_cli_facts.specs.declared.signature.SignatureKind.TheVariants.{AdHoc, Identity, LinkerSigned}
 
 abbrev pub kind_name : SignatureKind → List ℕ
 kind_name AdHoc = codes "ad hoc"

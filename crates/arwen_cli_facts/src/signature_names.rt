@@ -1,8 +1,8 @@
 //! The words for what is told of a code signature.
 ghost use Rattle.std.specs.Prelude.{◌≡◌, IfOk, map, string_bytes};
-ghost use Rattle.arwen_cli_signatures.specs.Names.{fault_name as fault_told, file_fault_name as file_fault_told, hash_name as hash_told, kind_name as kind_told, signature_fault_name as signature_fault_told};
+ghost use Rattle.arwen_cli_facts.specs.SignatureNames.{fault_name as fault_told, file_fault_name as file_fault_told, hash_name as hash_told, kind_name as kind_told, signature_fault_name as signature_fault_told};
 
-use crate::summary::SignatureKind;
+use crate::signature::SignatureKind;
 use macho_image::MachFault;
 use macho_signatures::{HashKind, SignatureFault};
 use macho_signing::SigningFault;

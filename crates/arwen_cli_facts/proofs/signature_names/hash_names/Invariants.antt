@@ -1,6 +1,6 @@
 use Rattle.std.proofs.Common.{◌≡◌, map, string_bytes, take}
-use Rattle.arwen_cli_signatures.specs.Names.{hash_name}
-use Rattle.arwen_cli_signatures.proofs.names.hash_names.Given as goal
+use Rattle.arwen_cli_facts.specs.SignatureNames.{hash_name}
+use Rattle.arwen_cli_facts.proofs.signature_names.hash_names.Given as goal
 
 -- the names so far
 abbrev pub invariant-loop-hash : goal.invariant-loop-hash

@@ -1,5 +1,5 @@
 use Rattle.std.proofs.Common.{◌≡◌, map, take}
-use Rattle.arwen_cli_signatures.proofs.summary.hashes_of.Given as goal
+use Rattle.arwen_cli_facts.proofs.signature.hashes_of.Given as goal
 
 -- the hashes of the directories so far
 abbrev pub invariant-loop-directory : goal.invariant-loop-directory
