@@ -4,7 +4,7 @@ use Rattle.std.specs.Str.{bytes_eq}
 use Rattle.command_words.specs.Rows.{Text}
 use Rattle.command_words.specs.declared.noting.Notes.{Notes}
 use Rattle.command_words.specs.declared.noting.Notes.TheVariants.{LeftOut, Wanted}
-use Rattle.arwen_cli_options.specs.Flags.{has_flag, is_move_word, is_quiet_word, is_sign_word, without_flag}
+use Rattle.arwen_cli_peers.specs.Flags.{has_flag, is_move_word, is_quiet_word, is_sign_word, without_flag}
 
 -- a line leaves notes out
 abbrev pub is_quiet : List Text → Bool

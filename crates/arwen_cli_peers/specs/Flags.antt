@@ -2,8 +2,8 @@
 use Rattle.std.specs.Prelude.{Bool, true, false, ◌||◌, List, [], ◌∷◌, codes, if◌then◌else◌}
 use Rattle.std.specs.Str.{bytes_eq}
 use Rattle.command_words.specs.Rows.{Text}
-use Rattle.arwen_cli_options.specs.declared.flags.Flag.{Flag}
-use Rattle.arwen_cli_options.specs.declared.flags.Flag.TheVariants.{MoveDynamic, Quiet, Sign}
+use Rattle.arwen_cli_peers.specs.declared.flags.Flag.{Flag}
+use Rattle.arwen_cli_peers.specs.declared.flags.Flag.TheVariants.{MoveDynamic, Quiet, Sign}
 
 -- the word behind which all are values
 abbrev pub is_mark : Text → Bool

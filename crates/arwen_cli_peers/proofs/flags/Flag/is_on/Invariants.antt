@@ -1,6 +1,6 @@
 use Rattle.std.proofs.Common.{◌≡◌, drop, map}
-use Rattle.arwen_cli_options.specs.Flags.{has_flag, is_flag_word}
-use Rattle.arwen_cli_options.proofs.flags.Flag.is_on.Given as goal
+use Rattle.arwen_cli_peers.specs.Flags.{has_flag, is_flag_word}
+use Rattle.arwen_cli_peers.proofs.flags.Flag.is_on.Given as goal
 
 -- no word so far tells
 abbrev pub invariant-loop-word : goal.invariant-loop-word

@@ -1,6 +1,6 @@
 //! The options that may stand anywhere on a line before `--` and take no value.
 ghost use Rattle.std.specs.Prelude.{◌≡◌, IfOk, map};
-ghost use Rattle.arwen_cli_options.specs.Flags.{has_flag, is_flag_word, is_mark as marks_values, without_flag};
+ghost use Rattle.arwen_cli_peers.specs.Flags.{has_flag, is_flag_word, is_mark as marks_values, without_flag};
 
 use std::alloc::{AllocError, Global};
 

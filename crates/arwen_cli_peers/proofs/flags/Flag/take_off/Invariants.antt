@@ -1,6 +1,6 @@
 use Rattle.std.proofs.Common.{◌≡◌, ◌++◌, drop, if◌then◌else◌, map}
-use Rattle.arwen_cli_options.specs.Flags.{is_flag_word, without_flag}
-use Rattle.arwen_cli_options.proofs.flags.Flag.take_off.Given as goal
+use Rattle.arwen_cli_peers.specs.Flags.{is_flag_word, without_flag}
+use Rattle.arwen_cli_peers.proofs.flags.Flag.take_off.Given as goal
 
 -- the words so far, with what stays of those that are left
 abbrev pub invariant-loop-word : goal.invariant-loop-word

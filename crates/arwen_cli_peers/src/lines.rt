@@ -1,6 +1,6 @@
 //! What lines ask by the options that stand anywhere on them.
 ghost use Rattle.std.specs.Prelude.{◌≡◌, IfOk, map};
-ghost use Rattle.arwen_cli_options.specs.Lines.{is_elf_line as is_for_elf, is_macho_line as is_for_macho, is_moving_line, is_quiet as is_line_quiet, is_signed_line, unsigned, without_move as unmoved_words, without_quiet as heard_of};
+ghost use Rattle.arwen_cli_peers.specs.Lines.{is_elf_line as is_for_elf, is_macho_line as is_for_macho, is_moving_line, is_quiet as is_line_quiet, is_signed_line, unsigned, without_move as unmoved_words, without_quiet as heard_of};
 
 use crate::flags::Flag;
 use std::alloc::{AllocError, Global};
