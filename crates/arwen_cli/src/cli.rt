@@ -2,7 +2,7 @@
 ghost use Rattle.std.specs.Prelude.{◌≡◌, false, IfErr, IsSome, OnOk, map};
 ghost use Rattle.arwen_cli.specs.Line.{ElfMayFail, LineMayFail, MachoMayFail, MeaningMayFail, ShowMayFail, has_option, meaning_of};
 ghost use Rattle.arwen_cli.specs.Meaning.{shown};
-ghost use Rattle.arwen_cli_options.specs.Lines.{notes_asked};
+ghost use Rattle.arwen_cli_peers.specs.Lines.{notes_asked};
 ghost use Rattle.arwen_cli.specs.Signing.{signing_asked};
 ghost use Rattle.elf_commands.specs.Meaning.{elf_command_model};
 ghost use Rattle.macho_commands.specs.Meaning.{macho_command_model};
@@ -14,7 +14,7 @@ mod line;
 mod parser;
 mod telling;
 
-use arwen_cli_options::{is_quiet, is_signed_by};
+use arwen_cli_peers::{is_quiet, is_signed_by};
 pub use arwen_cli_show as show;
 use arwen_cli_show::Args;
 pub use command::Command;

@@ -1,3 +1,4 @@
 pub mod FirstSteps
 pub mod NulSteps
+pub mod SignatureLaws
 pub mod SliceLaws

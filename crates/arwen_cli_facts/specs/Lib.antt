@@ -4,4 +4,6 @@ pub mod MachoFacts
 pub mod Names
 pub mod Reasons
 pub mod Refusals
+pub mod SignatureFacts
+pub mod SignatureNames
 pub mod Texts

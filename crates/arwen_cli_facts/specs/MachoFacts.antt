@@ -1,5 +1,5 @@
 -- What is told of a Mach-O file: each fact is what its header and its load commands say.
-use Rattle.std.specs.Prelude.{ℕ, ◌-◌, ◌==◌, List, map, Bool, false, Option, option_map}
+use Rattle.std.specs.Prelude.{ℕ, ◌≡◌, ◌-◌, ◌==◌, List, map, Bool, false, Option, option_map}
 use Rattle.std.specs.List.{list_any}
 use Rattle.macho_image.specs.Commands.{id_of, libs_of, load_commands_of, rpaths_of}
 use Rattle.macho_image.specs.Fat.{slice_of}
@@ -11,8 +11,9 @@ use Rattle.macho_image.specs.declared.format.Ctx.{Ctx}
 use Rattle.macho_edits.specs.State.{available_in, laid_bytes}
 use Rattle.arwen_macho.specs.FatState.{Slice}
 use Rattle.arwen_elf.specs.Prints.{lossily}
-use Rattle.arwen_cli_signatures.specs.SignatureFacts.{SignatureFacts, signature_facts, signature_model}
+use Rattle.arwen_cli_facts.specs.SignatureFacts.{SignatureFacts, signature_facts, signature_model}
 use Rattle.arwen_cli_facts.specs.Texts.{text_model, texts_model}
+use Rattle.arwen_cli_facts.specs.declared.macho.MachoNames.{MachoNames}
 use Rattle.arwen_cli_facts.specs.declared.macho.MachoSummary.{MachoSummary}
 use Rattle.arwen_cli_facts.specs.declared.macho.SliceSummary.{SliceSummary}
 use Rattle.arwen_cli_facts.specs.declared.macho.TheConstants.{LC_CODE_SIGNATURE}
@@ -78,6 +79,12 @@ macho_facts bytes = record {
   signature = signature_facts bytes;
   header_pad = header_pad_of bytes;
 }
+
+-- the texts of a file
+pub record MachoNamesOf (bytes : List ℕ) (names : MachoNames) : Type 0 where
+  pub id : text_model names.id ≡ option_map lossily (id_of bytes)
+  pub libraries : texts_model names.libraries.items ≡ map lossily (libs_of bytes)
+  pub run_paths : texts_model names.run_paths.items ≡ map lossily (rpaths_of bytes)
 
 abbrev pub slice_facts : List ℕ → FatArch → SliceFacts
 slice_facts bytes arch = record { offset = arch.offset; size = arch.size; file = macho_facts (slice_of bytes arch) }

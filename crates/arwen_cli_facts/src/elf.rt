@@ -21,7 +21,7 @@ use std::alloc::{AllocError, Global};
 pub const DF_1_PIE: u64 = 0x0800_0000;
 
 /// What an ELF file is for.
-#[derive(Clone, Copy, Debug, PartialEq, Eq)]
+#[derive(Clone, Copy, PartialEq, Eq)]
 pub enum ElfKind {
     /// A program with addresses of its own (`ET_EXEC`).
     Program,
@@ -34,7 +34,7 @@ pub enum ElfKind {
 }
 
 /// A library that an ELF file needs.
-#[derive(Debug, Drop)]
+#[derive(Drop)]
 pub struct NeededLibrary {
     /// Its name (`DT_NEEDED`).
     pub name: String,
@@ -43,7 +43,7 @@ pub struct NeededLibrary {
 }
 
 /// What is told of an ELF file. Texts have U+FFFD for what is no character.
-#[derive(Debug, Drop)]
+#[derive(Drop)]
 pub struct ElfSummary {
     /// What it is for.
     pub kind: ElfKind,
@@ -89,11 +89,20 @@ pub fn elf_summary(alloc: Global, bytes: &[u8]) -> Result<ElfSummary, ElfError>
         (λ e. RefusesRead e (image_of bytes.now)) }
 {
     let writer = Writer::read(alloc, bytes)?;
-    Ok(summary_of(alloc, &writer)?)
+    Ok(summary_of(alloc, writer)?)
 }
 
-/// What is told of an image.
-fn summary_of(alloc: Global, writer: &Writer<'_>) -> Result<ElfSummary, AllocError>
+/// What is told of an image that was read.
+fn summary_of(alloc: Global, writer: Writer<'_>) -> Result<ElfSummary, AllocError>
+    ensures { IfOk result (λ s. elf_model s ≡ elf_facts writer.entry) }
+{
+    let summary = summary_lent(alloc, &writer);
+    drop(writer);
+    summary
+}
+
+/// The same of one that is lent.
+fn summary_lent(alloc: Global, writer: &Writer<'_>) -> Result<ElfSummary, AllocError>
     ensures { IfOk result (λ s. elf_model s ≡ elf_facts writer.now) }
 {
     let flags_1 = number_of_tag(entries_of(writer), DT_FLAGS_1);
@@ -266,9 +275,23 @@ fn needed_libraries(alloc: Global, writer: &Writer<'_>) -> Result<Vec<NeededLibr
     let needs = writer.builder().versions().needs.as_slice();
     let mut made = Vec::new(alloc);
     for name in writer.elf_needed() {
-        made.push(needed_library(alloc, name, needs)?)?;
+        put_library(alloc, &mut made, name, needs)?;
     }
     Ok(made)
+}
+
+/// Puts a library of this name, with the versions that are needed of it, behind others.
+fn put_library(
+    alloc: Global,
+    made: &mut Vec<NeededLibrary>,
+    name: &[u8],
+    needs: &[VersionNeed<'_>],
+) -> Result<(), AllocError>
+    ensures { OnOk result (map library_model made.new.items ≡ map library_model made.old.items
+        ++ library_facts (map needs_model needs.now) name.now ∷ []) }
+{
+    made.push(needed_library(alloc, name, needs)?)?;
+    Ok(())
 }
 
 /// A library of this name, with the versions that are needed of it.

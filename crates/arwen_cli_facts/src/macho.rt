@@ -1,13 +1,16 @@
 //! What is told of a Mach-O file, thin or fat.
-ghost use Rattle.std.specs.Prelude.{◌≡◌, IfOk, map};
+ghost use Rattle.std.specs.Prelude.{◌≡◌, ◌++◌, ◌∷◌, [], IfOk, OnOk, map, option_map};
 ghost use Rattle.std.specs.List.{list_any};
-ghost use Rattle.macho_image.specs.Commands.{load_commands_of};
+ghost use Rattle.macho_image.specs.Commands.{libs_of, load_commands_of, rpaths_of};
 ghost use Rattle.macho_edits.specs.State.{laid_bytes};
 ghost use Rattle.arwen_macho.specs.FatSlice.{slice_model};
-ghost use Rattle.arwen_cli_facts.specs.MachoFacts.{header_pad_of, is_signature as tells_signature, macho_facts, macho_model, slice_told, told_slice};
+ghost use Rattle.arwen_elf.specs.Prints.{lossily};
+ghost use Rattle.arwen_cli_facts.specs.SignatureFacts.{signature_facts, signature_model};
+ghost use Rattle.arwen_cli_facts.specs.MachoFacts.{MachoNamesOf, header_pad_of, is_signature as tells_signature, macho_facts, macho_model, slice_told, told_slice};
+ghost use Rattle.arwen_cli_facts.specs.Texts.{texts_model};
 
+use crate::signature::{SignatureSummary, signature_summary};
 use crate::text::{text_if, texts_of};
-use arwen_cli_signatures::{SignatureSummary, signature_summary};
 use arwen_macho::macho::{CommandVariant, Ctx, FatMacho, LoadCommand, MachO, SingleMachO};
 use macho_edits::room::{available, commands_end};
 use std::alloc::{AllocError, Global};
@@ -16,7 +19,7 @@ use std::alloc::{AllocError, Global};
 pub const LC_CODE_SIGNATURE: u32 = 0x1d;
 
 /// What is told of a thin Mach-O file. Texts have U+FFFD for what is no character.
-#[derive(Debug, Drop)]
+#[derive(Drop)]
 pub struct MachoSummary {
     /// The processor's type (mach/machine.h).
     pub cpu: u32,
@@ -41,7 +44,7 @@ pub struct MachoSummary {
 }
 
 /// What is told of a slice of a fat file.
-#[derive(Debug, Drop)]
+#[derive(Drop)]
 pub struct SliceSummary {
     /// Where it begins in the file, in bytes.
     pub offset: u32,
@@ -49,6 +52,14 @@ pub struct SliceSummary {
     pub size: u32,
     /// The file in it.
     pub file: MachoSummary,
+}
+
+/// The texts of a thin file.
+#[derive(Drop)]
+pub(crate) struct MachoNames {
+    pub(crate) id: Option<String>,
+    pub(crate) libraries: Vec<String>,
+    pub(crate) run_paths: Vec<String>,
 }
 
 /// What is told of a thin file.
@@ -65,12 +76,28 @@ pub(crate) fn macho_summary(
 fn summary_of(alloc: Global, file: &MachO<'_>) -> Result<MachoSummary, AllocError>
     ensures { IfOk result (λ s. macho_model s ≡ macho_facts file.now.bytes) }
 {
-    let id = text_if(alloc, file.id())?;
-    let libraries = texts_of(alloc, file.libs(alloc)?.as_slice())?;
-    let run_paths = texts_of(alloc, file.rpaths(alloc)?.as_slice())?;
+    let names = names_of(alloc, file)?;
     let signature = signature_summary(alloc, file.bytes())?;
+    Ok(summary_with(file, names, signature))
+}
+
+/// What is told of a parsed file with these texts.
+fn summary_with(
+    file: &MachO<'_>,
+    names: MachoNames,
+    signature: Option<SignatureSummary>,
+) -> MachoSummary
+    requires names { MachoNamesOf file.now.bytes names }
+    requires signature { option_map signature_model signature ≡ signature_facts file.now.bytes }
+    ensures { macho_model result ≡ macho_facts file.now.bytes }
+{
     let header = file.header();
-    Ok(MachoSummary {
+    let MachoNames {
+        id,
+        libraries,
+        run_paths,
+    } = names;
+    MachoSummary {
         cpu: header.cputype,
         cpu_subtype: header.cpusubtype,
         file_type: header.filetype,
@@ -81,7 +108,37 @@ fn summary_of(alloc: Global, file: &MachO<'_>) -> Result<MachoSummary, AllocErro
         is_signed: has_signature(file.load_commands()),
         signature,
         header_pad: header_pad(file),
+    }
+}
+
+/// The texts of a parsed file.
+fn names_of(alloc: Global, file: &MachO<'_>) -> Result<MachoNames, AllocError>
+    ensures { IfOk result (MachoNamesOf file.now.bytes) }
+{
+    let id = text_if(alloc, file.id())?;
+    let libraries = libraries_of(alloc, file)?;
+    let run_paths = run_paths_of(alloc, file)?;
+    Ok(MachoNames {
+        id,
+        libraries,
+        run_paths,
     })
+}
+
+/// The libraries that a parsed file loads.
+fn libraries_of(alloc: Global, file: &MachO<'_>) -> Result<Vec<String>, AllocError>
+    ensures { IfOk result (λ texts. texts_model texts.items ≡ map lossily (libs_of file.now.bytes)) }
+{
+    let libraries = file.libs(alloc)?;
+    texts_of(alloc, libraries.as_slice())
+}
+
+/// The run paths of a parsed file.
+fn run_paths_of(alloc: Global, file: &MachO<'_>) -> Result<Vec<String>, AllocError>
+    ensures { IfOk result (λ texts. texts_model texts.items ≡ map lossily (rpaths_of file.now.bytes)) }
+{
+    let run_paths = file.rpaths(alloc)?;
+    texts_of(alloc, run_paths.as_slice())
 }
 
 /// How many bytes of load commands can be added.
@@ -118,9 +175,22 @@ pub(crate) fn slice_summaries(
 {
     let mut made = Vec::new(alloc);
     for slice in slices {
-        made.push(slice_summary(alloc, slice)?)?;
+        put_slice(alloc, &mut made, slice)?;
     }
     Ok(made)
+}
+
+/// Puts what is told of a slice behind others.
+fn put_slice(
+    alloc: Global,
+    made: &mut Vec<SliceSummary>,
+    slice: &FatMacho<'_>,
+) -> Result<(), AllocError>
+    ensures { OnOk result (map slice_told made.new.items
+        ≡ map slice_told made.old.items ++ told_slice (slice_model slice.now) ∷ []) }
+{
+    made.push(slice_summary(alloc, slice)?)?;
+    Ok(())
 }
 
 /// What is told of a slice.

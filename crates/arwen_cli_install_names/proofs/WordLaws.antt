@@ -27,14 +27,17 @@ words_at given [] words i d are below = absurd (omega arith)
 words_at given (slice ∷ slices) words zero d are below = are.0
 words_at given (slice ∷ slices) words (suc i) d are below = words_at given slices words i d are.1 (omega arith)
 
--- the first slice and another one, of which options mean unlike words
-pub unlike : (given : List Asked) (slices : List HeldSlice) (words : List Text) (i : ℕ) (first other : HeldSlice) → 0 < length slices → i < length slices → first ≡ get_or slices 0 first → other ≡ get_or slices i other
-    → words ≡ words_in (laid_bytes first.inner.state) given → (words ≡ words_in (laid_bytes other.inner.state) given → ⊥) → AreUnlike given (map slice_bytes (map slice_model slices))
-unlike given slices words i first other some below is_first is_other is differ = λ all are.
-    let Of : HeldSlice → Type 0 = λ s. all ≡ words_in (slice_bytes (slice_model s)) given in
-    let one : all ≡ words_in (laid_bytes first.inner.state) given = subst Of (sym is_first) (words_at given slices all 0 first are some) in
-    let two : all ≡ words_in (laid_bytes other.inner.state) given = subst Of (sym is_other) (words_at given slices all i other are below) in
-    differ (is ∙ sym one ∙ two)
+-- words that options mean of each slice are those of one of them
+pub words_of_one : (given : List Asked) (slices : List HeldSlice) (words : List Text) (i : ℕ) (slice : HeldSlice) → AreWords given (map slice_bytes (map slice_model slices)) words → i < length slices
+    → slice ≡ get_or slices i slice → words ≡ words_in (laid_bytes slice.inner.state) given
+words_of_one given slices words i slice are below is =
+    let Of : HeldSlice → Type 0 = λ s. words ≡ words_in (slice_bytes (slice_model s)) given in subst Of (sym is) (words_at given slices words i slice are below)
+
+-- the words of the first slice aren't those of all
+pub unlike : (given : List Asked) (slices : List HeldSlice) (words : List Text) (first : HeldSlice) → 0 < length slices → first ≡ get_or slices 0 first → words ≡ words_in (laid_bytes first.inner.state) given
+    → (AreWords given (map slice_bytes (map slice_model slices)) words → ⊥) → AreUnlike given (map slice_bytes (map slice_model slices))
+unlike given slices words first some is_first is not_all = λ all are.
+    let Are : List Text → Type 0 = AreWords given (map slice_bytes (map slice_model slices)) in not_all (subst Are (words_of_one given slices all 0 first are some is_first ∙ sym is) are)
 
 -- ## A file
 

@@ -17,7 +17,7 @@ use std::alloc::{AllocError, Global};
 use std::io;
 
 /// Why a file isn't edited.
-#[derive(Debug, Drop)]
+#[derive(Drop)]
 pub enum NamesError {
     /// As a command for Mach-O files answers it.
     Command(MachoCommandError),

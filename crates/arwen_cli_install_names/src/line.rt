@@ -9,7 +9,7 @@ use arwen_cli_peers::{Given, LineFault, parse_words};
 use std::alloc::Global;
 
 /// What a line of install_name_tool asks for.
-#[derive(Debug, Drop)]
+#[derive(Drop)]
 pub struct NameLine<'a> {
     /// What it gives, in order.
     pub given: Vec<Given<'a>>,
@@ -18,7 +18,7 @@ pub struct NameLine<'a> {
 }
 
 /// Why a line isn't done.
-#[derive(Clone, Copy, Debug)]
+#[derive(Clone, Copy)]
 pub enum NameRefused {
     /// No file is named.
     NoFile,
@@ -29,7 +29,7 @@ pub enum NameRefused {
 }
 
 /// Why a line isn't done.
-#[derive(Clone, Copy, Debug)]
+#[derive(Clone, Copy)]
 pub enum NameLineError<'a> {
     /// Its words ask for help or the version, or one of them is wrong; or there was no memory.
     Words(LineFault<'a>),

@@ -3,6 +3,7 @@ ghost use Rattle.std.specs.Prelude.{◌≡◌, ◌↔◌, IfErr, IfOk, IsTrue, m
 ghost use Rattle.std.specs.Str.Lossy.{utf8_lossy};
 ghost use Rattle.arwen_macho.specs.FatSlice.{slice_model};
 ghost use Rattle.macho_edits.specs.State.{laid_bytes};
+ghost use Rattle.macho_image.specs.Commands.{libs_of, rpaths_of};
 ghost use Rattle.arwen_cli_peers.specs.NameWords.{names_model};
 ghost use Rattle.arwen_cli_peers.specs.Options.{given_model};
 ghost use Rattle.arwen_cli_install_names.specs.Naming.{AreWords, AreWordsOf, TellsUnnamed, TellsWordless, names_in, parts_of, slice_bytes, words_in as words_meant};
@@ -14,7 +15,7 @@ use macho_commands::MachoCommandError;
 use std::alloc::{AllocError, AllocFailed, Global};
 
 /// Why it isn't known what options mean of a file.
-#[derive(Debug, Drop)]
+#[derive(Drop)]
 pub enum NamingFault {
     /// The file isn't read.
     Command(MachoCommandError),
@@ -109,12 +110,29 @@ fn words_of_slices(
         return Ok(Vec::new(alloc));
     };
     let words = words_of(alloc, first.inner().inner(), given)?;
+    match are_words_of(alloc, slices, given, words.as_slice()) {
+        Ok(true) => Ok(words),
+        Ok(false) => Err(NamingFault::Unlike),
+        Err(refused) => Err(NamingFault::from(refused)),
+    }
+}
+
+/// Whether options mean these words of each of these slices.
+fn are_words_of(
+    alloc: Global,
+    slices: &[FatMacho<'_>],
+    given: &[Given<'_>],
+    words: &[String],
+) -> Result<bool, AllocError>
+    ensures { IfOk result (λ same. IsTrue same ↔ AreWords (map given_model given.now)
+        (map slice_bytes (map slice_model slices.now)) (map string_bytes words.now)) }
+{
     for slice in slices {
-        if !same_words(alloc, slice.inner(), given, words.as_slice())? {
-            return Err(NamingFault::Unlike);
+        if !same_words(alloc, slice.inner(), given, words)? {
+            return Ok(false);
         }
     }
-    Ok(words)
+    Ok(true)
 }
 
 /// Whether options mean these words of a slice.
@@ -158,13 +176,31 @@ fn names_of(alloc: Global, file: &MachO<'_>) -> Result<Names, AllocError>
     ensures { IfOk result (λ names. names_model names ≡ names_in file.now.bytes) }
 {
     let has_id = file.id().is_some();
-    let libraries = texts_of(alloc, file.libs(alloc)?.as_slice())?;
-    let run_paths = texts_of(alloc, file.rpaths(alloc)?.as_slice())?;
+    let libraries = libraries_of(alloc, file)?;
+    let run_paths = run_paths_of(alloc, file)?;
     Ok(Names {
         has_id,
         libraries,
         run_paths,
     })
+}
+
+/// The names of the libraries that a thin file loads.
+fn libraries_of(alloc: Global, file: &MachO<'_>) -> Result<Vec<String>, AllocError>
+    ensures { IfOk result (λ texts.
+        map string_bytes texts.items ≡ map utf8_lossy (libs_of file.now.bytes)) }
+{
+    let libraries = file.libs(alloc)?;
+    texts_of(alloc, libraries.as_slice())
+}
+
+/// The run paths of a thin file.
+fn run_paths_of(alloc: Global, file: &MachO<'_>) -> Result<Vec<String>, AllocError>
+    ensures { IfOk result (λ texts.
+        map string_bytes texts.items ≡ map utf8_lossy (rpaths_of file.now.bytes)) }
+{
+    let run_paths = file.rpaths(alloc)?;
+    texts_of(alloc, run_paths.as_slice())
 }
 
 /// The texts of byte strings, with U+FFFD for what is no character.

@@ -18,7 +18,7 @@ use arwen_cli_peers::{AskedOption, Given, LineFault, parse_words};
 use std::alloc::{AllocError, Global};
 
 /// What a line of patchelf asks for.
-#[derive(Debug, Drop)]
+#[derive(Drop)]
 pub struct Line {
     /// Its options, with their values.
     pub asked: Vec<AskedOption>,
@@ -31,7 +31,7 @@ pub struct Line {
 }
 
 /// Why a line isn't done.
-#[derive(Debug, Drop)]
+#[derive(Drop)]
 pub enum LineError<'a> {
     /// Its words ask for help or the version, or one of them is wrong.
     Words(LineFault<'a>),

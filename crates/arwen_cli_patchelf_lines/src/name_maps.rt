@@ -1,5 +1,5 @@
 //! Maps of names: texts with a pair of names on each line, an old one and a new one.
-ghost use Rattle.std.specs.Prelude.{◌≡◌, [], Ok, IfErr, IfOk, map, option_map};
+ghost use Rattle.std.specs.Prelude.{◌≡◌, [], Ok, IfErr, IfOk, OnOk, map, option_map};
 ghost use Rattle.std.specs.Str.Lines.{lines};
 ghost use Rattle.arwen_cli_patchelf_lines.specs.NameMaps.{TellsMap, checked as checked_pair, has_version as names_version, is_old as is_old_name, lent_pair, names_of, pair_of, pair_told, pairs_from, pairs_of, spaced as space_for, spaced_all, texts_lent};
 
@@ -7,7 +7,7 @@ use crate::parts::filled_parts;
 use std::alloc::{AllocError, AllocFailed, Global};
 
 /// A pair of names.
-#[derive(Clone, Copy, Debug)]
+#[derive(Clone, Copy)]
 pub struct NamePair<'t> {
     /// The old name.
     pub old: &'t str,
@@ -16,7 +16,7 @@ pub struct NamePair<'t> {
 }
 
 /// What is wrong with a line of a map.
-#[derive(Clone, Copy, Debug, PartialEq, Eq)]
+#[derive(Clone, Copy, PartialEq, Eq)]
 pub enum MapWrong {
     /// It has one name alone.
     OneName,
@@ -27,7 +27,7 @@ pub enum MapWrong {
 }
 
 /// Why a map isn't read.
-#[derive(Clone, Copy, Debug)]
+#[derive(Clone, Copy)]
 pub enum MapFault {
     /// A line of this number, counted from 1, is wrong.
     Line(MapWrong, usize),
@@ -91,14 +91,29 @@ fn pairs_on<'t>(alloc: Global, lines: &[&'t str]) -> Result<Vec<NamePair<'t>>, M
     ensures err { IfErr result (TellsMap (pairs_from [] 1 (texts_lent lines.now))) }
 {
     let mut pairs = Vec::new(alloc);
+    put_pairs(alloc, lines, &mut pairs)?;
+    Ok(pairs)
+}
+
+/// Puts the pairs of a map's lines behind others, up to the first line that has no name.
+fn put_pairs<'t>(
+    alloc: Global,
+    lines: &[&'t str],
+    pairs: &mut Vec<NamePair<'t>>,
+) -> Result<(), MapFault>
+    ensures ok { OnOk result (pairs_from (map lent_pair pairs.old.items) 1 (texts_lent lines.now)
+        ≡ Ok (map lent_pair pairs.new.items)) }
+    ensures err { IfErr result
+        (TellsMap (pairs_from (map lent_pair pairs.old.items) 1 (texts_lent lines.now))) }
+{
     for (i, line) in lines.iter().enumerate() {
         match pair_in(alloc, *line, pairs.as_slice())? {
-            None => return Ok(pairs),
+            None => return Ok(()),
             Some(Ok(pair)) => pairs.push(pair)?,
             Some(Err(wrong)) => return Err(MapFault::Line(wrong, i + 1)),
         }
     }
-    Ok(pairs)
+    Ok(())
 }
 
 /// The lines of a text.

@@ -11,7 +11,7 @@ use command_words::copies;
 use std::alloc::{AllocError, Global};
 
 /// What a line asks of the bytes of each of its files: first that the run paths shrink, and then edits.
-#[derive(Debug, Drop)]
+#[derive(Drop)]
 pub struct Plan {
     /// The prefixes that are allowed in run paths that shrink; none allow all. `None` where none shrink.
     pub shrinks: Option<Vec<String>>,

@@ -8,7 +8,7 @@ use arwen_cli_peers::options::FILE;
 use arwen_cli_peers::{AskedOption, Given};
 
 /// Why a line isn't done.
-#[derive(Clone, Copy, Debug)]
+#[derive(Clone, Copy)]
 pub enum Refused {
     /// The option of this name isn't there.
     Absent(&'static str),

@@ -14,7 +14,7 @@ use std::alloc::{AllocError, AllocFailed, Global};
 use std::io;
 
 /// Why a value wasn't read from a file.
-#[derive(Debug, Drop)]
+#[derive(Drop)]
 pub enum ValueCause {
     /// The file can't be read.
     Io(io::Error),
@@ -67,7 +67,7 @@ impl From<MapFault> for ValueCause {
 }
 
 /// A value that wasn't read from a file.
-#[derive(Debug, Drop)]
+#[derive(Drop)]
 pub struct ValueRefused<'a> {
     /// The option's name.
     pub option: &'static str,
@@ -78,7 +78,7 @@ pub struct ValueRefused<'a> {
 }
 
 /// Where the value of an option stands.
-#[derive(Clone, Copy, Debug)]
+#[derive(Clone, Copy)]
 pub(crate) enum Source {
     /// The option is passed over.
     Nowhere,
@@ -226,9 +226,23 @@ fn put_settled(
         ++ settled (given_model one.now) first.now ∷ []) }
 {
     let first = first_of(alloc, one.name, first)?;
-    let second = String::from_str(alloc, one.second)?;
+    Ok(put_option(alloc, one.name, first, one.second, asked)?)
+}
+
+/// Puts an option with these values behind others.
+fn put_option(
+    alloc: Global,
+    name: &'static str,
+    first: String,
+    second: &str,
+    asked: &mut Vec<AskedOption>,
+) -> Result<(), AllocError>
+    ensures { OnOk result (map asked_model asked.new.items ≡ map asked_model asked.old.items
+        ++ (record { name = name.now; first = string_bytes first; second = second.now }) ∷ []) }
+{
+    let second = String::from_str(alloc, second)?;
     asked.push(AskedOption {
-        name: one.name,
+        name,
         first,
         second,
     })?;
@@ -330,11 +344,5 @@ fn put_rename(
         ++ rename_asked name.now (lent_pair pair.now) ∷ []) }
 {
     let first = String::from_str(alloc, pair.old)?;
-    let second = String::from_str(alloc, pair.new)?;
-    asked.push(AskedOption {
-        name,
-        first,
-        second,
-    })?;
-    Ok(())
+    Ok(put_option(alloc, name, first, pair.new, asked)?)
 }

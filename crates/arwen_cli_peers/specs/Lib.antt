@@ -1,4 +1,6 @@
 pub mod EditWords
+pub mod Flags
+pub mod Lines
 pub mod NameWords
 pub mod Options
 pub mod Tables

@@ -131,6 +131,11 @@ abbrev pub ahead : List Asked → Result (List Asked) Wrong → Result (List Ask
 ahead given (Ok rest) = Ok (given ++ rest)
 ahead given (Err wrong) = Err wrong
 
+-- what was given before a word, with what it and the words behind it give, is what was given up to it, with what these give
+abbrev pub IsTaken : List Known → Wanted → Text → List Asked → Wanted → List Asked → Type 0
+IsTaken rows wanted word before next given =
+    (words : List Text) → ahead before (line_from rows wanted (word ∷ words)) ≡ ahead given (line_from rows next words)
+
 -- ## Answers
 
 -- the fault of words, or want of memory

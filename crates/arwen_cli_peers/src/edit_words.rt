@@ -3,7 +3,7 @@ ghost use Rattle.std.specs.Prelude.{◌≡◌, ◌∷◌, ◌++◌, [], Some, If
 ghost use Rattle.arwen_cli_peers.specs.EditWords.{all_group, asked_model, each_group, edit_words as words_meant, flag_group, header_groups, is_given as given_by_name, joined, last_of as last_given, one_group, needed_groups, other_groups, pair_words, run_path_groups, set_groups, added_groups, set_or_added, stack_groups, symbol_groups, entry_groups, with_forced, with_group};
 ghost use Rattle.arwen_cli_peers.specs.Options.{values_of as values_given};
 
-use crate::asked::{AskedOption, is_given, last_of, pairs_of, values_of};
+use crate::asked::{AskedOption, is_given, last_of, pairs_of, put_copy, values_of};
 use std::alloc::{AllocError, Global};
 use std::slice;
 
@@ -332,10 +332,9 @@ fn put_name(alloc: Global, words: &mut Vec<String>, command: &str) -> Result<(),
         ≡ with_group (map string_bytes words.old.items) (command.now ∷ [])) }
 {
     if !words.is_empty() {
-        words.push(String::from_str(alloc, "+")?)?;
+        put_copy(alloc, words, "+")?;
     }
-    words.push(String::from_str(alloc, command)?)?;
-    Ok(())
+    put_copy(alloc, words, command)
 }
 
 /// Puts values behind the words.
@@ -344,7 +343,7 @@ fn put_values(alloc: Global, words: &mut Vec<String>, values: &[String]) -> Resu
         ≡ map string_bytes words.old.items ++ map string_bytes values.now) }
 {
     for value in values {
-        words.push(String::from_str(alloc, value.as_str())?)?;
+        put_copy(alloc, words, value.as_str())?;
     }
     Ok(())
 }

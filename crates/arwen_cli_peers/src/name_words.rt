@@ -4,13 +4,14 @@ ghost use Rattle.arwen_cli_peers.specs.EditWords.{joined, with_group};
 ghost use Rattle.arwen_cli_peers.specs.NameWords.{added, command_of, deleted, is_among as among, name_words as words_meant, names_model, option_groups};
 ghost use Rattle.arwen_cli_peers.specs.Options.{given_model};
 
+use crate::asked::put_copy;
 use crate::edit_words::put_group;
 use crate::options::Given;
 use std::alloc::{AllocError, Global};
 use std::slice;
 
 /// What a file has before its edits.
-#[derive(Debug, Drop)]
+#[derive(Drop)]
 pub struct Names {
     /// Whether it has a name of its own.
     pub has_id: bool,
@@ -87,8 +88,7 @@ fn put_two(
         (command.now ∷ given.now.first.now ∷ given.now.second.now ∷ [])) }
 {
     put_one(alloc, words, command, given.first)?;
-    words.push(String::from_str(alloc, given.second)?)?;
-    Ok(())
+    put_copy(alloc, words, given.second)
 }
 
 /// Puts a command for each of these run paths.

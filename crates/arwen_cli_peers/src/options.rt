@@ -1,7 +1,7 @@
 //! What the words of a peer's line give: options with their values, and files. A word behind an option that takes a value is
 //! its value, whatever it begins with.
-ghost use Rattle.std.specs.Prelude.{◌≡◌, None, Ok as ok, Some, IfErr, IfOk, map, option_map};
-ghost use Rattle.arwen_cli_peers.specs.Options.{TellsWrong, given_model, is_option as is_option_word, line_of, any, by_form, by_option, option_of, row_model, step_model, stepped as step_meant, values_of as values_given, wants_model};
+ghost use Rattle.std.specs.Prelude.{◌≡◌, [], None, Ok as ok, Some, IfErr, IfOk, OnOk, map, option_map};
+ghost use Rattle.arwen_cli_peers.specs.Options.{IsTaken, TellsWrong, ahead, at_end, given_model, is_option as is_option_word, line_of, any, by_form, by_option, option_of, row_model, step_model, stepped as step_meant, values_of as values_given, wants_model};
 ghost use Rattle.arwen_cli_peers.specs.declared.options.LineFault.TheVariants.{Memory};
 
 use std::alloc::{AllocError, AllocFailed, Global};
@@ -10,7 +10,7 @@ use std::alloc::{AllocError, AllocFailed, Global};
 pub const FILE: &str = "FILE";
 
 /// What stands behind an option, or what it says by itself.
-#[derive(Clone, Copy, Debug)]
+#[derive(Clone, Copy)]
 pub enum Form {
     /// Nothing.
     Flag,
@@ -25,7 +25,7 @@ pub enum Form {
 }
 
 /// An option of a peer.
-#[derive(Clone, Copy, Debug)]
+#[derive(Clone, Copy)]
 pub struct OptionRow {
     /// The word that gives it.
     pub word: &'static str,
@@ -36,7 +36,7 @@ pub struct OptionRow {
 }
 
 /// An option that a line gives, or a file.
-#[derive(Clone, Copy, Debug)]
+#[derive(Clone, Copy)]
 pub struct Given<'a> {
     /// The option's name, or `FILE`.
     pub name: &'static str,
@@ -47,7 +47,7 @@ pub struct Given<'a> {
 }
 
 /// Why a line asks for nothing that is done.
-#[derive(Clone, Copy, Debug)]
+#[derive(Clone, Copy)]
 pub enum LineFault<'a> {
     /// It asks for help.
     Help,
@@ -100,6 +100,7 @@ pub struct Step<'a> {
 }
 
 /// What the words of a line give, in order, by a peer's options. The first fault is answered.
+#[tactic(auto, using(crate::proofs::LineLaws::ahead_of_none))]
 pub fn parse_words<'a>(
     alloc: Global,
     rows: &'static [OptionRow],
@@ -112,16 +113,56 @@ pub fn parse_words<'a>(
         (TellsWrong (line_of (map row_model rows.now) (map (λ w. w.now) words.now))) }
 {
     let mut given = Vec::new(alloc);
+    take_words(rows, words, &mut given)?;
+    Ok(given)
+}
+
+/// Puts what the words of a line give behind what was given.
+fn take_words<'a>(
+    rows: &'static [OptionRow],
+    words: &[&'a str],
+    given: &mut Vec<Given<'a>>,
+) -> Result<(), LineFault<'a>>
+    ensures means { OnOk result (ahead (map given_model given.old.items)
+        (line_of (map row_model rows.now) (map (λ w. w.now) words.now))
+        ≡ ok (map given_model given.new.items)) }
+    ensures refused { IfErr result
+        (TellsWrong (line_of (map row_model rows.now) (map (λ w. w.now) words.now))) }
+{
     let mut wants = Wants::Any;
     for word in words {
-        let step = stepped(rows, wants, *word)?;
-        if let Some(one) = step.given {
-            given.push(one)?;
-        }
-        wants = step.wants;
+        wants = take_word(rows, wants, *word, given)?;
     }
+    ended(wants)
+}
+
+/// Puts what a word gives, where this is wanted, behind what was given, and answers what the next word is.
+fn take_word<'a>(
+    rows: &'static [OptionRow],
+    wants: Wants<'a>,
+    word: &'a str,
+    given: &mut Vec<Given<'a>>,
+) -> Result<Wants<'a>, LineFault<'a>>
+    ensures means { IfOk result (λ next. IsTaken (map row_model rows.now)
+        (wants_model wants.entry) word.now (map given_model given.old.items)
+        (wants_model next) (map given_model given.new.items)) }
+    ensures refused { IfErr result
+        (TellsWrong (step_meant (map row_model rows.now) (wants_model wants.entry) word.now)) }
+{
+    let step = stepped(rows, wants, word)?;
+    if let Some(one) = step.given {
+        given.push(one)?;
+    }
+    Ok(step.wants)
+}
+
+/// Whether a line may end where this is wanted: it may not where a value is.
+fn ended(wants: Wants<'_>) -> Result<(), LineFault<'_>>
+    ensures means { OnOk result (at_end (wants_model wants.entry) ≡ ok []) }
+    ensures refused { IfErr result (TellsWrong (at_end (wants_model wants.entry))) }
+{
     match wants {
-        Wants::Any => Ok(given),
+        Wants::Any => Ok(()),
         Wants::One(name) | Wants::FirstOf(name) | Wants::SecondOf(name, _) => {
             Err(LineFault::Missing(name))
         }

@@ -1,13 +1,13 @@
 -- What is told of a file as JSON: the keys of the lines, with values of their own types.
-use Rattle.std.specs.Prelude.{ℕ, ◌≡◌, ◌==◌, List, Bool, true, Option, Some, None, codes, map, option_map, unwrap_or}
+use Rattle.std.specs.Prelude.{ℕ, ◌≡◌, ◌==◌, List, true, Option, Some, None, codes, map, option_map, unwrap_or}
 use Rattle.json.specs.Lex.{tokens}
 use Rattle.json.specs.Print.{print}
 use Rattle.serde_json.specs.Data.{Data, Members, array, boolean, no_members, null, number, object, put, string, unsigned}
 use Rattle.serde_json.specs.View.{items_of}
 use Rattle.serde_json.specs.Written.{IsInOrder}
 use Rattle.macho_signing.specs.declared.fault.SigningFault.{SigningFault}
-use Rattle.arwen_cli_signatures.specs.Names.{fault_name, hash_name, kind_name as signature_kind_name}
-use Rattle.arwen_cli_signatures.specs.SignatureFacts.{ContentsFacts, SignatureFacts, readable, refused}
+use Rattle.arwen_cli_facts.specs.SignatureNames.{fault_name, hash_name, kind_name as signature_kind_name}
+use Rattle.arwen_cli_facts.specs.SignatureFacts.{ContentsFacts, SignatureFacts, readable, refused}
 use Rattle.arwen_cli_facts.specs.ElfFacts.{ElfFacts, LibraryFacts}
 use Rattle.arwen_cli_facts.specs.FileFacts.{FileFacts, elf, fat, macho}
 use Rattle.arwen_cli_facts.specs.MachoFacts.{MachoFacts, SliceFacts}

@@ -1,9 +1,9 @@
 -- What is told of a file as lines for people: a key and a value each.
-use Rattle.std.specs.Prelude.{ℕ, ◌-◌, ◌==◌, List, [], ◌∷◌, ◌++◌, length, map, Bool, true, false, Option, Some, None, codes, decimal, option_map, replicate, unwrap_or}
+use Rattle.std.specs.Prelude.{ℕ, ◌-◌, ◌==◌, List, [], ◌++◌, length, map, Bool, true, false, Option, Some, None, codes, decimal, option_map, replicate, unwrap_or}
 use Rattle.std.specs.List.{flat_map}
 use Rattle.macho_signing.specs.declared.fault.SigningFault.{SigningFault}
-use Rattle.arwen_cli_signatures.specs.Names.{fault_name, hash_name, kind_name as signature_kind_name}
-use Rattle.arwen_cli_signatures.specs.SignatureFacts.{ContentsFacts, SignatureFacts, readable, refused}
+use Rattle.arwen_cli_facts.specs.SignatureNames.{fault_name, hash_name, kind_name as signature_kind_name}
+use Rattle.arwen_cli_facts.specs.SignatureFacts.{ContentsFacts, SignatureFacts, readable, refused}
 use Rattle.arwen_cli_facts.specs.ElfFacts.{ElfFacts, LibraryFacts}
 use Rattle.arwen_cli_facts.specs.FileFacts.{FileFacts, elf, fat, macho}
 use Rattle.arwen_cli_facts.specs.MachoFacts.{MachoFacts, SliceFacts}

@@ -7,7 +7,7 @@ ghost use Rattle.arwen_cli_show.specs.Json.{libraries_data, library_data, text_d
 ghost use Rattle.arwen_cli_facts.specs.Names.{flag_names as flags_told, machine_name as machine_told, name_or as name_or_told, permissions as permissions_told};
 
 use crate::members::{
-    Members, put_answer, put_number, put_number_if, put_text, put_text_if, put_texts,
+    Members, push_value, put_answer, put_number, put_number_if, put_text, put_text_if, put_texts,
 };
 use arwen_cli_facts::elf::{ElfSummary, NeededLibrary};
 use arwen_cli_facts::names::{
@@ -87,7 +87,7 @@ fn libraries_value(alloc: Global, needed: &[NeededLibrary]) -> Result<Value, All
 {
     let mut made = Vec::new(alloc);
     for library in needed {
-        made.push(library_value(alloc, library)?)?;
+        push_value(&mut made, library_value(alloc, library)?)?;
     }
     Ok(Value::Array(made))
 }

@@ -6,7 +6,9 @@ ghost use Rattle.arwen_cli_show.specs.Json.{slice_data, slices_data, with_macho,
 ghost use Rattle.arwen_cli_facts.specs.MachoFacts.{macho_model, slice_told};
 ghost use Rattle.arwen_cli_facts.specs.Names.{cpu_name as cpu_told, file_type_name as file_type_told, name_or as name_or_told};
 
-use crate::members::{Members, put_answer, put_number, put_text, put_text_if, put_texts};
+use crate::members::{
+    Members, push_value, put_answer, put_number, put_text, put_text_if, put_texts,
+};
 use crate::signature_json::put_signature;
 use arwen_cli_facts::macho::{MachoSummary, SliceSummary};
 use arwen_cli_facts::names::{bits, cpu_name, file_type_name, name_or, order_name};
@@ -94,7 +96,7 @@ fn slices_value(alloc: Global, slices: &[SliceSummary]) -> Result<Value, AllocEr
 {
     let mut made = Vec::new(alloc);
     for slice in slices {
-        made.push(slice_value(alloc, slice)?)?;
+        push_value(&mut made, slice_value(alloc, slice)?)?;
     }
     Ok(Value::Array(made))
 }

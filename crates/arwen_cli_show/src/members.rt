@@ -1,5 +1,5 @@
 //! Members of JSON objects.
-ghost use Rattle.std.specs.Prelude.{◌≡◌, IfOk, OnOk};
+ghost use Rattle.std.specs.Prelude.{◌≡◌, ◌++◌, ◌∷◌, [], IfOk, OnOk};
 ghost use Rattle.serde_json.specs.Data.{boolean, put as with_member, string};
 ghost use Rattle.serde_json.specs.View.{members_view, view};
 ghost use Rattle.arwen_cli_show.specs.Json.{number_data, number_data_if, text_data_if, texts_data};
@@ -17,9 +17,17 @@ pub(crate) fn texts_value(alloc: Global, texts: &[String]) -> Result<Value, Allo
 {
     let mut made = Vec::new(alloc);
     for text in texts {
-        made.push(Value::try_from_str(alloc, text.as_str())?)?;
+        push_value(&mut made, Value::try_from_str(alloc, text.as_str())?)?;
     }
     Ok(Value::Array(made))
+}
+
+/// Puts a value behind others.
+pub(crate) fn push_value(values: &mut Vec<Value>, value: Value) -> Result<(), AllocError>
+    ensures { OnOk result (values.new.items ≡ values.old.items ++ value ∷ []) }
+{
+    values.push(value)?;
+    Ok(())
 }
 
 /// Puts a text among members.

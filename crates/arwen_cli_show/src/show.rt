@@ -54,7 +54,9 @@ pub(crate) fn text_of_bytes(
     ensures refused { IfErr result (Refuses bytes.now) }
 {
     let summary = summarize(alloc, bytes)?;
-    Ok(text_of(alloc, name, &summary, style)?)
+    let text = text_of(alloc, name, &summary, style);
+    drop(summary);
+    Ok(text?)
 }
 
 /// What is told of a file, as text.

@@ -3,12 +3,12 @@ ghost use Rattle.std.specs.Prelude.{◌≡◌, OnOk, codes, map, option_map};
 ghost use Rattle.serde_json.specs.Data.{put as with_member};
 ghost use Rattle.serde_json.specs.View.{members_view};
 ghost use Rattle.arwen_cli_show.specs.Json.{texts_data, with_contents, with_refusal, with_signature};
-ghost use Rattle.arwen_cli_signatures.specs.Names.{hash_name};
-ghost use Rattle.arwen_cli_signatures.specs.SignatureFacts.{contents_model, signature_model};
+ghost use Rattle.arwen_cli_facts.specs.SignatureNames.{hash_name};
+ghost use Rattle.arwen_cli_facts.specs.SignatureFacts.{contents_model, signature_model};
 
 use crate::members::{Members, put_answer, put_number, put_text, put_texts};
-use arwen_cli_signatures::names::{fault_name, hash_names, kind_name};
-use arwen_cli_signatures::{SignatureContents, SignatureSummary};
+use arwen_cli_facts::signature_names::{fault_name, hash_names, kind_name};
+use arwen_cli_facts::{SignatureContents, SignatureSummary};
 use macho_signatures::HashKind;
 use macho_signing::SigningFault;
 use std::alloc::{AllocError, Global};

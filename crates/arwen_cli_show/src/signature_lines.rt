@@ -1,12 +1,12 @@
 //! What is told of a code signature, as lines.
 ghost use Rattle.std.specs.Prelude.{◌≡◌, ◌++◌, OnOk, codes, map, option_map, string_bytes};
 ghost use Rattle.arwen_cli_show.specs.Lines.{contents_lines, lines, refusal_lines, signature_lines};
-ghost use Rattle.arwen_cli_signatures.specs.Names.{hash_name};
-ghost use Rattle.arwen_cli_signatures.specs.SignatureFacts.{contents_model, signature_model};
+ghost use Rattle.arwen_cli_facts.specs.SignatureNames.{hash_name};
+ghost use Rattle.arwen_cli_facts.specs.SignatureFacts.{contents_model, signature_model};
 
 use crate::lines::{answer, put_line, put_lines, put_number};
-use arwen_cli_signatures::names::{fault_name, hash_names, kind_name};
-use arwen_cli_signatures::{SignatureContents, SignatureSummary};
+use arwen_cli_facts::signature_names::{fault_name, hash_names, kind_name};
+use arwen_cli_facts::{SignatureContents, SignatureSummary};
 use macho_signatures::HashKind;
 use macho_signing::SigningFault;
 use std::alloc::{AllocError, Global};

@@ -14,7 +14,7 @@ ghost use Rattle.arwen_cli.specs.Parser.{MayRefuse, MayRefuseReading, MayRefuseT
 
 use crate::cli::parser::{First, parse_values};
 use crate::cli::{ArwenError, Command, ElfCommand, MachoCommand};
-use arwen_cli_options::{is_moved_by, without_move, without_quiet, without_sign};
+use arwen_cli_peers::{is_moved_by, without_move, without_quiet, without_sign};
 use arwen_cli_show::{Args, ArgsFault, HELP, parse_args};
 use command_words::{ValueError, Values, find_row};
 use elf_commands::{elf, elf_table};

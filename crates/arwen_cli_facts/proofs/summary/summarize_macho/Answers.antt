@@ -11,6 +11,6 @@ returns c =
     let bytes : List ℕ = c.args.bytes.now in
     let are : AreBytes bytes = record { each = λ i. omega (arith, c.type_inv.bytes i) } in
     let Facts : FileFacts → Type 0 = AreMachoFacts bytes in
-    let told : summary_model c.in_ok-summary_of.field-0 ≡ container_facts c.inner.result.now = c.in_ok-summary_of.ensures in
-    let file : c.inner.result.now ≡ first_container bytes = c.inner.ensures ∙ c.in_ok-file.ensures.1 in
+    let told : summary_model c.in_ok-summary_of_read.field-0 ≡ container_facts c.in_ok-file.file = c.in_ok-summary_of_read.ensures in
+    let file : c.in_ok-file.file ≡ first_container bytes = c.in_ok-file.ensures.1 in
     subst Facts (sym (told ∙ ap container_facts file)) (facts_at_read bytes are c.in_ok-file.ensures.0)

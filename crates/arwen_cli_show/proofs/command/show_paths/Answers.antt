@@ -1,8 +1,8 @@
 -- The files so far and one more are told of, or an error ends it.
-use Rattle.std.proofs.Common.{◌≡◌, ◌<◌, ◌∙◌, Bool, List, ℕ, true, false, arith, inl, inr, length, map, rules, string_bytes, sym, subst, take}
+use Rattle.std.proofs.Common.{◌<◌, List, ℕ, arith, inl, inr, length, map, rules, string_bytes, sym, subst, take}
 use Rattle.std.proofs.lemmas.Result.{err_from_is_err_and}
 use Rattle.std.proofs.lemmas.List.{length-map, take-map}
-use Rattle.arwen_cli_show.specs.Command.{AreShown, StopsShow, Telling, TellingAt}
+use Rattle.arwen_cli_show.specs.Command.{AreShown, Telling, TellingAt}
 use Rattle.arwen_cli_show.proofs.ShownSteps.{one_more_shown, stopped_there}
 use Rattle.arwen_cli_show.proofs.command.show_paths.Goals as goal
 use Rattle.arwen_cli_show.proofs.command.show_paths.Goals.{then-not-branch, else-not-branch}

@@ -3,7 +3,7 @@ use Rattle.std.proofs.Common.{ℕ, ◌==◌, List, ◌++◌, codes, map, string_
 use Rattle.std.proofs.lemmas.Result.{on_ok_weaker}
 use Rattle.macho_signatures.specs.declared.directory.HashKind.{HashKind}
 use Rattle.arwen_cli_show.specs.Lines.{answer, contents_lines, line, lines, number_line}
-use Rattle.arwen_cli_signatures.specs.Names.{hash_name, kind_name}
+use Rattle.arwen_cli_facts.specs.SignatureNames.{hash_name, kind_name}
 use Rattle.arwen_cli_show.proofs.Joined.{joined_5}
 use Rattle.arwen_cli_show.proofs.signature_lines.put_contents.Goals as goal
 
