@@ -1,3 +1,4 @@
+pub mod Causes
 pub mod Line
 pub mod NameMaps
 pub mod Plans

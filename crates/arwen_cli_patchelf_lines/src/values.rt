@@ -49,6 +49,11 @@ impl<T: Drop> From<AllocFailed<T>> for ValueCause {
 }
 
 impl From<ReadError> for ValueCause {
+    ghost use Rattle.std.specs.Prelude.{◌≡◌};
+    ghost use Rattle.arwen_cli_patchelf_lines.specs.Causes.{cause_of_read};
+
+    ghost from_gives = { λ error cause. cause ≡ cause_of_read error };
+
     fn from(error: ReadError) -> Self {
         match error {
             ReadError::Memory => ValueCause::Memory,
@@ -58,6 +63,11 @@ impl From<ReadError> for ValueCause {
 }
 
 impl From<MapFault> for ValueCause {
+    ghost use Rattle.std.specs.Prelude.{◌≡◌};
+    ghost use Rattle.arwen_cli_patchelf_lines.specs.Causes.{cause_of_map};
+
+    ghost from_gives = { λ fault cause. cause ≡ cause_of_map fault };
+
     fn from(fault: MapFault) -> Self {
         match fault {
             MapFault::Memory => ValueCause::Memory,
