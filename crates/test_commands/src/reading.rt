@@ -1,7 +1,8 @@
+use crate::support::given;
 use arwen_cli::cli::{ArwenError, read_bytes};
+use std::alloc::AllocError;
 use std::io;
 use std::io::Read;
-use std::test::Fail;
 
 // What the readers give.
 const GIVEN: &[u8; 64] = b"0123456789abcdef0123456789ABCDEF0123456789abcdef0123456789ABCDEF";
@@ -32,38 +33,37 @@ impl Read for Pieces<'_> {
     }
 }
 
-// Reads what is given in pieces, where this many bytes are expected.
-fn read_once(rt: &HostRuntime, length: u64, fails: bool) -> Result<Vec<u8>, ArwenError> {
+// Whether all that a reader gives is read, where this many bytes are expected, or the error of one that fails is told.
+fn is_read(rt: &HostRuntime, length: u64, fails: bool) -> Result<bool, AllocError> {
     let mut reader = Pieces {
         left: GIVEN,
         piece: 7,
         is_interrupted: false,
         fails,
     };
-    read_bytes(rt.alloc(), &mut reader, length)
-}
-
-// The same, with another reader where memory was refused.
-fn read(rt: &HostRuntime, length: u64, fails: bool) -> Result<Vec<u8>, ArwenError> {
-    match read_once(rt, length, fails) {
-        Err(ArwenError::Memory) => read_once(rt, 64, fails),
-        answer => answer,
+    match read_bytes(rt.alloc(), &mut reader, length) {
+        Ok(bytes) => Ok(!fails && bytes.as_slice() == GIVEN.as_slice()),
+        Err(ArwenError::Memory) => Err(AllocError),
+        Err(ArwenError::Io(error)) => Ok(fails && error.kind() == io::ErrorKind::UnexpectedEof),
+        Err(_) => Ok(false),
     }
 }
 
-#[test]
-fn reads_a_file_in_pieces(rt: HostRuntime) -> Result<(), Fail> {
-    for length in [0, 3, 64, u64::MAX] {
-        let bytes = read(&rt, length, false)?;
-        assert_eq!(rt; bytes.as_slice(), GIVEN.as_slice());
-    }
-    Ok(())
-}
+// How many bytes are expected, and whether the reader fails.
+const ROWS: [(u64, bool); 5] = [
+    (0, false),
+    (3, false),
+    (64, false),
+    (u64::MAX, false),
+    (64, true),
+];
 
+// The second reader is expected to give what it does, so that no more memory is asked for.
 #[test]
-fn tells_a_reader_that_fails(rt: HostRuntime) {
-    let answer = read(&rt, 64, true);
-    assert!(rt;
-        matches!(&answer, Err(ArwenError::Io(error)) if error.kind() == io::ErrorKind::UnexpectedEof)
-    );
+fn reads_a_file_in_pieces(rt: HostRuntime) {
+    for (length, fails) in &ROWS {
+        let first = is_read(&rt, *length, *fails);
+        let is_right = given(&rt, first, is_read(&rt, 64, *fails));
+        assert!(rt; is_right, "{length} {fails}");
+    }
 }

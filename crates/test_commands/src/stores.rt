@@ -1,12 +1,12 @@
 ghost use Rattle.std.specs.Prelude.{◌≡◌};
 ghost use Rattle.std.specs.Io.{WritesAtMost};
 
-use arwen_cli::cli::{MachoCommand, MachoCommandError, Notes, Signing, add, patch_store};
+use crate::paths::adding;
+use crate::support::Runtime;
+use arwen_cli::cli::{MachoCommand, MachoCommandError, Notes, Signing, patch_store};
 use byte_store::{Failures, MemoryStore, Store};
 use std::alloc::{AllocError, Global};
 use std::io;
-use std::process::Abort;
-use std::test::Fail;
 
 // The header and the table of a fat file with two slices, at 48 and at 92.
 const TABLE: &[u8; 48] = b"\xca\xfe\xba\xbe\0\0\0\x02\
@@ -84,85 +84,71 @@ impl Store for Failing {
     }
 }
 
-// A fat file of two slices.
-fn file_once(alloc: Global, first: &[u8], second: &[u8]) -> Result<Vec<u8>, AllocError> {
+// A store with the two slices of a fat file, which takes so many writes.
+fn opened(alloc: Global, writes: usize) -> Result<Failing, AllocError> {
     let mut file = Vec::with_capacity(alloc, 136)?;
     file.extend_from_slice(TABLE)?;
-    file.extend_from_slice(first)?;
-    file.extend_from_slice(second)?;
-    Ok(file)
-}
-
-fn file(alloc: Global, first: &[u8], second: &[u8]) -> Result<Vec<u8>, AllocError> {
-    match file_once(alloc, first, second) {
-        Err(_) => file_once(alloc, first, second),
-        made => made,
-    }
-}
-
-// The command that adds the run path `/a`.
-fn command_once(alloc: Global) -> Result<MachoCommand, AllocError> {
-    Ok(MachoCommand::AddRpath(add::Args {
-        new_rpath: String::from_str(alloc, "/a")?,
-        path_to_binary: String::new(alloc),
-    }))
-}
-
-fn command(alloc: Global) -> Result<MachoCommand, AllocError> {
-    match command_once(alloc) {
-        Err(_) => command_once(alloc),
-        made => made,
-    }
-}
-
-// Adds the run path to a store. Where memory is refused its bytes are the old ones, and it is tried again.
-fn patched(
-    rt: &impl Abort,
-    alloc: Global,
-    store: &mut Failing,
-    command: &MachoCommand,
-    old: &[u8],
-) -> Result<String, MachoCommandError> {
-    let answer = patch_store(alloc, store, command, Notes::LeftOut, Signing::Left);
-    if let Err(MachoCommandError::Memory) = &answer {
-        assert_eq!(rt; store.inner.bytes.as_slice(), old);
-        return patch_store(alloc, store, command, Notes::LeftOut, Signing::Left);
-    }
-    answer
-}
-
-// What is left of a file of which both slices are edited, where so many writes succeed. The last slice is
-// written first.
-fn expect_left(
-    rt: &impl Abort,
-    alloc: Global,
-    writes: usize,
-    first: &[u8],
-    second: &[u8],
-) -> Result<(), Fail> {
-    let command = command(alloc)?;
-    let old = file(alloc, PLAIN, PLAIN)?;
-    let mut store = Failing {
-        inner: MemoryStore::new(file(alloc, PLAIN, PLAIN)?),
+    file.extend_from_slice(PLAIN)?;
+    file.extend_from_slice(PLAIN)?;
+    Ok(Failing {
+        inner: MemoryStore::new(file),
         writes,
         failed: Failures::none(),
-    };
-    let answer = patched(rt, alloc, &mut store, &command, old.as_slice());
-    let is_right = match answer {
-        Ok(_) => writes >= 2,
-        Err(MachoCommandError::Io(_)) => writes < 2,
-        Err(_) => false,
-    };
-    assert!(rt; is_right, "{writes}");
-    let left = file(alloc, first, second)?;
-    assert_eq!(rt; store.inner.bytes.as_slice(), left.as_slice(), "{writes}");
-    Ok(())
+    })
+}
+
+// Whether bytes are a fat file of two slices.
+fn are_slices(bytes: &[u8], first: &[u8], second: &[u8]) -> bool {
+    bytes.get(..48) == Some(TABLE.as_slice())
+        && bytes.get(48..92) == Some(first)
+        && bytes.get(92..) == Some(second)
+}
+
+// What comes of a command on a store, in a word.
+fn word(alloc: Global, store: &mut Failing, command: &MachoCommand) -> &'static str {
+    match patch_store(alloc, store, command, Notes::LeftOut, Signing::Left) {
+        Ok(_) => "done",
+        Err(MachoCommandError::Io(_)) => "not written",
+        Err(MachoCommandError::Memory) => "no memory",
+        Err(_) => "refused",
+    }
+}
+
+// The same. Where memory is refused the bytes of the store are the old ones, and it is tried again.
+fn patched(rt: &impl Runtime, store: &mut Failing, command: &MachoCommand) -> &'static str {
+    let first = word(rt.alloc(), store, command);
+    if first != "no memory" {
+        return first;
+    }
+    assert!(rt;
+        are_slices(store.inner.bytes.as_slice(), PLAIN, PLAIN),
+        "changed"
+    );
+    word(rt.alloc(), store, command)
+}
+
+// How many writes succeed, what comes of a run path for both slices, and the slices that are left. The last slice is
+// written first.
+type Row = (usize, &'static str, &'static [u8], &'static [u8]);
+
+const ROWS: [Row; 3] = [
+    (0, "not written", PLAIN, PLAIN),
+    (1, "not written", PLAIN, WITH_RPATH),
+    (2, "done", WITH_RPATH, WITH_RPATH),
+];
+
+// Compares what comes of the command with a row.
+fn expect(rt: &impl Runtime, command: &MachoCommand, row: &Row) {
+    let mut store = sure!(rt; opened(rt.alloc(), row.0));
+    let word = patched(rt, &mut store, command);
+    let is_left = are_slices(store.inner.bytes.as_slice(), row.2, row.3);
+    assert!(rt; word == row.1 && is_left, "{} writes: {word}", row.0);
 }
 
 #[test]
-fn leaves_what_was_written(rt: HostRuntime) -> Result<(), Fail> {
-    let alloc = rt.alloc();
-    expect_left(&rt, alloc, 0, PLAIN, PLAIN)?;
-    expect_left(&rt, alloc, 1, PLAIN, WITH_RPATH)?;
-    expect_left(&rt, alloc, 2, WITH_RPATH, WITH_RPATH)
+fn leaves_what_was_written(rt: HostRuntime) {
+    let command = sure!(&rt; adding(rt.alloc(), ""));
+    for row in &ROWS {
+        expect(&rt, &command, row);
+    }
 }
