@@ -5,7 +5,7 @@ ghost use Rattle.arwen_cli_runners.specs.Endings.{status_of};
 use std::alloc::{AllocError, Global};
 
 /// How a line ends.
-#[derive(Debug, Drop)]
+#[derive(Drop)]
 pub enum Ending {
     /// All that it asks for is done.
     Done,

@@ -5,7 +5,7 @@ ghost use Rattle.arwen_cli_runners.specs.Peers.{line_shown, named_by, peer_told,
 use std::path::Path;
 
 /// A tool whose lines are run here.
-#[derive(Clone, Copy, Debug)]
+#[derive(Clone, Copy)]
 pub enum Peer {
     /// `patchelf`.
     Patchelf,
