@@ -4,13 +4,13 @@ mod batches;
 mod rows;
 
 use crate::fat::joined;
-use crate::support::{Runtime, copied, granted, put, same, text_of, wants_memory};
+use crate::support::{Runtime, granted, put, same, text_of, wants_memory};
 use arwen_macho::macho::{
     FatMachoContainer, MachO, MachoBatchError, MachoContainer, MachoEdit, MachoError, MachoType,
     SingleMachO,
 };
 use std::alloc::{AllocError, Global};
-use std::fmt::{self, Write};
+use std::fmt::Write;
 
 // An edit with its texts.
 #[derive(Clone, Copy)]
@@ -54,16 +54,10 @@ pub(crate) trait Container<'a>: Sized + Drop {
     fn into_bytes(self, alloc: Global) -> Result<Vec<u8>, AllocError>;
 }
 
-// Puts what `Debug` prints of a value behind lines, as a line.
-fn push_line<T: fmt::Debug>(lines: &mut String, value: &T) -> Result<(), AllocError> {
-    write!(lines, "{value:?}\n")
-}
-
 // The list and the counts of a thin file.
 fn list_thin(lines: &mut String, file: &MachO<'_>) -> Result<(), AllocError> {
-    push_line(lines, file.header())?;
-    push_line(lines, &file.load_commands())?;
-    push_line(lines, &file.first_content())
+    write!(lines, "{:?} {:?} ", file.header(), file.load_commands())?;
+    write!(lines, "{}\n", file.first_content())
 }
 
 impl<'a> Container<'a> for SingleMachO<'a> {
@@ -187,7 +181,7 @@ fn lists_of<'a, T: Container<'a>>(rt: &impl Runtime, file: &T) -> String {
 
 fn look<'a, T: Container<'a>>(rt: &impl Runtime, file: &T) -> Seen {
     Seen {
-        bytes: copied(rt, file.bytes()),
+        bytes: sure!(rt; Vec::from_slice(rt.alloc(), file.bytes())),
         lists: lists_of(rt, file),
     }
 }
@@ -304,23 +298,22 @@ fn change(want: &mut [u8], starts: &[usize], changes: &[(usize, &[u8])]) {
     }
 }
 
-// Compares what a call of these edits answers.
-fn answers<'a, T: Container<'a>>(rt: &impl Runtime, file: &mut T, step: &Step<'_>) {
-    let answer = told(rt, step.edits, &called(rt, file, step.edits));
-    same(rt, "answer", &answer.as_str(), &step.answer);
-}
-
 // Takes a step in a file with thin files at these places, and compares its answer and all bytes.
 fn taken<'a, T: Container<'a>>(
     rt: &impl Runtime,
     file: &mut T,
     starts: &[usize],
     step: &Step<'_>,
-    want: &mut [u8],
+    want: &mut Vec<u8>,
 ) {
-    answers(rt, file, step);
+    same(
+        rt,
+        "answer",
+        &told(rt, step.edits, &called(rt, file, step.edits)).as_str(),
+        &step.answer,
+    );
     change(want, starts, step.changes);
-    same(rt, step.answer, &file.bytes(), &&*want);
+    same(rt, step.answer, &file.bytes(), &want.as_slice());
     agrees(rt, step.answer, file);
 }
 
@@ -360,14 +353,14 @@ fn handed_out<'a, T: Container<'a>>(
 }
 
 // Takes steps in a file with thin files at these places.
-fn walk<'a, T: Container<'a>, R: Runtime>(
+pub(crate) fn walk<'a, T: Container<'a>, R: Runtime>(
     rt: &R,
     bytes: &'a [u8],
     starts: &[usize],
     steps: &[Step<'_>],
 ) {
     let mut file: T = opened(rt, bytes);
-    let mut want = copied(rt, bytes);
+    let mut want = sure!(rt; Vec::from_slice(rt.alloc(), bytes));
     let mut is_edited = false;
     for step in steps {
         taken(rt, &mut file, starts, step, &mut want);
@@ -391,27 +384,14 @@ const FIRST: u32 = 64;
 
 const SECOND: u32 = 400;
 
-// A fat file that holds a thin file twice.
-fn doubled(alloc: Global, thin: &[u8]) -> Result<Vec<u8>, AllocError> {
-    joined(alloc, &[(FIRST, thin), (SECOND, thin)])
-}
-
-// Takes steps in a thin file.
-fn walk_thin(rt: &impl Runtime, thin: &[u8], steps: &[Step<'_>]) {
-    walk::<SingleMachO<'_>, _>(rt, thin, &[0], steps);
-    walk::<MachoContainer<'_>, _>(rt, thin, &[0], steps);
-}
-
-// Takes steps in a fat file, in each of its thin files.
-pub(crate) fn walk_fat(rt: &impl Runtime, fat: &[u8], starts: &[usize], steps: &[Step<'_>]) {
-    walk::<FatMachoContainer<'_>, _>(rt, fat, starts, steps);
-    walk::<MachoContainer<'_>, _>(rt, fat, starts, steps);
-}
-
 // Takes steps in a thin file, and in a fat file that holds it twice.
 fn walks(rt: &impl Runtime, sample: &Sample<'_>, steps: &[Step<'_>]) {
     let thin = sure!(rt; laid(rt.alloc(), sample));
-    walk_thin(rt, &thin, steps);
-    let fat = sure!(rt; doubled(rt.alloc(), &thin));
-    walk_fat(rt, &fat, &[FIRST as usize, SECOND as usize], steps);
+    walk::<SingleMachO<'_>, _>(rt, &thin, &[0], steps);
+    walk::<MachoContainer<'_>, _>(rt, &thin, &[0], steps);
+    let slices = [(FIRST, thin.as_slice()), (SECOND, thin.as_slice())];
+    let starts = [FIRST as usize, SECOND as usize];
+    let fat = sure!(rt; joined(rt.alloc(), &slices));
+    walk::<FatMachoContainer<'_>, _>(rt, &fat, &starts, steps);
+    walk::<MachoContainer<'_>, _>(rt, &fat, &starts, steps);
 }

@@ -1,6 +1,6 @@
 //! Fat files: their slices are edited as one.
 
-use crate::containers::{Edit, Step, walk_fat};
+use crate::containers::{Edit, Step, walk};
 use crate::support::{Runtime, put, same, shows};
 use arwen_macho::macho::{
     FatMachoContainer, Front, MachoBatchError, MachoContainer, MachoEdit, MachoError, lay_fronts,
@@ -73,7 +73,8 @@ pub(crate) fn joined(alloc: Global, slices: &[(u32, &[u8])]) -> Result<Vec<u8>, 
 // Takes steps in a fat file of slices, by the calls of both containers. Places are those in the whole file.
 fn walks(rt: &impl Runtime, slices: &[(u32, &[u8])], steps: &[Step<'_>]) {
     let file = sure!(rt; joined(rt.alloc(), slices));
-    walk_fat(rt, &file, &[0], steps);
+    walk::<FatMachoContainer<'_>, _>(rt, &file, &[0], steps);
+    walk::<MachoContainer<'_>, _>(rt, &file, &[0], steps);
 }
 
 // Slices of three forms.
@@ -212,15 +213,8 @@ fn empty_path(alloc: Global) -> [MachoEdit; 1] {
     [MachoEdit::AddRpath(String::new(alloc))]
 }
 
-fn parsed<'a>(alloc: Global, bytes: &'a [u8]) -> Result<MachoContainer<'a>, MachoBatchError> {
-    MachoContainer::parse(alloc, bytes).map_err(|fault| MachoBatchError { index: 0, fault })
-}
-
-fn fat_parsed<'a>(
-    alloc: Global,
-    bytes: &'a [u8],
-) -> Result<FatMachoContainer<'a>, MachoBatchError> {
-    FatMachoContainer::parse(alloc, bytes).map_err(|fault| MachoBatchError { index: 0, fault })
+fn in_batch(fault: MachoError) -> MachoBatchError {
+    MachoBatchError { index: 0, fault }
 }
 
 fn push_fronts(
@@ -241,7 +235,8 @@ fn push_each_front(lines: &mut String, fronts: &[Front]) -> Result<(), AllocErro
 // Where the fronts stand that this edit writes, and how long they are, a line each.
 fn front_places(alloc: Global, bytes: &[u8]) -> Result<String, MachoBatchError> {
     let mut lines = String::new(alloc);
-    push_fronts(alloc, &mut lines, &fat_parsed(alloc, bytes)?)?;
+    let file = FatMachoContainer::parse(alloc, bytes).map_err(in_batch)?;
+    push_fronts(alloc, &mut lines, &file)?;
     Ok(lines)
 }
 
@@ -260,7 +255,10 @@ fn with_fronts_of(alloc: Global, file: &MachoContainer<'_>) -> Result<Vec<u8>, M
 }
 
 fn with_fronts(alloc: Global, bytes: &[u8]) -> Result<Vec<u8>, MachoBatchError> {
-    with_fronts_of(alloc, &parsed(alloc, bytes)?)
+    with_fronts_of(
+        alloc,
+        &MachoContainer::parse(alloc, bytes).map_err(in_batch)?,
+    )
 }
 
 #[test]

@@ -1,7 +1,6 @@
 //! What the tests share: calls that are refused memory, and comparisons.
 
 use arwen_macho::macho::{MachoBatchError, MachoError};
-use macho_image::MachFault;
 use std::alloc::AllocError;
 use std::fmt;
 use std::process::Abort;
@@ -19,12 +18,6 @@ pub(crate) trait Refusal: Drop {
 impl Refusal for AllocError {
     fn is_memory(&self) -> bool {
         true
-    }
-}
-
-impl Refusal for MachFault {
-    fn is_memory(&self) -> bool {
-        matches!(self, MachFault::Memory)
     }
 }
 
@@ -73,11 +66,6 @@ pub(crate) fn given<T: Drop, E: Refusal + fmt::Debug>(
 // Compares.
 pub(crate) fn same<T: PartialEq + fmt::Debug>(rt: &impl Abort, what: &str, found: &T, want: &T) {
     assert_eq!(rt; found, want, "{what}");
-}
-
-// A copy of bytes.
-pub(crate) fn copied(rt: &impl Runtime, bytes: &[u8]) -> Vec<u8> {
-    sure!(rt; Vec::from_slice(rt.alloc(), bytes))
 }
 
 // What `Debug` prints of a value.

@@ -1,79 +1,63 @@
 //! String tables that are copied: which texts are placed at which offsets.
 
-use crate::support::{Failure, Runtime, same, table_of};
+use crate::support::{Runtime, same, same_bytes, table_of};
 use elf_tables::Finished;
-use std::alloc::Global;
 
 // A text, an offset, whether it is placed there, and where it is once all are.
 type Row = (&'static [u8], u32, bool, Option<u32>);
 
+// A copied table of these bytes.
+fn copied(rt: &impl Runtime, bytes: &[u8]) -> Finished<'static> {
+    let bytes = sure!(rt; Vec::from_slice(rt.alloc(), bytes));
+    Finished::copied(bytes, rt.alloc())
+}
+
 // Places a text. Where there is no memory, the table tells what it told before.
-fn place(table: &mut Finished<'static>, text: &'static [u8], offset: u32) -> Option<bool> {
+fn place(
+    rt: &impl Runtime,
+    table: &mut Finished<'static>,
+    text: &'static [u8],
+    offset: u32,
+) -> bool {
     let had = table.offset_of(text);
     match table.place(text, offset) {
-        Ok(is_placed) => Some(is_placed),
-        Err(_) if table.offset_of(text) != had => None,
-        Err(_) => table.place(text, offset).ok(),
-    }
-}
-
-// The row's offset of the first text that the table tells a place of, while none is placed yet, or another one, once all are.
-fn misplaced(table: &Finished<'_>, rows: &[Row], are_placed: bool) -> Option<u32> {
-    for row in rows {
-        let want = if are_placed { row.3 } else { None };
-        if table.offset_of(row.0) != want {
-            return Some(row.1);
+        Ok(is_placed) => is_placed,
+        Err(_) => {
+            same(rt, "after a refusal", &table.offset_of(text), &had);
+            table.place(text, offset).expect(rt, "refused memory twice")
         }
     }
-    None
 }
 
-// Places each text, and tells the offset of the first one that is placed and should not be, or the other way round.
-fn place_each(table: &mut Finished<'static>, rows: &[Row]) -> Option<u32> {
-    for row in rows {
-        if place(table, row.0, row.1) != Some(row.2) {
-            return Some(row.1);
-        }
-    }
-    None
-}
-
-// Of the rows that don't hold before texts are placed, while each is, and once all are, the offsets. Each text is placed, or
-// isn't, and the places of the others stay.
-fn wrong_rows(table: &mut Finished<'static>, rows: &[Row]) -> [Option<u32>; 3] {
-    [
-        misplaced(table, rows, false),
-        place_each(table, rows),
-        misplaced(table, rows, true),
-    ]
-}
-
-// The same for a copied table of these bytes, which stay.
-fn follow(alloc: Global, bytes: &[u8], rows: &[Row]) -> Result<[Option<u32>; 3], Failure> {
-    let mut table = Finished::copied(Vec::from_slice(alloc, bytes)?, alloc);
-    let found = wrong_rows(&mut table, rows);
-    if table.bytes() != bytes {
-        return Err(Failure::Unmet);
-    }
-    Ok(found)
-}
-
-fn expect(rt: &impl Runtime, table: &Table) {
-    let found = sure!(rt; follow(rt.alloc(), table.1, table.2));
-    same(rt, table.0, &found, &[None; 3]);
-}
-
-// (A list of tables is kept in the frame of the test that names it, so the loop stands apart.)
-fn expect_each(rt: &impl Runtime, tables: &[Table]) {
-    for table in tables {
-        expect(rt, table);
+// No text is placed yet, or all are.
+fn compare(rt: &impl Runtime, table: &Finished<'static>, rows: &[Row], are_placed: bool) {
+    for (text, _, _, place) in rows {
+        let want = if are_placed { *place } else { None };
+        same(rt, "place", &table.offset_of(text), &want);
     }
 }
 
-// What a table is, its bytes, and texts in it.
-type Table = (&'static str, &'static [u8], &'static [Row]);
+fn place_each(rt: &impl Runtime, table: &mut Finished<'static>, rows: &[Row]) {
+    for (text, offset, is_placed, _) in rows {
+        same(rt, "is placed", &place(rt, table, text, *offset), is_placed);
+    }
+}
 
-const TABLES: [Table; 7] = [
+// Each text is placed, or isn't, and the places of the others stay.
+fn expect(rt: &impl Runtime, table: &mut Finished<'static>, rows: &[Row]) {
+    compare(rt, table, rows, false);
+    place_each(rt, table, rows);
+    compare(rt, table, rows, true);
+}
+
+fn follow(rt: &impl Runtime, what: &str, bytes: &[u8], rows: &[Row]) {
+    let mut table = copied(rt, bytes);
+    expect(rt, &mut table, rows);
+    same_bytes(rt, what, table.bytes(), bytes);
+}
+
+// The bytes of tables, and texts in them.
+const TABLES: [(&str, &[u8], &[Row]); 7] = [
     (
         "texts of a table",
         b"\0libc.so.6\0libm.so.6\0",
@@ -143,13 +127,13 @@ const TABLES: [Table; 7] = [
 
 #[test]
 fn places_texts(rt: HostRuntime) {
-    expect_each(&rt, &TABLES);
+    for (what, bytes, rows) in &TABLES {
+        follow(&rt, what, bytes, rows);
+    }
 }
 
 // Where `bc` and `abc` are placed, and where the third text stands.
-type Places = [Option<u32>; 3];
-
-fn places(table: &Finished<'static>) -> Places {
+fn places(table: &Finished<'static>) -> [Option<u32>; 3] {
     [
         table.offset_of(b"bc"),
         table.offset_of(b"abc"),
@@ -157,38 +141,29 @@ fn places(table: &Finished<'static>) -> Places {
     ]
 }
 
-// Whether `bc` is placed at an offset, and the places then.
-fn placed(table: &mut Finished<'static>, offset: u32) -> (Option<bool>, Places) {
-    let is_placed = place(table, b"bc", offset);
-    (is_placed, places(table))
-}
+// An offset, whether `bc` is placed there, and the places then.
+const PLACED: [(u32, bool, [Option<u32>; 3]); 2] = [
+    (3, false, [Some(6), Some(5), Some(6)]),
+    (2, true, [Some(2), Some(5), Some(6)]),
+];
 
-// The places in a table, and what comes of `bc` at 3 and then at 2.
-fn steps(table: &mut Finished<'static>) -> (Places, [(Option<bool>, Places); 2]) {
-    (places(table), [placed(table, 3), placed(table, 2)])
-}
-
-const MADE: [&[u8]; 3] = [b"abc", b"xbc", b"bc"];
-
-fn steps_in_a_table(alloc: Global) -> Result<(Places, [(Option<bool>, Places); 2]), Failure> {
-    let mut table = table_of(alloc, &MADE)?;
-    if table.bytes() != b"\0xbc\0abc\0".as_slice() {
-        return Err(Failure::Unmet);
+fn expect_placed(rt: &impl Runtime, table: &mut Finished<'static>) {
+    let found = (table.bytes(), places(table));
+    let want = (b"\0xbc\0abc\0".as_slice(), [Some(6), Some(5), Some(6)]);
+    same(rt, "before", &found, &want);
+    for (offset, is_placed, want) in &PLACED {
+        same(
+            rt,
+            "is placed",
+            &place(rt, table, b"bc", *offset),
+            is_placed,
+        );
+        same(rt, "after", &places(table), want);
     }
-    Ok(steps(&mut table))
 }
-
-const STEPS: (Places, [(Option<bool>, Places); 2]) = (
-    [Some(6), Some(5), Some(6)],
-    [
-        (Some(false), [Some(6), Some(5), Some(6)]),
-        (Some(true), [Some(2), Some(5), Some(6)]),
-    ],
-);
 
 // A text of a table that was made is placed where it stands a second time. Other texts, and what was added, stay.
 #[test]
 fn placed_in_a_table_that_was_made(rt: HostRuntime) {
-    let found = sure!(&rt; steps_in_a_table(rt.alloc()));
-    same(&rt, "before, and after each", &found, &STEPS);
+    expect_placed(&rt, &mut table_of(&rt, &[b"abc", b"xbc", b"bc"]));
 }

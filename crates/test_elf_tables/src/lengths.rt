@@ -1,8 +1,8 @@
 //! The length of a string table, against a slow count by its definition, and tables of many texts.
 
-use crate::support::{Failure, repeated, same, table_of};
+use crate::support::{Runtime, repeated, same, table_of};
 use elf_tables::Finished;
-use std::alloc::{AllocError, Global};
+use std::alloc::AllocError;
 
 // Bytes of which made texts are parts.
 const LETTERS: &[u8] = b"abbabaabbaababbabaababbaabbabaab";
@@ -15,13 +15,11 @@ fn part(bytes: &[u8], start: usize, length: usize) -> &[u8] {
 
 // Whether a text is the first of its kind in a list, isn't empty, and no other text ends with it.
 fn needs_bytes(texts: &[&[u8]], i: usize, text: &[u8]) -> bool {
-    for (j, other) in texts.iter().enumerate() {
-        let is_earlier = j < i && *other == text;
-        if is_earlier || *other != text && other.ends_with(text) {
-            return false;
-        }
-    }
-    !text.is_empty()
+    let earlier = texts.iter().take(i).any(|other| *other == text);
+    let shared = texts
+        .iter()
+        .any(|other| *other != text && other.ends_with(text));
+    !text.is_empty() && !earlier && !shared
 }
 
 // How long a table of these texts is, each compared with each.
@@ -36,8 +34,8 @@ fn slow_length(texts: &[&[u8]]) -> usize {
 }
 
 // A short list of texts, another one for each number.
-fn made(alloc: Global, number: u32) -> Result<Vec<&'static [u8]>, AllocError> {
-    let mut texts = Vec::new(alloc);
+fn made(rt: &impl Runtime, number: u32) -> Result<Vec<&'static [u8]>, AllocError> {
+    let mut texts = Vec::new(rt.alloc());
     let mut state = number;
     for _ in 0..number % 8 {
         state = state.wrapping_mul(1_664_525).wrapping_add(1_013_904_223);
@@ -48,18 +46,20 @@ fn made(alloc: Global, number: u32) -> Result<Vec<&'static [u8]>, AllocError> {
     Ok(texts)
 }
 
-// How long the table of a made list is, and how long the slow count says that it is.
-fn lengths(alloc: Global, number: u32) -> Result<(usize, usize), Failure> {
-    let texts = made(alloc, number)?;
-    let table = table_of(alloc, &texts)?;
-    Ok((table.bytes().len(), slow_length(&texts)))
+fn length(rt: &impl Runtime, texts: &[&[u8]]) -> usize {
+    table_of(rt, texts).bytes().len()
+}
+
+// The table of a made list is as long as the slow count says.
+fn compare(rt: &impl Runtime, number: u32) {
+    let texts = sure!(rt; made(rt, number));
+    same(rt, "length", &length(rt, &texts), &slow_length(&texts));
 }
 
 #[test]
 fn slow_count_of_made_lists(rt: HostRuntime) {
     for number in 0..4000 {
-        let (found, want) = sure!(&rt; lengths(rt.alloc(), number));
-        same(&rt, "length", &found, &want);
+        compare(&rt, number);
     }
 }
 
@@ -72,48 +72,37 @@ fn stands(bytes: &[u8], place: Option<u32>, text: &[u8]) -> bool {
     there.strip_prefix(text) == Some(&[0])
 }
 
-// How many texts stand where the table tells.
-fn count_standing(table: &Finished<'_>, texts: &[&[u8]]) -> usize {
+// The table of many texts is so long, and each text stands where it tells.
+fn follow(rt: &impl Runtime, texts: &[&[u8]], length: usize) {
+    expect(rt, &table_of(rt, texts), texts, length);
+}
+
+fn expect(rt: &impl Runtime, table: &Finished<'_>, texts: &[&[u8]], length: usize) {
+    same(rt, "length", &table.bytes().len(), &length);
     let mut count: usize = 0;
     for text in texts {
         if stands(table.bytes(), table.offset_of(text), text) {
             count = count.saturating_add(1);
         }
     }
-    count
-}
-
-// How long the table of many texts is, how many texts there are, and how many stand where it tells.
-type Measures = [usize; 3];
-
-fn measures(alloc: Global, texts: &[&[u8]]) -> Result<Measures, Failure> {
-    let table = table_of(alloc, texts)?;
-    Ok([
-        table.bytes().len(),
-        texts.len(),
-        count_standing(&table, texts),
-    ])
+    same(rt, "texts that stand", &count, &texts.len());
 }
 
 // Names of twelve bytes end to end, each another one.
-fn names(alloc: Global) -> Result<Vec<u8>, AllocError> {
-    let mut names = Vec::new(alloc);
+fn names(rt: &impl Runtime) -> Result<Vec<u8>, AllocError> {
+    let mut names = Vec::new(rt.alloc());
     for number in 0..16_384_u32 {
+        let letter = |shift: u32| b'a' + ((number >> shift) % 8) as u8;
+        let end = [letter(12), letter(9), letter(6), letter(3), letter(0)];
         names.extend_from_slice(b"symbol_")?;
-        names.extend_from_slice(&letters(number))?;
+        names.extend_from_slice(&end)?;
     }
     Ok(names)
 }
 
-// A number of 15 bits as five letters.
-fn letters(number: u32) -> [u8; 5] {
-    let letter = |shift: u32| b'a' + ((number >> shift) % 8) as u8;
-    [letter(12), letter(9), letter(6), letter(3), letter(0)]
-}
-
 // Each of the names, and three of its ends.
-fn names_and_ends<'n>(alloc: Global, names: &'n [u8]) -> Result<Vec<&'n [u8]>, AllocError> {
-    let mut texts = Vec::new(alloc);
+fn names_and_ends<'n>(rt: &impl Runtime, names: &'n [u8]) -> Result<Vec<&'n [u8]>, AllocError> {
+    let mut texts = Vec::new(rt.alloc());
     for name in 0..16_384 {
         for start in [0, 3, 6, 7] {
             texts.push(part(names, 12 * name + start, 12 - start))?;
@@ -122,42 +111,32 @@ fn names_and_ends<'n>(alloc: Global, names: &'n [u8]) -> Result<Vec<&'n [u8]>, A
     Ok(texts)
 }
 
-fn many_texts(alloc: Global) -> Result<Measures, Failure> {
-    let names = names(alloc)?;
-    measures(alloc, &names_and_ends(alloc, &names)?)
-}
-
 #[test]
 fn many_texts_with_common_ends(rt: HostRuntime) {
-    let found = settled!(many_texts(rt.alloc()));
-    same(&rt, "measures", &found, &Ok([212_993, 65_536, 65_536]));
-}
-
-fn one_text(alloc: Global) -> Result<Measures, Failure> {
-    measures(alloc, &repeated(alloc)?)
+    let names = sure!(&rt; names(&rt));
+    let texts = sure!(&rt; names_and_ends(&rt, &names));
+    same(&rt, "texts", &texts.len(), &65_536);
+    follow(&rt, &texts, 212_993);
 }
 
 #[test]
 fn one_text_many_times(rt: HostRuntime) {
-    let found = settled!(one_text(rt.alloc()));
-    same(&rt, "measures", &found, &Ok([5, 65_536, 65_536]));
+    let texts = sure!(&rt; repeated(&rt));
+    follow(&rt, &texts, 5);
 }
 
 // The ends of a text, each as a text.
-fn ends<'t>(alloc: Global, text: &'t [u8]) -> Result<Vec<&'t [u8]>, AllocError> {
-    let mut texts = Vec::new(alloc);
+fn ends<'t>(rt: &impl Runtime, text: &'t [u8]) -> Result<Vec<&'t [u8]>, AllocError> {
+    let mut texts = Vec::new(rt.alloc());
     for start in 0..text.len() {
         texts.push(part(text, start, text.len()))?;
     }
     Ok(texts)
 }
 
-fn all_ends(alloc: Global) -> Result<Measures, Failure> {
-    measures(alloc, &ends(alloc, &[b'a'; 1000])?)
-}
-
 #[test]
 fn all_ends_of_a_text(rt: HostRuntime) {
-    let found = settled!(all_ends(rt.alloc()));
-    same(&rt, "measures", &found, &Ok([1002, 1000, 1000]));
+    let text = [b'a'; 1000];
+    let texts = sure!(&rt; ends(&rt, &text));
+    follow(&rt, &texts, 1002);
 }

@@ -2,16 +2,8 @@
 //! they test does not wait for them.
 #![tactic(auto)]
 
-// What a call answers. It is made twice, and what it answers first counts where that is not want of memory. Then it is not
-// refused memory again. (So no call needs a branch for it.)
-#[cfg(test)]
-macro_rules! again {
-    ($rt:expr; $call:expr) => {
-        crate::support::granted($rt, $call, $call)
-    };
-}
-
-// What such a call gives, which is to succeed.
+// What a call gives, which is to succeed. It is made twice, and what it answers first counts where that is not want of memory.
+// Then it is not refused memory again. (So no call needs a branch for it.)
 #[cfg(test)]
 macro_rules! sure {
     ($rt:expr; $call:expr) => {
@@ -19,14 +11,11 @@ macro_rules! sure {
     };
 }
 
-// What a call answers, which is made a second time only where the first was refused memory: for calls that take long.
+// Compares the bytes that a call answers, made twice in the same way.
 #[cfg(test)]
-macro_rules! settled {
-    ($call:expr) => {
-        match $call {
-            Err(crate::support::Failure::Memory) => $call,
-            answer => answer,
-        }
+macro_rules! expect {
+    ($rt:expr; $call:expr, $want:expr) => {
+        crate::support::answers($rt, "bytes", $call, $call, $want)
     };
 }
 

@@ -5,11 +5,11 @@ ghost use Rattle.elf_image.specs.ImageModel.{needs_model};
 ghost use Rattle.elf_tables.specs.Strings.{place_of};
 ghost use Rattle.elf_tables.specs.VersionRecords.{has_needs_texts};
 
-use crate::support::{Failure, Runtime, answers, table_of};
+use crate::support::{Runtime, table_of};
 use elf_image::{VersionNeed, VersionNeedName};
 use elf_tables::{Finished, build_verneed};
 use patch_bytes::{ByteOrder2, ByteString};
-use std::alloc::{AllocError, Global};
+use std::alloc::AllocError;
 
 // Whether a table has the names of these versions.
 fn has_all(versions: &[VersionNeedName<'_>], table: &Finished<'_>) -> bool
@@ -47,10 +47,10 @@ type Needs<'n> = (&'static [u8], &'n [(u16, u16, &'static [u8])]);
 
 // The versions as they are kept.
 fn kept_versions(
-    alloc: Global,
+    rt: &impl Runtime,
     versions: &[(u16, u16, &'static [u8])],
 ) -> Result<Vec<VersionNeedName<'static>>, AllocError> {
-    let mut kept = Vec::new(alloc);
+    let mut kept = Vec::new(rt.alloc());
     for (index, flags, name) in versions {
         kept.push(VersionNeedName {
             index: *index,
@@ -61,20 +61,17 @@ fn kept_versions(
     Ok(kept)
 }
 
-// A library as it is kept.
-fn kept_library(alloc: Global, library: &Needs<'_>) -> Result<VersionNeed<'static>, AllocError> {
-    let versions = kept_versions(alloc, library.1)?;
-    Ok(VersionNeed {
-        file: ByteString::borrowed(library.0),
-        versions,
-    })
-}
-
 // The libraries as they are kept.
-fn kept(alloc: Global, libraries: &[Needs<'_>]) -> Result<Vec<VersionNeed<'static>>, AllocError> {
-    let mut kept = Vec::new(alloc);
-    for library in libraries {
-        kept.push(kept_library(alloc, library)?)?;
+fn kept(
+    rt: &impl Runtime,
+    libraries: &[Needs<'_>],
+) -> Result<Vec<VersionNeed<'static>>, AllocError> {
+    let mut kept = Vec::new(rt.alloc());
+    for (file, versions) in libraries {
+        kept.push(VersionNeed {
+            file: ByteString::borrowed(file),
+            versions: kept_versions(rt, versions)?,
+        })?;
     }
     Ok(kept)
 }
@@ -87,21 +84,15 @@ struct Row<'n> {
     bytes: Option<&'static [u8]>,
 }
 
-// The bytes of the table of versions whose texts stand in another.
-fn built(
-    alloc: Global,
-    records: &[VersionNeed<'_>],
-    table: &Finished<'_>,
-) -> Result<Vec<u8>, Failure> {
-    if !has_names(records, table) {
-        return Err(Failure::Unmet);
-    }
-    Ok(build_verneed(alloc, records, table, ByteOrder2::Little)?)
+// Compares the table of versions whose texts stand in another.
+fn expect(rt: &impl Runtime, row: &Row<'_>, table: &Finished<'_>, records: &[VersionNeed<'_>]) {
+    assert!(rt; has_names(records, table), "texts of versions");
+    expect!(rt; build_verneed(rt.alloc(), records, table, ByteOrder2::Little), row.bytes);
 }
 
-fn built_of(alloc: Global, row: &Row<'_>) -> Result<Vec<u8>, Failure> {
-    let table = table_of(alloc, row.texts)?;
-    built(alloc, &kept(alloc, row.libraries)?, &table)
+fn follow(rt: &impl Runtime, row: &Row<'_>) {
+    let records = sure!(rt; kept(rt, row.libraries));
+    expect(rt, row, &table_of(rt, row.texts), &records);
 }
 
 const NEEDED: [Row<'static>; 2] = [
@@ -125,37 +116,27 @@ const NEEDED: [Row<'static>; 2] = [
     },
 ];
 
-fn expect(rt: &impl Runtime, row: &Row<'_>) {
-    let found = again!(rt; built_of(rt.alloc(), row));
-    answers(rt, "needed versions", &found, row.bytes);
-}
-
 #[test]
 fn needed_versions(rt: HostRuntime) {
     for row in &NEEDED {
-        expect(&rt, row);
+        follow(&rt, row);
     }
 }
 
 // One version, again and again.
-fn repeated_version(alloc: Global) -> Result<Vec<(u16, u16, &'static [u8])>, AllocError> {
-    let mut versions: Vec<(u16, u16, &'static [u8])> = Vec::new(alloc);
+fn repeated_version(rt: &impl Runtime) -> Result<Vec<(u16, u16, &'static [u8])>, AllocError> {
+    let mut versions: Vec<(u16, u16, &'static [u8])> = Vec::new(rt.alloc());
     versions.resize(65_536, (2, 0, b"abc"))?;
     Ok(versions)
 }
 
-fn many_built(alloc: Global) -> Result<Vec<u8>, Failure> {
-    let versions = repeated_version(alloc)?;
+#[test]
+fn too_many_versions(rt: HostRuntime) {
+    let versions = sure!(&rt; repeated_version(&rt));
     let row = Row {
         libraries: &[(b"abc", &versions)],
         texts: &[b"abc"],
         bytes: None,
     };
-    built_of(alloc, &row)
-}
-
-#[test]
-fn too_many_versions(rt: HostRuntime) {
-    let found = settled!(many_built(rt.alloc()));
-    answers(&rt, "too many versions", &found, None);
+    follow(&rt, &row);
 }

@@ -1,13 +1,13 @@
 //! The bytes of records, which were made by hand from the tables of the gABI.
 
-use crate::support::{Failure, same_bytes};
+use crate::support::{Runtime, same_bytes};
 use elf_format::form::Form;
 use elf_format::records::{EntryNumbers, FileHeader, SectionHeader, SegmentHeader, SymbolNumbers};
 use elf_tables::spelled::{
     push_entry, push_file_header, push_section_header, push_segment_header, push_symbol,
 };
 use patch_bytes::{ByteOrder2, Wide};
-use std::alloc::{AllocError, Global};
+use std::alloc::AllocError;
 
 const NARROW: Form = Form {
     wide: Wide::W32,
@@ -95,8 +95,8 @@ fn put(bytes: &mut Vec<u8>, kind: Kind, form: Form) -> Result<(), AllocError> {
 }
 
 // The bytes of a record.
-fn bytes_of(alloc: Global, kind: Kind, form: Form) -> Result<Vec<u8>, Failure> {
-    let mut bytes = Vec::new(alloc);
+fn bytes_of(rt: &impl Runtime, kind: Kind, form: Form) -> Result<Vec<u8>, AllocError> {
+    let mut bytes = Vec::new(rt.alloc());
     put(&mut bytes, kind, form)?;
     Ok(bytes)
 }
@@ -167,10 +167,13 @@ const ROWS: [Row; 10] = [
     ),
 ];
 
+fn spell(rt: &impl Runtime, row: &Row) {
+    same_bytes(rt, row.0, &sure!(rt; bytes_of(rt, row.1, row.2)), row.3);
+}
+
 #[test]
 fn spells_records(rt: HostRuntime) {
     for row in &ROWS {
-        let found = sure!(&rt; bytes_of(rt.alloc(), row.1, row.2));
-        same_bytes(&rt, row.0, &found, row.3);
+        spell(&rt, row);
     }
 }

@@ -1,8 +1,7 @@
 //! String tables of a few texts: their bytes, and where each text stands.
 
-use crate::support::{Failure, Runtime, same, same_bytes, table_of};
+use crate::support::{Runtime, same, table_of};
 use elf_tables::Finished;
-use std::alloc::Global;
 
 // Texts, the table's bytes, where each text stands, and texts that it tells no place of.
 #[derive(Clone, Copy)]
@@ -80,57 +79,30 @@ const ROWS: [Row; 9] = [
     },
 ];
 
-// The bytes of the table that is made of the texts.
-fn bytes_of(alloc: Global, row: &Row) -> Result<Vec<u8>, Failure> {
-    let table = table_of(alloc, row.texts)?;
-    Ok(Vec::from_slice(alloc, table.bytes())?)
-}
-
-// Whether a table tells where each text stands.
-fn tells_texts(row: &Row, table: &Finished<'_>) -> bool {
-    for (i, text) in row.texts.iter().enumerate() {
-        if table.offset_of(text) != row.places.get(i).copied() {
-            return false;
-        }
-    }
-    true
-}
-
-// Whether it tells no place of the others.
-fn tells_no_others(row: &Row, table: &Finished<'_>) -> bool {
-    for text in row.others {
-        if table.offset_of(text).is_some() {
-            return false;
-        }
-    }
-    true
-}
-
-// Whether a table tells where each of the texts stands, and where all that were added do, in order, and nothing of the others.
-fn tells_row(row: &Row, table: &Finished<'_>) -> bool {
-    table.in_order() == row.places && tells_texts(row, table) && tells_no_others(row, table)
-}
-
-// The same of the table that is made of the texts.
-fn tells_places(alloc: Global, row: &Row) -> Result<bool, Failure> {
-    Ok(tells_row(row, &table_of(alloc, row.texts)?))
-}
-
+// A table is made of the texts, and asked for them and for others, and for the places of all that were added, in order.
 fn follow(rt: &impl Runtime, row: &Row) {
-    let found = sure!(rt; bytes_of(rt.alloc(), row));
-    same_bytes(rt, row.what, &found, row.bytes);
-    let tells_places = sure!(rt; tells_places(rt.alloc(), row));
-    same(rt, row.what, &tells_places, &true);
+    compare(rt, row, &table_of(rt, row.texts));
 }
 
-// (A table is kept in the frame of the test that names it, so the loop stands apart.)
-fn follow_each(rt: &impl Runtime, rows: &[Row]) {
-    for row in rows {
-        follow(rt, row);
+fn compare(rt: &impl Runtime, row: &Row, table: &Finished<'_>) {
+    let found = (table.bytes(), table.in_order());
+    same(rt, row.what, &found, &(row.bytes, row.places));
+    for (i, text) in row.texts.iter().enumerate() {
+        same(
+            rt,
+            row.what,
+            &table.offset_of(text),
+            &row.places.get(i).copied(),
+        );
+    }
+    for text in row.others {
+        same(rt, row.what, &table.offset_of(text), &None);
     }
 }
 
 #[test]
 fn places_texts(rt: HostRuntime) {
-    follow_each(&rt, &ROWS);
+    for row in &ROWS {
+        follow(&rt, row);
+    }
 }

@@ -1,9 +1,8 @@
-//! What the tests share: why calls give nothing, comparisons, and string tables of given texts.
-ghost use Rattle.std.specs.Prelude.{IfOk};
+//! What the tests share: calls that are refused memory, comparisons, and string tables of given texts.
 ghost use Rattle.elf_tables.specs.Strings.{HoldNoNul};
 
 use elf_tables::{Finished, StringTable, TableFault};
-use std::alloc::{AllocError, Global};
+use std::alloc::AllocError;
 use std::fmt;
 use std::process::Abort;
 
@@ -12,53 +11,49 @@ pub(crate) trait Runtime: Abort + AllocGlobal {}
 
 impl<R: Abort + AllocGlobal> Runtime for R {}
 
-// Why a call gives nothing.
-#[derive(Clone, Copy, Debug, PartialEq)]
-pub(crate) enum Failure {
-    // There isn't enough memory.
-    Memory,
-    // A number is past its field.
-    NumberTooLarge,
-    // What the call rests on doesn't hold.
-    Unmet,
+// An error that can be want of memory.
+pub(crate) trait Refusal: Drop {
+    fn is_memory(&self) -> bool;
 }
 
-impl From<AllocError> for Failure {
-    fn from(_error: AllocError) -> Failure {
-        Failure::Memory
+impl Refusal for AllocError {
+    fn is_memory(&self) -> bool {
+        true
     }
 }
 
-impl From<TableFault> for Failure {
-    fn from(fault: TableFault) -> Failure {
-        match fault {
-            TableFault::Memory => Failure::Memory,
-            TableFault::NumberTooLarge => Failure::NumberTooLarge,
-        }
+impl Refusal for TableFault {
+    fn is_memory(&self) -> bool {
+        matches!(self, TableFault::Memory)
+    }
+}
+
+// Whether an answer is want of memory.
+pub(crate) fn wants_memory<T, E: Refusal>(answer: &Result<T, E>) -> bool {
+    match answer {
+        Ok(_) => false,
+        Err(error) => error.is_memory(),
     }
 }
 
 // The first answer of a call, or the second where the first is want of memory. The second is not, then.
-pub(crate) fn granted<T: Drop>(
+pub(crate) fn granted<T: Drop, E: Refusal>(
     rt: &impl Abort,
-    first: Result<T, Failure>,
-    second: Result<T, Failure>,
-) -> Result<T, Failure> {
-    if !matches!(first, Err(Failure::Memory)) {
+    first: Result<T, E>,
+    second: Result<T, E>,
+) -> Result<T, E> {
+    if !wants_memory(&first) {
         return first;
     }
-    assert!(rt;
-        !matches!(second, Err(Failure::Memory)),
-        "refused memory twice"
-    );
+    assert!(rt; !wants_memory(&second), "refused memory twice");
     second
 }
 
-// What the answer gives, which is no failure.
-pub(crate) fn given<T: Drop>(
+// What the answer gives, which is no error.
+pub(crate) fn given<T: Drop, E: Refusal + fmt::Debug>(
     rt: &impl Abort,
-    first: Result<T, Failure>,
-    second: Result<T, Failure>,
+    first: Result<T, E>,
+    second: Result<T, E>,
 ) -> T {
     granted(rt, first, second).expect(rt, "an answer")
 }
@@ -73,24 +68,6 @@ pub(crate) fn same_bytes(rt: &impl Abort, what: &str, found: &[u8], want: &[u8])
     same(rt, what, &found, &want);
 }
 
-// Compares what a call answers: bytes, or none where a number is too large.
-pub(crate) fn answers(
-    rt: &impl Abort,
-    what: &str,
-    answer: &Result<Vec<u8>, Failure>,
-    want: Option<&[u8]>,
-) {
-    match answer {
-        Ok(bytes) => same(rt, what, &Some(bytes.as_slice()), &want),
-        Err(failure) => same(
-            rt,
-            what,
-            &(*failure, None),
-            &(Failure::NumberTooLarge, want),
-        ),
-    }
-}
-
 // Adds a text that has no NUL, once more where memory was refused.
 fn add<'t>(table: &mut StringTable<'t>, text: &'t [u8]) -> bool
     requires { HoldNoNul table.old }
@@ -99,45 +76,66 @@ fn add<'t>(table: &mut StringTable<'t>, text: &'t [u8]) -> bool
     !text.contains(&0) && (table.add(text).is_ok() || table.add(text).is_ok())
 }
 
-// Whether a table holds these texts.
-fn has_texts(table: &StringTable<'_>, texts: &[&[u8]]) -> bool {
+// Compares the texts of a table.
+fn expect_texts(rt: &impl Runtime, table: &StringTable<'_>, texts: &[&[u8]]) {
+    same(rt, "texts", &table.len(), &texts.len());
     for i in 0..table.len() {
-        if texts.get(i) != Some(&table.text(i)) {
-            return false;
-        }
-    }
-    table.len() == texts.len()
-}
-
-// A table of no text, with room for so many.
-fn table_with_room<'t>(alloc: Global, count: usize) -> Result<StringTable<'t>, Failure>
-    ensures { IfOk result (λ table. HoldNoNul table) }
-{
-    let mut table = StringTable::new(alloc);
-    if table.reserve(count).is_ok() || table.reserve(count).is_ok() {
-        Ok(table)
-    } else {
-        Err(Failure::Memory)
+        same(
+            rt,
+            "a text that was added",
+            &texts.get(i),
+            &Some(&table.text(i)),
+        );
     }
 }
 
 // The table of these texts, of which half have room before they are added.
-pub(crate) fn table_of<'t>(alloc: Global, texts: &[&'t [u8]]) -> Result<Finished<'t>, Failure> {
-    let mut table = table_with_room(alloc, texts.len() / 2)?;
+fn finished<'t>(rt: &impl Runtime, texts: &[&'t [u8]]) -> Result<Finished<'t>, TableFault> {
+    let mut table = StringTable::new(rt.alloc());
+    let half = texts.len() / 2;
+    same(
+        rt,
+        "room",
+        &(table.reserve(half).is_ok() || table.reserve(half).is_ok()),
+        &true,
+    );
     for text in texts {
-        if !add(&mut table, text) {
-            return Err(Failure::Unmet);
-        }
+        assert!(rt; add(&mut table, text), "a text");
     }
-    if !has_texts(&table, texts) {
-        return Err(Failure::Unmet);
+    expect_texts(rt, &table, texts);
+    table.finish(rt.alloc())
+}
+
+// The same, made again where there was no memory.
+pub(crate) fn table_of<'t>(rt: &impl Runtime, texts: &[&'t [u8]]) -> Finished<'t> {
+    match finished(rt, texts) {
+        Ok(table) => table,
+        Err(_) => finished(rt, texts).expect(rt, "memory"),
     }
-    Ok(table.finish(alloc)?)
 }
 
 // One text 65,536 times.
-pub(crate) fn repeated(alloc: Global) -> Result<Vec<&'static [u8]>, AllocError> {
-    let mut texts: Vec<&'static [u8]> = Vec::new(alloc);
+pub(crate) fn repeated(rt: &impl Runtime) -> Result<Vec<&'static [u8]>, AllocError> {
+    let mut texts: Vec<&'static [u8]> = Vec::new(rt.alloc());
     texts.resize(65_536, b"abc")?;
     Ok(texts)
+}
+
+// Compares the bytes that a call answers, or the same call made again. There are none where a number is too large.
+pub(crate) fn answers(
+    rt: &impl Abort,
+    what: &str,
+    first: Result<Vec<u8>, TableFault>,
+    second: Result<Vec<u8>, TableFault>,
+    want: Option<&[u8]>,
+) {
+    match granted(rt, first, second) {
+        Ok(bytes) => same(rt, what, &Some(bytes.as_slice()), &want),
+        Err(fault) => same(
+            rt,
+            what,
+            &(fault, None),
+            &(TableFault::NumberTooLarge, want),
+        ),
+    }
 }

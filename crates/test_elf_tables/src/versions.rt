@@ -5,16 +5,14 @@ ghost use Rattle.elf_image.specs.ImageModel.{definition_model};
 ghost use Rattle.elf_tables.specs.Strings.{place_of};
 ghost use Rattle.elf_tables.specs.VersionRecords.{has_definition_texts};
 
-use crate::support::{Failure, Runtime, answers, repeated, table_of};
+use crate::support::{Runtime, repeated, table_of};
 use elf_image::{VersionDef, VersionId};
 use elf_tables::{Finished, build_verdef, build_versym};
 use patch_bytes::{ByteOrder2, ByteString};
-use std::alloc::{AllocError, Global};
+use std::alloc::AllocError;
 
 // Versions of symbols, the byte order, and the bytes. There are none where a number is too large.
-type SymbolRow = (&'static [VersionId], ByteOrder2, Option<&'static [u8]>);
-
-const SYMBOLS: [SymbolRow; 5] = [
+const SYMBOLS: [(&[VersionId], ByteOrder2, Option<&[u8]>); 5] = [
     (&[], ByteOrder2::Little, Some(b"")),
     (
         &[VersionId {
@@ -62,25 +60,11 @@ const SYMBOLS: [SymbolRow; 5] = [
     ),
 ];
 
-fn built_symbols(alloc: Global, ids: &[VersionId], order: ByteOrder2) -> Result<Vec<u8>, Failure> {
-    Ok(build_versym(alloc, ids, order)?)
-}
-
-fn expect_symbols(rt: &impl Runtime, row: &SymbolRow) {
-    let found = again!(rt; built_symbols(rt.alloc(), row.0, row.1));
-    answers(rt, "versions of symbols", &found, row.2);
-}
-
-// (A table is kept in the frame of the test that names it, so the loop stands apart.)
-fn expect_each_symbols(rt: &impl Runtime, rows: &[SymbolRow]) {
-    for row in rows {
-        expect_symbols(rt, row);
-    }
-}
-
 #[test]
 fn versions_of_symbols(rt: HostRuntime) {
-    expect_each_symbols(&rt, &SYMBOLS);
+    for (ids, order, want) in &SYMBOLS {
+        expect!(&rt; build_versym(rt.alloc(), ids, *order), *want);
+    }
 }
 
 // Whether the table has these names.
@@ -113,37 +97,28 @@ type Definition<'n> = (u16, u16, &'n [&'static [u8]]);
 
 // The names as they are kept.
 fn kept_names(
-    alloc: Global,
+    rt: &impl Runtime,
     names: &[&'static [u8]],
 ) -> Result<Vec<ByteString<'static>>, AllocError> {
-    let mut kept = Vec::new(alloc);
+    let mut kept = Vec::new(rt.alloc());
     for name in names {
         kept.push(ByteString::borrowed(name))?;
     }
     Ok(kept)
 }
 
-// A version as it is kept.
-fn kept_version(
-    alloc: Global,
-    version: &Definition<'_>,
-) -> Result<VersionDef<'static>, AllocError> {
-    let names = kept_names(alloc, version.2)?;
-    Ok(VersionDef {
-        index: version.0,
-        flags: version.1,
-        names,
-    })
-}
-
 // The versions as they are kept.
 fn kept(
-    alloc: Global,
+    rt: &impl Runtime,
     versions: &[Definition<'_>],
 ) -> Result<Vec<VersionDef<'static>>, AllocError> {
-    let mut kept = Vec::new(alloc);
-    for version in versions {
-        kept.push(kept_version(alloc, version)?)?;
+    let mut kept = Vec::new(rt.alloc());
+    for (index, flags, names) in versions {
+        kept.push(VersionDef {
+            index: *index,
+            flags: *flags,
+            names: kept_names(rt, names)?,
+        })?;
     }
     Ok(kept)
 }
@@ -157,22 +132,15 @@ struct Row<'n> {
     bytes: Option<&'static [u8]>,
 }
 
-// The bytes of the table of versions whose names stand in another.
-fn built(
-    alloc: Global,
-    records: &[VersionDef<'_>],
-    table: &Finished<'_>,
-    order: ByteOrder2,
-) -> Result<Vec<u8>, Failure> {
-    if !has_names(records, table) {
-        return Err(Failure::Unmet);
-    }
-    Ok(build_verdef(alloc, records, table, order)?)
+// Compares the table of versions whose names stand in another.
+fn expect(rt: &impl Runtime, row: &Row<'_>, table: &Finished<'_>, records: &[VersionDef<'_>]) {
+    assert!(rt; has_names(records, table), "names of versions");
+    expect!(rt; build_verdef(rt.alloc(), records, table, row.order), row.bytes);
 }
 
-fn built_of(alloc: Global, row: &Row<'_>) -> Result<Vec<u8>, Failure> {
-    let table = table_of(alloc, row.texts)?;
-    built(alloc, &kept(alloc, row.versions)?, &table, row.order)
+fn follow(rt: &impl Runtime, row: &Row<'_>) {
+    let records = sure!(rt; kept(rt, row.versions));
+    expect(rt, row, &table_of(rt, row.texts), &records);
 }
 
 const OWN: Definition<'static> = (1, 1, &[b"libx.so.1"]);
@@ -210,35 +178,21 @@ const DEFINED: [Row<'static>; 3] = [
     },
 ];
 
-fn expect(rt: &impl Runtime, row: &Row<'_>) {
-    let found = again!(rt; built_of(rt.alloc(), row));
-    answers(rt, "defined versions", &found, row.bytes);
-}
-
-fn expect_each(rt: &impl Runtime, rows: &[Row<'_>]) {
-    for row in rows {
-        expect(rt, row);
+#[test]
+fn defined_versions(rt: HostRuntime) {
+    for row in &DEFINED {
+        follow(&rt, row);
     }
 }
 
 #[test]
-fn defined_versions(rt: HostRuntime) {
-    expect_each(&rt, &DEFINED);
-}
-
-fn many_built(alloc: Global) -> Result<Vec<u8>, Failure> {
-    let names = repeated(alloc)?;
+fn too_many_names(rt: HostRuntime) {
+    let names = sure!(&rt; repeated(&rt));
     let row = Row {
         versions: &[(2, 0, &names)],
         texts: &[b"abc"],
         order: ByteOrder2::Little,
         bytes: None,
     };
-    built_of(alloc, &row)
-}
-
-#[test]
-fn too_many_names(rt: HostRuntime) {
-    let found = settled!(many_built(rt.alloc()));
-    answers(&rt, "too many names", &found, None);
+    follow(&rt, &row);
 }

@@ -1,7 +1,7 @@
 //! Batch after batch in one call.
 
 use super::{Container, Edit, agrees, all_owned, opened};
-use crate::support::{Runtime, copied, same, shows, wants_memory};
+use crate::support::{Runtime, same, shows, wants_memory};
 use arwen_macho::macho::{MachoBatchError, MachoContainer, MachoEdit};
 use std::alloc::{AllocError, Global};
 
@@ -69,7 +69,7 @@ fn applied(rt: &impl Runtime, batches: &[Vec<MachoEdit>]) -> (Answers, Vec<u8>) 
 // The bytes of a file, whose lists agree with them.
 fn left<'a, T: Container<'a>>(rt: &impl Runtime, file: &T) -> Vec<u8> {
     agrees(rt, "lists", file);
-    copied(rt, file.bytes())
+    sure!(rt; Vec::from_slice(rt.alloc(), file.bytes()))
 }
 
 // The same. A batch that was refused memory changed nothing, and then all are made once more.

@@ -1,11 +1,10 @@
 //! Versions of symbols in an order.
 use super::made::{BIG_32, LITTLE_64, are_places, symbols};
 use super::told::have_versions;
-use crate::support::{Failure, same_bytes};
+use crate::support::{Runtime, same_bytes};
 use elf_format::form::Form;
 use elf_hashes::build_versym;
 use elf_image_symbol_edits::SymbolsNow;
-use std::alloc::Global;
 
 // Symbol 0 and two symbols of the empty name.
 const WIDE: &[u8] = &[0; 72];
@@ -41,23 +40,24 @@ const ROWS: [Row; 2] = [
     },
 ];
 
-// The versions of symbols in an order.
-fn ordered(alloc: Global, row: &Row, symbols: SymbolsNow<'_>) -> Result<Vec<u8>, Failure> {
-    if !are_places(symbols, row.order) || !have_versions(symbols) {
-        return Err(Failure::Unmet);
-    }
-    Ok(build_versym(alloc, symbols, row.order, row.form)?)
+// Compares the versions of symbols in an order.
+fn expect(rt: &impl Runtime, row: &Row, symbols: SymbolsNow<'_>) {
+    assert!(rt;
+        are_places(symbols, row.order) && have_versions(symbols),
+        "positions and versions"
+    );
+    let found = sure!(rt; build_versym(rt.alloc(), symbols, row.order, row.form));
+    same_bytes(rt, row.what, &found, row.want);
 }
 
-fn built(alloc: Global, row: &Row) -> Result<Vec<u8>, Failure> {
-    let edited = symbols(alloc, row.form, b"\0", row.records, Some(row.versions))?;
-    ordered(alloc, row, edited.lend())
+fn follow(rt: &impl Runtime, row: &Row) {
+    let edited = symbols(rt, row.form, b"\0", row.records, Some(row.versions));
+    expect(rt, row, edited.lend());
 }
 
 #[test]
 fn follow_the_order(rt: HostRuntime) {
     for row in &ROWS {
-        let found = sure!(&rt; built(rt.alloc(), row));
-        same_bytes(&rt, row.what, &found, row.want);
+        follow(&rt, row);
     }
 }

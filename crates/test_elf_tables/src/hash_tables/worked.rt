@@ -1,11 +1,10 @@
 //! Tables whose bytes were laid out by hand. `g` stands in the even bucket of two by both hashes' tables.
 
 use super::made::{BIG_32, LITTLE_64, gabi_table, gnu_table, order_of, symbols};
-use crate::support::{Failure, same, same_bytes};
+use crate::support::{Runtime, same, same_bytes};
 use elf_format::form::Form;
 use elf_hashes::GnuSizes;
 use elf_image_symbol_edits::SymbolsNow;
-use std::alloc::Global;
 
 // No name, `f`, `g`.
 const TEXTS: &[u8] = b"\0f\0g\0";
@@ -73,16 +72,19 @@ const ORDERS: [Order; 3] = [
     },
 ];
 
-fn found_order(alloc: Global, row: &Order) -> Result<Vec<usize>, Failure> {
-    let edited = symbols(alloc, row.form, TEXTS, row.records, None)?;
-    order_of(alloc, edited.lend(), row.buckets)
+fn expect_order(rt: &impl Runtime, row: &Order) {
+    let edited = symbols(rt, row.form, TEXTS, row.records, None);
+    compare_order(rt, row, &order_of(rt, edited.lend(), row.buckets));
+}
+
+fn compare_order(rt: &impl Runtime, row: &Order, found: &[usize]) {
+    same(rt, row.what, &found, &row.want);
 }
 
 #[test]
 fn orders_symbols(rt: HostRuntime) {
     for row in &ORDERS {
-        let found = sure!(&rt; found_order(rt.alloc(), row));
-        same(&rt, row.what, &found.as_slice(), &row.want);
+        expect_order(&rt, row);
     }
 }
 
@@ -166,22 +168,21 @@ const TABLES: [Row; 7] = [
     },
 ];
 
-fn table_of(alloc: Global, symbols: SymbolsNow<'_>, row: &Row) -> Result<Vec<u8>, Failure> {
+fn table_of(rt: &impl Runtime, symbols: SymbolsNow<'_>, row: &Row) -> Vec<u8> {
     match row.kind {
-        Kind::Gabi(buckets) => gabi_table(alloc, symbols, row.order, buckets, row.form),
-        Kind::Gnu(sizes) => gnu_table(alloc, symbols, row.order, sizes, row.form),
+        Kind::Gabi(buckets) => gabi_table(rt, symbols, row.order, buckets, row.form),
+        Kind::Gnu(sizes) => gnu_table(rt, symbols, row.order, sizes, row.form),
     }
 }
 
-fn built(alloc: Global, row: &Row) -> Result<Vec<u8>, Failure> {
-    let edited = symbols(alloc, row.form, TEXTS, row.records, None)?;
-    table_of(alloc, edited.lend(), row)
+fn expect_table(rt: &impl Runtime, row: &Row) {
+    let edited = symbols(rt, row.form, TEXTS, row.records, None);
+    same_bytes(rt, row.what, &table_of(rt, edited.lend(), row), row.want);
 }
 
 #[test]
 fn spells_tables(rt: HostRuntime) {
     for row in &TABLES {
-        let found = sure!(&rt; built(rt.alloc(), row));
-        same_bytes(&rt, row.what, &found, row.want);
+        expect_table(&rt, row);
     }
 }

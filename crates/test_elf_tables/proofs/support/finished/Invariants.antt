@@ -1,6 +1,6 @@
 use Rattle.elf_tables.specs.Strings.{HoldNoNul}
-use Rattle.test_elf_tables.proofs.support.table_of.Given as goal
+use Rattle.test_elf_tables.proofs.support.finished.Given as goal
 
 -- no text so far has a NUL
 abbrev pub invariant-loop-text : goal.invariant-loop-text
-invariant-loop-text l = HoldNoNul l.table
+invariant-loop-text g l = HoldNoNul l.table
