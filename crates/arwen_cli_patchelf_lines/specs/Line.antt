@@ -5,11 +5,13 @@ use Rattle.arwen_cli_peers.specs.Options.{Asked, TellsWrong, Text, line_of, valu
 use Rattle.arwen_cli_peers.specs.Tables.{patchelf_known}
 use Rattle.arwen_cli_patchelf_lines.specs.Plans.{plan_meant, plan_model}
 use Rattle.arwen_cli_patchelf_lines.specs.Refusals.{is_asked, line_refused, refused_model, values_refused}
-use Rattle.arwen_cli_patchelf_lines.specs.Values.{AreResolved}
+use Rattle.arwen_cli_patchelf_lines.specs.Values.{AreResolved, IsRefusedAmong}
 use Rattle.arwen_cli_patchelf_lines.specs.declared.line.Line.{Line}
 use Rattle.arwen_cli_patchelf_lines.specs.declared.line.LineError.{LineError}
 use Rattle.arwen_cli_patchelf_lines.specs.declared.line.LineError.TheVariants as error
 use Rattle.arwen_cli_patchelf_lines.specs.declared.refusals.Refused.{Refused}
+use Rattle.arwen_cli_patchelf_lines.specs.declared.values.ValueCause.TheVariants.{Memory}
+use Rattle.arwen_cli_patchelf_lines.specs.declared.values.ValueRefused.{ValueRefused}
 
 -- the files of a line that gives this
 abbrev pub files_of : List Asked → List Text
@@ -50,6 +52,11 @@ pub record RefusesValues (known : Text → Option (List ℕ)) (given : List Aske
   pub are_asked : AreResolved known (is_asked (codes "--shrink-rpath") given) given asked
   pub refusal : values_refused asked ≡ Some (refused_model refused)
 
+-- A refusal of the first option whose value isn't read from its file, though there was memory.
+pub record RefusesValue (known : Text → Option (List ℕ)) (given : List Asked) (refused : ValueRefused) : Type 0 where
+  pub among : IsRefusedAmong known (is_asked (codes "--shrink-rpath") given) given refused
+  pub had_memory : refused.cause ≡ Memory → ⊥
+
 -- the words give a line that isn't refused before values are looked at, and this holds of what they give
 pub record IsTaken (words : List Text) (P : List Asked → Type 0) : Type 0 where
   pub given : List Asked
@@ -65,7 +72,7 @@ TellsGiven words e = ⊥
 
 abbrev pub TellsValues : (Text → Option (List ℕ)) → List Asked → LineError → Type 0
 TellsValues known given (error.Refused refused) = RefusesValues known given refused
-TellsValues known given (error.Value refused) = ⊤
+TellsValues known given (error.Value refused) = RefusesValue known given refused
 TellsValues known given error.Memory = ⊤
 TellsValues known given e = ⊥
 
@@ -78,11 +85,17 @@ abbrev pub TellsLine : (Text → Option (List ℕ)) → List Text → LineError 
 TellsLine known words (error.Words fault) = TellsWrong (line_of patchelf_known words) fault
 TellsLine known words (error.Refused refused) =
     RefusesGiven words refused ⊎ IsTaken words (λ given. RefusesValues known given refused)
-TellsLine known words (error.Value refused) = IsTaken words (λ given. ⊤)
+TellsLine known words (error.Value refused) = IsTaken words (λ given. RefusesValue known given refused)
 TellsLine known words error.Memory = ⊤
 
--- options with their values, or why they have none
-abbrev pub IsOfValue : LineError → Type 0
-IsOfValue (error.Value refused) = ⊤
-IsOfValue error.Memory = ⊤
-IsOfValue e = ⊥
+-- why options have no values
+abbrev pub IsOfValue : (Text → Option (List ℕ)) → List Asked → LineError → Type 0
+IsOfValue known given (error.Value refused) = RefusesValue known given refused
+IsOfValue known given error.Memory = ⊤
+IsOfValue known given e = ⊥
+
+-- the error of a refusal, which is want of memory where that is its cause
+abbrev pub IsErrorOf : ValueRefused → LineError → Type 0
+IsErrorOf refused (error.Value same) = (same ≡ refused) × (refused.cause ≡ Memory → ⊥)
+IsErrorOf refused error.Memory = refused.cause ≡ Memory
+IsErrorOf refused e = ⊥

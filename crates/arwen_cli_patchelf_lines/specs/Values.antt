@@ -1,13 +1,17 @@
 -- The options of a line with their values, of which some stand in files.
-use Rattle.std.specs.Prelude.{ℕ, ◌≡◌, ◌==◌, ◌&&◌, ◌||◌, Bool, true, false, List, [], ◌∷◌, ◌++◌, map, Option, Ok, codes, if◌then◌else◌, length, nat_lt}
+use Rattle.std.specs.Prelude.{ℕ, ◌≡◌, ◌==◌, ◌&&◌, ◌||◌, ◌⊎◌, Bool, true, false, List, [], ◌∷◌, ◌++◌, map, Option, Ok, Err, codes, if◌then◌else◌, length, nat_lt, ⊤}
 use Rattle.std.specs.List.{after_first, position_or_len}
-use Rattle.std.specs.Str.{bytes_eq, trim}
+use Rattle.std.specs.Str.{IsUtf8, bytes_eq, trim}
 use Rattle.std.specs.Char.{to_ascii_lowercase}
 use Rattle.byte_store.specs.Known.{IsAll}
 use Rattle.arwen_cli_peers.specs.Options.{Asked, Text}
 use Rattle.arwen_cli_patchelf_lines.specs.NameMaps.{pairs_of, spaced_all}
+use Rattle.arwen_cli_patchelf_lines.specs.declared.name_maps.MapWrong.{MapWrong}
 use Rattle.arwen_cli_patchelf_lines.specs.declared.values.Source.{Source}
 use Rattle.arwen_cli_patchelf_lines.specs.declared.values.Source.TheVariants.{File, Line, NameMap, Nowhere}
+use Rattle.arwen_cli_patchelf_lines.specs.declared.values.ValueCause.{ValueCause}
+use Rattle.arwen_cli_patchelf_lines.specs.declared.values.ValueCause.TheVariants as cause
+use Rattle.arwen_cli_patchelf_lines.specs.declared.values.ValueRefused.{ValueRefused}
 
 -- ## Where values stand
 
@@ -103,3 +107,40 @@ AreResolvedFrom known shrinks before (one ∷ rest) asked =
 
 abbrev pub AreResolved : (Text → Option (List ℕ)) → Bool → List Asked → List Asked → Type 0
 AreResolved known shrinks given asked = AreResolvedFrom known shrinks [] given asked
+
+-- ## Why a value isn't read
+
+-- the path of the file in which the value stands that a line has
+abbrev pub path_from : Source → Text → Text
+path_from NameMap first = first
+path_from source first = path_named first
+
+-- this of the bytes at a path, where these are known, is no text
+abbrev pub IsNoText : (List ℕ → List ℕ) → Option (List ℕ) → Type 0
+IsNoText f known = (bytes : List ℕ) × IsAll known bytes × (IsUtf8 (f bytes) → ⊥)
+
+-- a line of the map of names at a path, where its bytes are known, is the first that is wrong
+abbrev pub IsWrongMap : MapWrong → ℕ → Option (List ℕ) → Type 0
+IsWrongMap wrong line known = (bytes : List ℕ) × IsAll known bytes × (pairs_of (spaced_all bytes) ≡ Err (wrong, line))
+
+-- why a value that stands there isn't read: its file can't be, or is no text, or no map of names. There may be no memory anywhere
+abbrev pub IsUnreadFrom : Source → (Text → Option (List ℕ)) → Asked → ValueCause → Type 0
+IsUnreadFrom source known one cause.Memory = ⊤
+IsUnreadFrom File known one (cause.Io e) = ⊤
+IsUnreadFrom File known one cause.NotText = IsNoText (λ bytes. bytes) (known (path_named one.first))
+IsUnreadFrom NameMap known one (cause.Io e) = ⊤
+IsUnreadFrom NameMap known one cause.NotText = IsNoText spaced_all (known one.first)
+IsUnreadFrom NameMap known one (cause.Map wrong line) = IsWrongMap wrong line (known one.first)
+IsUnreadFrom source known one cause = ⊥
+
+-- A refusal tells of an option that it is the one whose value isn't read, from which file, and why.
+pub record IsRefusedOf (known : Text → Option (List ℕ)) (shrinks : Bool) (one : Asked) (refused : ValueRefused) : Type 0 where
+  pub option : refused.option.now ≡ one.name
+  pub path : refused.path.now ≡ path_from (source_of shrinks one) one.first
+  pub cause : IsUnreadFrom (source_of shrinks one) known one refused.cause
+
+-- it tells so of the first of these whose value isn't read
+abbrev pub IsRefusedAmong : (Text → Option (List ℕ)) → Bool → List Asked → ValueRefused → Type 0
+IsRefusedAmong known shrinks [] refused = ⊥
+IsRefusedAmong known shrinks (one ∷ rest) refused = IsRefusedOf known shrinks one refused
+    ⊎ ((asked : List Asked) × IsResolved known shrinks one asked × IsRefusedAmong known shrinks rest refused)

@@ -3,7 +3,7 @@ ghost use Rattle.std.specs.Prelude.{◌≡◌, None, Ok, IfErr, IfOk, codes, map
 ghost use Rattle.arwen_cli_peers.specs.EditWords.{asked_model};
 ghost use Rattle.arwen_cli_peers.specs.Options.{given_model, line_of as words_give, values_of as values_given};
 ghost use Rattle.arwen_cli_peers.specs.Tables.{patchelf_known};
-ghost use Rattle.arwen_cli_patchelf_lines.specs.Line.{IsLineOf, IsOfValue, ReadsGiven, ReadsLine, TellsAsked, TellsGiven, TellsLine, TellsValues};
+ghost use Rattle.arwen_cli_patchelf_lines.specs.Line.{IsErrorOf, IsLineOf, IsOfValue, ReadsGiven, ReadsLine, TellsAsked, TellsGiven, TellsLine, TellsValues};
 ghost use Rattle.arwen_cli_patchelf_lines.specs.Refusals.{is_asked as is_shrinking, values_refused};
 ghost use Rattle.arwen_cli_patchelf_lines.specs.Values.{AreResolved};
 
@@ -128,7 +128,7 @@ fn asked_of<'a, F: TextFiles>(
     ensures ok { IfOk result (λ asked. AreResolved (F.contents files.now)
         (is_shrinking (codes "--shrink-rpath") (map given_model given.now))
         (map given_model given.now) (map asked_model asked.items)) }
-    ensures err { IfErr result IsOfValue }
+    ensures err { IfErr result (IsOfValue (F.contents files.now) (map given_model given.now)) }
 {
     let shrinks = is_asked(given, "--shrink-rpath");
     match resolved(alloc, files, given, shrinks) {
@@ -139,7 +139,7 @@ fn asked_of<'a, F: TextFiles>(
 
 /// The error of a value that wasn't read.
 fn value_error(refused: ValueRefused<'_>) -> LineError<'_>
-    ensures { IsOfValue result }
+    ensures { IsErrorOf refused.entry result }
 {
     match refused.cause {
         ValueCause::Memory => LineError::Memory,

@@ -1,10 +1,12 @@
 //! Values of options that stand in files.
-ghost use Rattle.std.specs.Prelude.{◌≡◌, ◌++◌, ◌∷◌, [], IfOk, OnOk, map, string_bytes};
+ghost use Rattle.std.specs.Prelude.{◌≡◌, ◌++◌, ◌∷◌, [], IfErr, IfOk, OnOk, map, string_bytes};
+ghost use Rattle.std.specs.Str.{IsUtf8};
 ghost use Rattle.arwen_cli_peers.specs.EditWords.{asked_model};
 ghost use Rattle.arwen_cli_peers.specs.Options.{given_model};
 ghost use Rattle.arwen_cli_patchelf_lines.specs.NameMaps.{lent_pair};
-ghost use Rattle.arwen_cli_patchelf_lines.specs.Values.{AreResolved, IsPut, IsPutFrom, abi_asked, first_asked, is_passed_over as is_passed, is_run_path as sets_run_path, path_named, rename_asked, settled, source_of as source_by, takes_file as may_stand_in_file};
+ghost use Rattle.arwen_cli_patchelf_lines.specs.Values.{AreResolved, IsPut, IsPutFrom, IsRefusedAmong, IsRefusedOf, IsUnreadFrom, abi_asked, first_asked, is_passed_over as is_passed, is_run_path as sets_run_path, path_from, path_named, rename_asked, settled, source_of as source_by, takes_file as may_stand_in_file};
 ghost use Rattle.arwen_cli_patchelf_lines.specs.declared.values.Source.TheVariants.{File, NameMap};
+ghost use Rattle.arwen_cli_patchelf_lines.specs.declared.values.ValueCause.TheVariants.{NotText};
 
 use crate::loading::TextFiles;
 use crate::name_maps::{MapFault, MapWrong, NamePair, pairs_in, spaced};
@@ -107,8 +109,10 @@ pub(crate) fn resolved<'a, F: TextFiles>(
     given: &[Given<'a>],
     shrinks: bool,
 ) -> Result<Vec<AskedOption>, ValueRefused<'a>>
-    ensures { IfOk result (λ asked. AreResolved (F.contents files.now) shrinks
+    ensures ok { IfOk result (λ asked. AreResolved (F.contents files.now) shrinks
         (map given_model given.now) (map asked_model asked.items)) }
+    ensures err { IfErr result
+        (IsRefusedAmong (F.contents files.now) shrinks (map given_model given.now)) }
 {
     let mut asked = Vec::new(alloc);
     for one in given {
@@ -125,21 +129,29 @@ fn put_one<'a, F: TextFiles>(
     shrinks: bool,
     asked: &mut Vec<AskedOption>,
 ) -> Result<(), ValueRefused<'a>>
-    ensures { OnOk result (IsPut (F.contents files.now) shrinks (given_model one.now)
+    ensures ok { OnOk result (IsPut (F.contents files.now) shrinks (given_model one.now)
         (map asked_model asked.old.items) (map asked_model asked.new.items)) }
+    ensures err { IfErr result
+        (IsRefusedOf (F.contents files.now) shrinks (given_model one.now)) }
 {
-    match put_resolved(alloc, files, one, shrinks, asked) {
+    let source = source_of(one, shrinks);
+    match put_resolved(alloc, files, one, source, asked) {
         Ok(()) => Ok(()),
-        Err(cause) => Err(refused(one, cause)),
+        Err(cause) => Err(ValueRefused {
+            option: one.name,
+            path: path_of(one.first, source),
+            cause,
+        }),
     }
 }
 
-/// The refusal of an option whose value wasn't read.
-fn refused<'a>(one: &Given<'a>, cause: ValueCause) -> ValueRefused<'a> {
-    ValueRefused {
-        option: one.name,
-        path: file_named(one.first),
-        cause,
+/// The path of the file in which a value stands.
+fn path_of(first: &str, source: Source) -> &str
+    ensures { result.now ≡ path_from source first.entry.now }
+{
+    match source {
+        Source::NameMap => first,
+        _ => file_named(first),
     }
 }
 
@@ -153,20 +165,22 @@ fn file_named(value: &str) -> &str
     }
 }
 
-/// Puts what an option asks for behind others.
+/// Puts what an option asks for, whose value stands there, behind others.
 fn put_resolved<'a, F: TextFiles>(
     alloc: Global,
     files: &F,
     one: &Given<'a>,
-    shrinks: bool,
+    source: Source,
     asked: &mut Vec<AskedOption>,
 ) -> Result<(), ValueCause>
-    ensures { OnOk result (IsPut (F.contents files.now) shrinks (given_model one.now)
+    ensures ok { OnOk result (IsPutFrom source (F.contents files.now) (given_model one.now)
         (map asked_model asked.old.items) (map asked_model asked.new.items)) }
+    ensures err { IfErr result
+        (IsUnreadFrom source (F.contents files.now) (given_model one.now)) }
 {
-    match source_of(one, shrinks) {
+    match source {
         Source::Nowhere => Ok(()),
-        Source::Line => put_settled(alloc, one, one.first, asked),
+        Source::Line => Ok(put_settled(alloc, one, one.first, asked)?),
         Source::File => put_read(alloc, files, one, asked),
         Source::NameMap => put_pairs(alloc, files, one, asked),
     }
@@ -231,12 +245,12 @@ fn put_settled(
     one: &Given<'_>,
     first: &str,
     asked: &mut Vec<AskedOption>,
-) -> Result<(), ValueCause>
+) -> Result<(), AllocError>
     ensures { OnOk result (map asked_model asked.new.items ≡ map asked_model asked.old.items
         ++ settled (given_model one.now) first.now ∷ []) }
 {
     let first = first_of(alloc, one.name, first)?;
-    Ok(put_option(alloc, one.name, first, one.second, asked)?)
+    put_option(alloc, one.name, first, one.second, asked)
 }
 
 /// Puts an option with these values behind others.
@@ -293,17 +307,21 @@ fn put_read<'a, F: TextFiles>(
     one: &Given<'a>,
     asked: &mut Vec<AskedOption>,
 ) -> Result<(), ValueCause>
-    ensures { OnOk result (IsPutFrom File (F.contents files.now) (given_model one.now)
+    ensures ok { OnOk result (IsPutFrom File (F.contents files.now) (given_model one.now)
         (map asked_model asked.old.items) (map asked_model asked.new.items)) }
+    ensures err { IfErr result
+        (IsUnreadFrom File (F.contents files.now) (given_model one.now)) }
 {
     let bytes = files.bytes(alloc, file_named(one.first))?;
     let text = text_of(bytes)?;
-    put_settled(alloc, one, text.as_str(), asked)
+    Ok(put_settled(alloc, one, text.as_str(), asked)?)
 }
 
 /// Bytes as a text.
 fn text_of(bytes: Vec<u8>) -> Result<String, ValueCause>
-    ensures { IfOk result (λ text. string_bytes text ≡ bytes.items) }
+    ensures ok { IfOk result (λ text. string_bytes text ≡ bytes.items) }
+    ensures err { IfErr result (λ cause. cause ≡ NotText) }
+    ensures never { IfErr result (λ _. IsUtf8 bytes.items → ⊥) }
 {
     match String::from_utf8(bytes) {
         Ok(text) => Ok(text),
@@ -318,13 +336,15 @@ fn put_pairs<'a, F: TextFiles>(
     one: &Given<'a>,
     asked: &mut Vec<AskedOption>,
 ) -> Result<(), ValueCause>
-    ensures { OnOk result (IsPutFrom NameMap (F.contents files.now) (given_model one.now)
+    ensures ok { OnOk result (IsPutFrom NameMap (F.contents files.now) (given_model one.now)
         (map asked_model asked.old.items) (map asked_model asked.new.items)) }
+    ensures err { IfErr result
+        (IsUnreadFrom NameMap (F.contents files.now) (given_model one.now)) }
 {
     let bytes = files.bytes(alloc, one.first)?;
     let text = text_of(spaced(alloc, bytes.as_slice())?)?;
     let pairs = pairs_in(alloc, text.as_str())?;
-    put_renames(alloc, one.name, pairs.as_slice(), asked)
+    Ok(put_renames(alloc, one.name, pairs.as_slice(), asked)?)
 }
 
 /// Puts an option of this name for each pair behind others.
@@ -333,7 +353,7 @@ fn put_renames(
     name: &'static str,
     pairs: &[NamePair<'_>],
     asked: &mut Vec<AskedOption>,
-) -> Result<(), ValueCause>
+) -> Result<(), AllocError>
     ensures { OnOk result (map asked_model asked.new.items ≡ map asked_model asked.old.items
         ++ map (rename_asked name.now) (map lent_pair pairs.now)) }
 {
@@ -349,10 +369,10 @@ fn put_rename(
     name: &'static str,
     pair: &NamePair<'_>,
     asked: &mut Vec<AskedOption>,
-) -> Result<(), ValueCause>
+) -> Result<(), AllocError>
     ensures { OnOk result (map asked_model asked.new.items ≡ map asked_model asked.old.items
         ++ rename_asked name.now (lent_pair pair.now) ∷ []) }
 {
     let first = String::from_str(alloc, pair.old)?;
-    Ok(put_option(alloc, name, first, pair.new, asked)?)
+    put_option(alloc, name, first, pair.new, asked)
 }
