@@ -19,7 +19,7 @@ pub use arwen_cli_show as show;
 use arwen_cli_show::Args;
 pub use command::Command;
 pub use command_words::{
-    EditFault, EditKind, EditsError, KeyValueError, MOST_BYTES, NotEdited, Notes, ValueError,
+    EditFault, EditKind, EditsError, KeyValueError, MOST_BYTES, NotDone, Notes, ValueError,
     parse_key_val,
 };
 pub use elf_commands::elf::{

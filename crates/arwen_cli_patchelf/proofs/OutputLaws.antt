@@ -4,14 +4,14 @@ use Rattle.std.specs.declared.io.Error.{Error}
 use Rattle.byte_store.specs.declared.reading.ReadError.{ReadError}
 use Rattle.byte_store.specs.declared.reading.ReadError.TheVariants as read
 use Rattle.elf_commands.specs.ElfErrors.{answer_to_read}
-use Rattle.elf_commands.specs.Failures.{HasReadCauseAt, IsNotLoaded}
+use Rattle.elf_commands.specs.Failures.{HasReadCause, HasReadCauseAt, IsNotLoaded}
 use Rattle.elf_commands.specs.ElfCommandError.{ElfCommandError}
 use Rattle.elf_commands.specs.ElfCommandError.TheVariants.{Edits, Elf, ElfBatch, Io, Memory}
 use Rattle.elf_commands.specs.Shrinking.{Finding}
 use Rattle.arwen_cli_peers.specs.Options.{Text}
 use Rattle.arwen_cli_patchelf_lines.specs.Plans.{PlanMeant}
 use Rattle.arwen_cli_patchelf.specs.Made.{TellsUnapplied, TellsUnmade, TellsUnshrunk}
-use Rattle.arwen_cli_patchelf.specs.Output.{HasOutputCause, IsCutOff}
+use Rattle.arwen_cli_patchelf.specs.Output.{HasOutputCause, IsCutOff, IsMadeAndCutOff}
 use Rattle.arwen_cli_patchelf.specs.Patched.{HoldsBytes, HoldsKnown, IsMadeKnown, TellsPlanPath}
 
 -- ## Plans that are not made
@@ -29,20 +29,25 @@ never_unmade : (finds : Finding) (plan : PlanMeant) (file : List ℕ) (e : Error
 never_unmade finds plan file e (inl tells) = never_unshrunk finds plan.shrinks file e tells
 never_unmade finds plan file e (inr refused) = never_unapplied plan.words refused.between e refused.refused
 
-pub unmade_cause : (opens reads : Error → Type 0) (known : Option (List ℕ)) (finds : Finding) (plan : PlanMeant) (file : List ℕ) (e : ElfCommandError) → TellsUnmade finds plan file e → HasReadCauseAt opens reads known e
-unmade_cause opens reads known finds plan file (Io e) tells = absurd (never_unmade finds plan file e tells)
-unmade_cause opens reads known finds plan file Memory tells = tt
-unmade_cause opens reads known finds plan file (Edits e) tells = tt
-unmade_cause opens reads known finds plan file (Elf e) tells = tt
-unmade_cause opens reads known finds plan file (ElfBatch e) tells = tt
+pub unmade_cause : (reads : Error → Type 0) (known : Option (List ℕ)) (a b : ℕ) (finds : Finding) (plan : PlanMeant) (file : List ℕ) (e : ElfCommandError) → TellsUnmade finds plan file e → HasReadCause reads known a b e
+unmade_cause reads known a b finds plan file (Io e) tells = absurd (never_unmade finds plan file e tells)
+unmade_cause reads known a b finds plan file Memory tells = tt
+unmade_cause reads known a b finds plan file (Edits e) tells = tt
+unmade_cause reads known a b finds plan file (Elf e) tells = tt
+unmade_cause reads known a b finds plan file (ElfBatch e) tells = tt
 
--- the store that was opened isn't read
-pub unread_cause : (opens reads : Error → Type 0) (known old : Option (List ℕ)) (a b : ℕ) (e : ReadError) → old ≡ known → a ≡ 0 → IsNotLoaded reads old a b e → HasReadCauseAt opens reads known (answer_to_read e)
-unread_cause opens reads known old a b read.Memory same fresh why = tt
-unread_cause opens reads known old a b (read.Io e) same fresh why =
+-- the store isn't read
+pub unread_cause : (reads : Error → Type 0) (known : Option (List ℕ)) (a b : ℕ) (e : ReadError) → IsNotLoaded reads known a b e → HasReadCause reads known a b (answer_to_read e)
+unread_cause reads known a b read.Memory why = tt
+unread_cause reads known a b (read.Io e) why = why
+
+-- the store was opened at a path
+opened_cause : (opens reads : Error → Type 0) (known old : Option (List ℕ)) (a b : ℕ) (e : ElfCommandError) → old ≡ known → a ≡ 0 → HasReadCause reads old a b e → HasReadCauseAt opens reads known e
+opened_cause opens reads known old a b (Io e) same fresh why =
     let Of : Option (List ℕ) → Type 0 = λ o. IsNotLoaded reads o a b (read.Io e) in
     let From : ℕ → Type 0 = λ n. IsNotLoaded reads known n b (read.Io e) in
     inr (b, subst From fresh (subst Of same why))
+opened_cause opens reads known old a b e same fresh why = tt
 
 -- ## A new file
 
@@ -61,13 +66,28 @@ cut_off_tells creates is_new contents inner failed bytes (Edits e) file cut find
 cut_off_tells creates is_new contents inner failed bytes (Elf e) file cut finds plan known = absurd cut
 cut_off_tells creates is_new contents inner failed bytes (ElfBatch e) file cut finds plan known = absurd cut
 
-pub cut_off_cause : {W X : Type 0} (opens reads creates : Error → Type 0) (is_new : Option (List ℕ) → Type 0) (contents : W → Option (List ℕ)) (inner : X → W) (failed : X → ℕ) (finds : Finding) (plan : PlanMeant) (known : Option (List ℕ))
+pub cut_off_cause : {W X : Type 0} (unread : ElfCommandError → Type 0) (creates : Error → Type 0) (is_new : Option (List ℕ) → Type 0) (contents : W → Option (List ℕ)) (inner : X → W) (failed : X → ℕ) (finds : Finding) (plan : PlanMeant) (known : Option (List ℕ))
     (made bytes : List ℕ) (e : ElfCommandError) (file : Option X) → bytes ≡ made → IsMadeKnown finds plan known made → IsCutOff creates is_new contents inner failed bytes e file
-    → HasOutputCause opens reads creates is_new contents inner failed finds plan known e file
-cut_off_cause {W} {X} opens reads creates is_new contents inner failed finds plan known made bytes e None same is cut =
+    → HasOutputCause unread creates is_new contents inner failed finds plan known e file
+cut_off_cause {W} {X} unread creates is_new contents inner failed finds plan known made bytes e None same is cut =
     let none : Option X = None in
     let Of : List ℕ → Type 0 = λ l. IsCutOff creates is_new contents inner failed l e none in
     inr (made, is, subst Of same cut)
-cut_off_cause {W} {X} opens reads creates is_new contents inner failed finds plan known made bytes e (Some file) same is cut =
+cut_off_cause {W} {X} unread creates is_new contents inner failed finds plan known made bytes e (Some file) same is cut =
     let Of : List ℕ → Type 0 = λ l. IsCutOff creates is_new contents inner failed l e (Some file) in
     (made, is, subst Of same cut)
+
+-- of a store that was opened at a path
+pub output_cause_at : {W X : Type 0} (opens reads creates : Error → Type 0) (is_new : Option (List ℕ) → Type 0) (contents : W → Option (List ℕ)) (inner : X → W) (failed : X → ℕ) (finds : Finding) (plan : PlanMeant)
+    (known old : Option (List ℕ)) (a b : ℕ) (e : ElfCommandError) (file : Option X) → old ≡ known → a ≡ 0
+    → HasOutputCause (HasReadCause reads old a b) creates is_new contents inner failed finds plan old e file
+    → HasOutputCause (HasReadCauseAt opens reads known) creates is_new contents inner failed finds plan known e file
+output_cause_at {W} {X} opens reads creates is_new contents inner failed finds plan known old a b e None same fresh (inl why) =
+    inl (opened_cause opens reads known old a b e same fresh why)
+output_cause_at {W} {X} opens reads creates is_new contents inner failed finds plan known old a b e None same fresh (inr cut) =
+    let none : Option X = None in
+    let Of : Option (List ℕ) → Type 0 = λ o. IsMadeAndCutOff creates is_new contents inner failed finds plan o e none in
+    inr (subst Of same cut)
+output_cause_at {W} {X} opens reads creates is_new contents inner failed finds plan known old a b e (Some file) same fresh cut =
+    let Of : Option (List ℕ) → Type 0 = λ o. IsMadeAndCutOff creates is_new contents inner failed finds plan o e (Some file) in
+    subst Of same cut

@@ -2,7 +2,6 @@
 use Rattle.std.specs.Prelude.{ℕ, ◌⊎◌, List, Option, Some, None}
 use Rattle.std.specs.declared.io.Error.{Error}
 use Rattle.elf_commands.specs.Counted.{Stops}
-use Rattle.elf_commands.specs.Failures.{HasReadCauseAt}
 use Rattle.elf_commands.specs.ElfCommandError.{ElfCommandError}
 use Rattle.elf_commands.specs.ElfCommandError.TheVariants.{Io}
 use Rattle.elf_commands.specs.Shrinking.{Finding}
@@ -37,11 +36,11 @@ abbrev pub IsMadeAndCutOff : {W X : Type 0} → (Error → Type 0) → (Option (
 IsMadeAndCutOff creates is_new contents inner failed finds plan known e file =
     (made : List ℕ) × IsMadeKnown finds plan known made × IsCutOff creates is_new contents inner failed made e file
 
--- an error at a path and an output: without a file the bytes at the path weren't read, where it is one of reading; or else what
--- the plan makes of them is there
-abbrev pub HasOutputCause : {W X : Type 0} → (Error → Type 0) → (Error → Type 0) → (Error → Type 0) → (Option (List ℕ) → Type 0) → (W → Option (List ℕ)) → (X → W) → (X → ℕ)
+-- an error of a plan whose bytes are to be in another file: without a file it may be one of reading, for which `unread` tells the
+-- cause; or else what the plan makes is there
+abbrev pub HasOutputCause : {W X : Type 0} → (ElfCommandError → Type 0) → (Error → Type 0) → (Option (List ℕ) → Type 0) → (W → Option (List ℕ)) → (X → W) → (X → ℕ)
     → Finding → PlanMeant → Option (List ℕ) → ElfCommandError → Option X → Type 0
-HasOutputCause opens reads creates is_new contents inner failed finds plan known e None =
-    HasReadCauseAt opens reads known e ⊎ IsMadeAndCutOff creates is_new contents inner failed finds plan known e None
-HasOutputCause opens reads creates is_new contents inner failed finds plan known e (Some file) =
+HasOutputCause unread creates is_new contents inner failed finds plan known e None =
+    unread e ⊎ IsMadeAndCutOff creates is_new contents inner failed finds plan known e None
+HasOutputCause unread creates is_new contents inner failed finds plan known e (Some file) =
     IsMadeAndCutOff creates is_new contents inner failed finds plan known e (Some file)

@@ -11,7 +11,7 @@ use crate::making::made_bytes;
 use crate::steps::apply_if;
 use arwen_cli_patchelf_lines::{Plan, load};
 use byte_store::{Store, replace};
-use command_words::{NotEdited, OpensOnce};
+use command_words::{NotDone, OpensOnce};
 use elf_commands::ElfCommandError;
 use elf_commands::elf::{Probe, open_path};
 use std::alloc::Global;
@@ -29,7 +29,7 @@ pub fn patch_path<'p, O: OpensOnce<'p> + Drop, P: Probe>(
     path: &'p str,
     plan: &Plan,
     probe: &P,
-) -> Result<Option<O::Opened>, NotEdited<O::Opened, ElfCommandError>>
+) -> Result<Option<O::Opened>, NotDone<O::Opened, ElfCommandError>>
     ensures patched { IfOk result (IsPatchedAt O.Opened.contents (P.may_find probe.now)
         (plan_model plan.now) (O.contents files path.now)) }
     ensures idle { AsksNothing (plan_model plan.now) → IsOkAnd result (λ store. store ≡ None) }
@@ -46,7 +46,7 @@ pub fn patch_path<'p, O: OpensOnce<'p> + Drop, P: Probe>(
     let mut store = open_path(files, path)?;
     match patch_store(alloc, &mut store, plan, probe) {
         Ok(()) => Ok(Some(store)),
-        Err(error) => Err(NotEdited {
+        Err(error) => Err(NotDone {
             error,
             store: Some(store),
         }),

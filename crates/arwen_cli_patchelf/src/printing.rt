@@ -1,8 +1,9 @@
 //! Prints of files, as lines ask for them.
-ghost use Rattle.std.specs.Prelude.{◌≡◌, IfErr, IfOk, OnOk, map};
+ghost use Rattle.std.specs.Prelude.{◌≡◌, None, IfErr, IfOk, IsOkAnd, OnOk, length, map};
 ghost use Rattle.std.specs.Io.KnownBytes.{Appends};
 ghost use Rattle.byte_store.specs.Known.{Stays};
 ghost use Rattle.elf_image.specs.Image.{image_of};
+ghost use Rattle.elf_commands.specs.ElfStores.{IsKeptAt};
 ghost use Rattle.elf_commands.specs.Prints.{PrintMayFail, StopsWriting};
 ghost use Rattle.arwen_cli_peers.specs.EditWords.{asked_model};
 ghost use Rattle.arwen_cli_patchelf.specs.Printing.{HasPrintCause, HasPrintCauseAt, IsPrinted, IsPrintedOf, PrintsAll, TellsPrint, TellsPrintOf, TellsPrints, option_for, prints_among, prints_asked as prints_meant};
@@ -12,8 +13,9 @@ use arwen_cli_patchelf_lines::load;
 use arwen_cli_peers::AskedOption;
 use arwen_cli_peers::asked::is_given;
 use byte_store::Store;
-use command_words::OpensOnce;
+use command_words::{NotDone, OpensOnce};
 use elf_commands::ElfCommandError;
+use elf_commands::elf::open_path;
 use elf_commands::files::{CountedWrite, ElfContainer, ElfError, write_all_counted};
 use std::alloc::{AllocError, Global};
 
@@ -80,33 +82,44 @@ fn option_of(print: Print) -> &'static str
     }
 }
 
-/// Prints this of the file at a path, in order, as patchelf prints it. Where it is nothing, nothing is opened.
+/// Prints this of the file at a path, in order, as patchelf prints it, and hands the store back. Where it is nothing, nothing is
+/// opened.
 ///
 /// # Errors
 ///
 /// Those of the first print that fails; those before it are printed. `Io` where the opening or a read of the file failed; `Elf`
 /// where the file is none that is read, or, with `ElfError::Io`, where the writer failed, which it counted, and got the first
-/// bytes of the print.
+/// bytes of the print. The store that was opened comes with the error.
 pub fn print_path<'p, O: OpensOnce<'p> + Drop, W: CountedWrite>(
     alloc: Global,
     files: O,
     path: &'p str,
     prints: &[Print],
     out: &mut W,
-) -> Result<(), ElfCommandError>
-    ensures printed { OnOk result (PrintsAll prints.now
+) -> Result<Option<O::Opened>, NotDone<O::Opened, ElfCommandError>>
+    ensures printed { IfOk result (λ _. PrintsAll prints.now
         (O.contents files path.now) (W.contents out.old) (W.contents out.new)) }
-    ensures err { IfErr result PrintMayFail }
-    ensures tells { IfErr result (TellsPrints W.contents W.failed prints.now
-        (O.contents files path.now) out.old out.new) }
-    ensures cause { IfErr result (HasPrintCauseAt (O.may_fail files path.now)
-        O.Opened.may_fail_read (O.contents files path.now)) }
+    ensures kept { IfOk result (IsKeptAt O.Opened.contents (O.contents files path.now)) }
+    ensures idle { length prints.now ≡ 0 → IsOkAnd result (λ store. store ≡ None) }
+    ensures err { IfErr result (λ refused. PrintMayFail refused.error) }
+    ensures tells { IfErr result (λ refused. TellsPrints W.contents W.failed prints.now
+        (O.contents files path.now) out.old out.new refused.error) }
+    ensures left { IfErr result (λ refused.
+        IsKeptAt O.Opened.contents (O.contents files path.now) refused.store) }
+    ensures cause { IfErr result (λ refused. HasPrintCauseAt (O.may_fail files path.now)
+        O.Opened.may_fail_read (O.contents files path.now) refused.error) }
 {
     if prints.is_empty() {
-        return Ok(());
+        return Ok(None);
     }
-    let mut store = files.open_once(path)?;
-    print_each(alloc, &mut store, prints, out)
+    let mut store = open_path(files, path)?;
+    match print_each(alloc, &mut store, prints, out) {
+        Ok(()) => Ok(Some(store)),
+        Err(error) => Err(NotDone {
+            error,
+            store: Some(store),
+        }),
+    }
 }
 
 /// Prints this of the bytes of a store, in order.
@@ -121,6 +134,7 @@ fn print_each<S: Store, W: CountedWrite>(
     ensures err { IfErr result PrintMayFail }
     ensures tells { IfErr result (TellsPrints W.contents W.failed prints.now
         (S.contents store.old) out.old out.new) }
+    ensures kept { Stays (S.contents store.old) (S.contents store.new) }
     ensures cause { IfErr result (HasPrintCause S.may_fail_read (S.contents store.old)) }
 {
     let Some((first, rest)) = prints.split_first() else {

@@ -1,15 +1,16 @@
 //! Lines of patchelf, run.
 ghost use Rattle.std.specs.Prelude.{IfErr, IfOk, OnOk, map, string_bytes};
 ghost use Rattle.arwen_cli_patchelf.specs.Patched.{TellsPlanPath};
+ghost use Rattle.arwen_cli_patchelf.specs.Printing.{PrintsAll, TellsPrints};
 ghost use Rattle.arwen_cli_patchelf_lines.specs.Plans.{plan_model};
 ghost use Rattle.arwen_cli_runners.specs.Runs.{CanBeMade, EndsFiles, IsDone, IsFaultEnding, Stops};
 
 use crate::causes::elf_fault_line;
 use crate::ending::Ending;
-use arwen_cli_patchelf::{NotWritten, Print, patch_path, print_path, write_path};
+use arwen_cli_patchelf::{Print, patch_path, print_path, write_path};
 use arwen_cli_patchelf_lines::Plan;
 use byte_store::{Creates, Opens};
-use command_words::NotEdited;
+use command_words::NotDone;
 use elf_commands::ElfCommandError;
 use elf_commands::elf::Probe;
 use elf_commands::files::CountedWrite;
@@ -73,10 +74,32 @@ fn run_file<'p, F: Opens<'p> + Creates<'p>, P: Probe, W: CountedWrite>(
     ensures stopped { IfErr result (Stops W.contents W.failed (P.may_find probe.now) prints.now
         (plan_model plan.now) (F.contents files.now) path.now out.old out.new) }
 {
-    print_path(alloc, files, path, prints, out)?;
+    print_file(alloc, files, path, prints, out)?;
     match output {
         Some(output) => write_file(alloc, files, path, output, plan, probe),
         None => edit_file(alloc, files, path, plan, probe),
+    }
+}
+
+/// Prints what a line asks of the file at a path.
+fn print_file<'p, O: Opens<'p>, W: CountedWrite>(
+    alloc: Global,
+    files: &O,
+    path: &'p str,
+    prints: &[Print],
+    out: &mut W,
+) -> Result<(), ElfCommandError>
+    ensures printed { OnOk result (PrintsAll prints.now (O.contents files.now path.now)
+        (W.contents out.old) (W.contents out.new)) }
+    ensures tells { IfErr result (TellsPrints W.contents W.failed prints.now
+        (O.contents files.now path.now) out.old out.new) }
+{
+    match print_path(alloc, files, path, prints, out) {
+        Ok(_) => Ok(()),
+        Err(NotDone { error, store }) => {
+            drop(store);
+            Err(error)
+        }
     }
 }
 
@@ -94,11 +117,11 @@ fn write_file<'p, F: Opens<'p> + Creates<'p>, P: Probe>(
     ensures tells { IfErr result (TellsPlanPath (P.may_find probe.now) (plan_model plan.now)
         (F.contents files.now path.now)) }
 {
-    match write_path(alloc, files, path, output, plan, probe) {
+    match write_path(alloc, files, path, files, output, plan, probe) {
         Ok(_) => Ok(()),
-        Err(NotWritten { error, file }) => {
-            drop(file);
-            Err(error)
+        Err(NotDone { error, store }) => {
+            drop(store);
+            Err(error.error)
         }
     }
 }
@@ -122,7 +145,7 @@ fn edit_file<'p, O: Opens<'p>, P: Probe>(
             files.open(path)?;
             Ok(())
         }
-        Err(NotEdited { error, store }) => {
+        Err(NotDone { error, store }) => {
             drop(store);
             Err(error)
         }

@@ -6,7 +6,7 @@
 mod edits;
 mod file;
 mod key_value;
-mod not_edited;
+mod not_done;
 mod noting;
 mod opens_once;
 mod rows;
@@ -18,7 +18,7 @@ pub use edits::{
 };
 pub use file::{MOST_BYTES, RegularFiles};
 pub use key_value::{KeyValueError, decimal_number, parse_key_val};
-pub use not_edited::NotEdited;
+pub use not_done::NotDone;
 pub use noting::Notes;
 pub use opens_once::OpensOnce;
 pub use rows::{Row, Value, ValueForm, ValueOption, Values, find_row};

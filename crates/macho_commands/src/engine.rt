@@ -24,7 +24,7 @@ use crate::sliced::patch_slices;
 use crate::verifying::verify_file;
 use arwen_macho::macho::{Front, MachoBatchError, MachoContainer, MachoEdit, lay_fronts};
 use byte_store::Store;
-use command_words::{NotEdited, Notes, OpensOnce, RegularFiles, words_of};
+use command_words::{NotDone, Notes, OpensOnce, RegularFiles, words_of};
 use macho_commands_signing::{
     Loaded, changes_of, front_changes, load_for_edits, load_fronts, load_slices, write_changes_of,
 };
@@ -444,7 +444,7 @@ pub fn patch_path<'p, O: OpensOnce<'p>>(
     command: &'p MachoCommand,
     notes: Notes,
     signing: Signing,
-) -> Result<(O::Opened, String), NotEdited<O::Opened, MachoCommandError>>
+) -> Result<(O::Opened, String), NotDone<O::Opened, MachoCommandError>>
     ensures patched { IfOk result (λ edited. Patched signing (macho_command_model command.now)
         (O.contents files (file_of (macho_command_model command.now)))
         (O.Opened.contents edited.0)) }
@@ -470,7 +470,7 @@ pub fn patch_path<'p, O: OpensOnce<'p>>(
     };
     match patch_store(alloc, &mut store, command, notes, signing) {
         Ok(text) => Ok((store, text)),
-        Err(error) => Err(NotEdited {
+        Err(error) => Err(NotDone {
             error,
             store: Some(store),
         }),
@@ -478,11 +478,11 @@ pub fn patch_path<'p, O: OpensOnce<'p>>(
 }
 
 /// The answer to an opening that failed.
-fn not_opened<S>(error: io::Error) -> NotEdited<S, MachoCommandError>
+fn not_opened<S>(error: io::Error) -> NotDone<S, MachoCommandError>
     ensures error { result.error ≡ Io error }
     ensures store { result.store ≡ None }
 {
-    NotEdited {
+    NotDone {
         error: MachoCommandError::Io(error),
         store: None,
     }

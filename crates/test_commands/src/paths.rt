@@ -169,8 +169,8 @@ fn tells_that_there_is_no_list(rt: HostRuntime) {
 fn printed(alloc: Global, command: &ElfCommand, want: &[u8]) -> Result<&'static str, AllocError> {
     let mut out = Sink::new(Vec::new(alloc));
     match print_path(alloc, &file(alloc, ELF), command, &mut out) {
-        Ok(()) => Ok(word(out.get_ref().as_slice() == want)),
-        Err(error) => elf_word(&error),
+        Ok(_store) => Ok(word(out.get_ref().as_slice() == want)),
+        Err(refused) => elf_word(&refused.error),
     }
 }
 

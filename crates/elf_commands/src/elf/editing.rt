@@ -15,7 +15,7 @@ use crate::elf::engine::edited_pieces;
 use crate::elf::in_turn::edit_in_turn;
 use crate::elf::opening::open_path;
 use byte_store::Store;
-use command_words::{NotEdited, Notes, OpensOnce, RegularFiles};
+use command_words::{NotDone, Notes, OpensOnce, RegularFiles};
 use elf_commands_steps::{ElfCommandError, load_elf, make_opened, tell};
 use elf_edits::ElfEdit;
 use std::alloc::Global;
@@ -140,7 +140,7 @@ pub fn edit_path<'p, O: OpensOnce<'p>>(
     files: O,
     command: &'p ElfCommand,
     notes: Notes,
-) -> Result<(O::Opened, String), NotEdited<O::Opened, ElfCommandError>>
+) -> Result<(O::Opened, String), NotDone<O::Opened, ElfCommandError>>
     ensures patched { IfOk result (λ edited. IsElfPatched
         (elf_asked (elf_command_model command.now))
         (O.contents files (elf_file_of (elf_command_model command.now)))
@@ -164,7 +164,7 @@ pub fn edit_path<'p, O: OpensOnce<'p>>(
     let mut store = open_path(files, command.path_to_binary())?;
     match edit_store(alloc, &mut store, command, notes) {
         Ok(text) => Ok((store, text)),
-        Err(error) => Err(NotEdited {
+        Err(error) => Err(NotDone {
             error,
             store: Some(store),
         }),
@@ -210,7 +210,7 @@ fn edit_lent<R: Files + AllocGlobal>(
     let files = RegularFiles { files: rt };
     match edit_path(rt.alloc(), &files, command, notes) {
         Ok((_store, text)) => Ok(text),
-        Err(NotEdited { error, store }) => {
+        Err(NotDone { error, store }) => {
             drop(store);
             Err(error)
         }

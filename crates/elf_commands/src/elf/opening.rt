@@ -3,7 +3,7 @@ ghost use Rattle.std.specs.Prelude.{◌≡◌, IfErr, IfOk};
 ghost use Rattle.elf_commands.specs.ElfStores.{IsUnopened};
 
 use byte_store::Store;
-use command_words::{NotEdited, OpensOnce};
+use command_words::{NotDone, OpensOnce};
 use elf_commands_steps::ElfCommandError;
 
 /// Opens the store at a path for reading.
@@ -14,7 +14,7 @@ use elf_commands_steps::ElfCommandError;
 pub fn open_path<'p, O: OpensOnce<'p>>(
     files: O,
     path: &'p str,
-) -> Result<O::Opened, NotEdited<O::Opened, ElfCommandError>>
+) -> Result<O::Opened, NotDone<O::Opened, ElfCommandError>>
     ensures bytes { IfOk result (λ store.
         O.Opened.contents store ≡ O.contents files path.now) }
     ensures fresh { IfOk result (λ store. O.Opened.failed store ≡ 0) }
@@ -23,7 +23,7 @@ pub fn open_path<'p, O: OpensOnce<'p>>(
 {
     match files.open_once(path) {
         Ok(store) => Ok(store),
-        Err(error) => Err(NotEdited {
+        Err(error) => Err(NotDone {
             error: ElfCommandError::Io(error),
             store: None,
         }),

@@ -3,14 +3,16 @@ ghost use Rattle.std.specs.Prelude.{◌≡◌, IfErr, IfOk, OnOk};
 ghost use Rattle.std.specs.Io.KnownBytes.{Appends};
 ghost use Rattle.byte_store.specs.Known.{Stays};
 ghost use Rattle.elf_commands_steps.specs.Failures.{HasReadCause, HasReadCauseAt};
+ghost use Rattle.elf_commands.specs.ElfStores.{IsKeptAt};
 ghost use Rattle.elf_commands.specs.Meaning.{elf_file_of, elf_command_model};
 ghost use Rattle.elf_commands.specs.Prints.{PrintMayFail, Prints, PrintsStored, StopsWriting, TellsPrint, TellsStored, printed};
 ghost use Rattle.elf_image.specs.Image.{image_of, shown};
 
 use crate::command::ElfCommand;
 use crate::elf::engine::print_asked;
+use crate::elf::opening::open_path;
 use byte_store::Store;
-use command_words::{OpensOnce, RegularFiles};
+use command_words::{NotDone, OpensOnce, RegularFiles};
 use elf_commands_steps::files::{CountedWrite, ElfContainer, ElfError, Sink, write_all_counted};
 use elf_commands_steps::{ElfCommandError, load_elf};
 use std::alloc::{AllocError, Global};
@@ -89,30 +91,43 @@ fn write_text<W: CountedWrite>(text: &[u8], out: &mut W) -> Result<(), ElfError>
     }
 }
 
-/// Prints what a command asks of the bytes of the store at its path, as `print_store` does.
+/// Prints what a command asks of the bytes of the store at its path, as `print_store` does, and hands the store back.
 ///
 /// # Errors
 ///
-/// Those of `print_store`, and `Io` with what the opening answered.
+/// Those of `print_store`, and `Io` with what the opening answered. The store that was opened comes with the error.
 pub fn print_path<'p, O: OpensOnce<'p>, W: CountedWrite>(
     alloc: Global,
     files: O,
     command: &'p ElfCommand,
     out: &mut W,
-) -> Result<(), ElfCommandError>
-    ensures printed { OnOk result (PrintsStored (elf_command_model command.now)
+) -> Result<O::Opened, NotDone<O::Opened, ElfCommandError>>
+    ensures printed { IfOk result (λ _. PrintsStored (elf_command_model command.now)
         (O.contents files (elf_file_of (elf_command_model command.now)))
         (W.contents out.old) (W.contents out.new)) }
-    ensures err { IfErr result PrintMayFail }
-    ensures tells { IfErr result (TellsStored W.contents W.failed (elf_command_model command.now)
-        (O.contents files (elf_file_of (elf_command_model command.now))) out.old out.new) }
-    ensures cause { IfErr result (HasReadCauseAt
+    ensures kept { IfOk result (λ store. Stays
+        (O.contents files (elf_file_of (elf_command_model command.now)))
+        (O.Opened.contents store)) }
+    ensures err { IfErr result (λ refused. PrintMayFail refused.error) }
+    ensures tells { IfErr result (λ refused. TellsStored W.contents W.failed
+        (elf_command_model command.now)
+        (O.contents files (elf_file_of (elf_command_model command.now)))
+        out.old out.new refused.error) }
+    ensures left { IfErr result (λ refused. IsKeptAt O.Opened.contents
+        (O.contents files (elf_file_of (elf_command_model command.now))) refused.store) }
+    ensures cause { IfErr result (λ refused. HasReadCauseAt
         (O.may_fail files (elf_file_of (elf_command_model command.now)))
         O.Opened.may_fail_read
-        (O.contents files (elf_file_of (elf_command_model command.now)))) }
+        (O.contents files (elf_file_of (elf_command_model command.now))) refused.error) }
 {
-    let mut store = files.open_once(command.path_to_binary())?;
-    print_store(alloc, &mut store, command, out)
+    let mut store = open_path(files, command.path_to_binary())?;
+    match print_store(alloc, &mut store, command, out) {
+        Ok(()) => Ok(store),
+        Err(error) => Err(NotDone {
+            error,
+            store: Some(store),
+        }),
+    }
 }
 
 /// Prints what a command asks of a file, which is only read.
@@ -136,5 +151,11 @@ fn print_lent<R: Files + Print + AllocGlobal>(
 {
     let files = RegularFiles { files: rt };
     let mut out = Sink::new(io::writer(rt));
-    print_path(rt.alloc(), &files, command, &mut out)
+    match print_path(rt.alloc(), &files, command, &mut out) {
+        Ok(_) => Ok(()),
+        Err(NotDone { error, store }) => {
+            drop(store);
+            Err(error)
+        }
+    }
 }

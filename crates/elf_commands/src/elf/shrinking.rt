@@ -12,7 +12,7 @@ ghost use Rattle.elf_commands.specs.ShrinkRuns.{FailsShrink, FailsShrinkAt, IsQu
 use crate::elf::opening::open_path;
 use crate::elf::shrink_rpath::Args;
 use byte_store::Store;
-use command_words::{NotEdited, OpensOnce, RegularFiles};
+use command_words::{NotDone, OpensOnce, RegularFiles};
 use elf_commands_steps::files::{CountedWrite, ElfContainer, ProbeAnswer, Sink, write_all_counted};
 use elf_commands_steps::{
     ElfCommandError, FileProbe, Probe, Shrunk, StandardError, answers_of, load_elf, make_opened,
@@ -157,7 +157,7 @@ pub fn shrink_path<'p, O: OpensOnce<'p>, P: Probe, W: CountedWrite>(
     args: &'p Args,
     probe: &P,
     out: &mut W,
-) -> Result<O::Opened, NotEdited<O::Opened, ElfCommandError>>
+) -> Result<O::Opened, NotDone<O::Opened, ElfCommandError>>
     ensures shrunk { IfOk result (λ store. ShrinksStore (P.may_find probe.now)
         (map string_bytes args.now.allowed_rpath_prefixes.items)
         (O.contents files (string_bytes args.now.path_to_binary))
@@ -179,7 +179,7 @@ pub fn shrink_path<'p, O: OpensOnce<'p>, P: Probe, W: CountedWrite>(
     let mut store = open_path(files, args.path_to_binary.as_str())?;
     match shrink_store(alloc, &mut store, args, probe, out) {
         Ok(()) => Ok(store),
-        Err(error) => Err(NotEdited {
+        Err(error) => Err(NotDone {
             error,
             store: Some(store),
         }),
@@ -209,7 +209,7 @@ fn shrink_lent<R: Files + Eprint + AllocGlobal>(rt: &R, args: &Args) -> Result<(
     let mut told = Sink::new(StandardError { to: rt });
     match shrink_path(rt.alloc(), &files, args, &probe, &mut told) {
         Ok(_) => Ok(()),
-        Err(NotEdited { error, store }) => {
+        Err(NotDone { error, store }) => {
             drop(store);
             Err(error)
         }

@@ -1,7 +1,7 @@
 //! The notes of commands on files, which stay as they are.
 use crate::line::faults::tell;
 use arwen_cli::cli::{
-    ArwenError, Command, ElfCommand, MachoCommand, NotEdited, Notes, Signing, edit_path, patch_path,
+    ArwenError, Command, ElfCommand, MachoCommand, NotDone, Notes, Signing, edit_path, patch_path,
 };
 use byte_store::MemoryFile;
 use std::alloc::Global;
@@ -52,7 +52,7 @@ fn elf_notes(rt: &HostRuntime, command: &ElfCommand) -> Result<String, ArwenErro
     let file = file_at(rt.alloc(), path, bytes.as_slice());
     match edit_path(rt.alloc(), &file, command, Notes::Wanted) {
         Ok((_store, notes)) => Ok(notes),
-        Err(NotEdited { error, store }) => {
+        Err(NotDone { error, store }) => {
             drop(store);
             Err(ArwenError::from(error))
         }

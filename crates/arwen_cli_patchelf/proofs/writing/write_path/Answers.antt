@@ -1,25 +1,11 @@
--- The bytes that are written are those that the plan makes.
-use Rattle.std.proofs.lemmas.Result.{IfErr-weaker, IfOk-weaker}
+-- The store that was opened is the one at the path.
 use Rattle.elf_commands.specs.Counted.{sink_failures, sink_inner}
 use Rattle.arwen_cli_patchelf_lines.specs.Plans.{plan_model}
-use Rattle.arwen_cli_patchelf.proofs.OutputLaws.{cut_off_cause, cut_off_tells, holds_made}
+use Rattle.arwen_cli_patchelf.proofs.OutputLaws.{output_cause_at}
 use Rattle.arwen_cli_patchelf.proofs.writing.write_path.Goals as goal
 
-pub returns-in-Ok-clause-written : goal.returns-in-Ok-clause-written
-returns-in-Ok-clause-written g c =
-    IfOk-weaker c.write_new.result _ _ (λ file holds.
-    holds_made g.F.Creates.is_new (g.P.Probe.may_find c.args.probe.now) (plan_model c.args.plan.now) (g.F.Opens.contents c.args.files.now c.args.path.now) (g.F.Created.Write.contents file)
-    c.in-Ok.made.items c.as_slice.result.now c.as_slice.ensures.value c.in-Ok.ensures.made holds) c.write_new.ensures.written
-
-pub returns-in-Ok-clause-tells : goal.returns-in-Ok-clause-tells
-returns-in-Ok-clause-tells g c =
-    IfErr-weaker c.write_new.result _ _ (λ refused cut.
-    cut_off_tells (g.F.Creates.may_fail c.args.files.now c.args.output.now) g.F.Creates.is_new g.F.Created.Write.contents sink_inner sink_failures c.as_slice.result.now refused.error refused.file cut
-    (g.P.Probe.may_find c.args.probe.now) (plan_model c.args.plan.now) (g.F.Opens.contents c.args.files.now c.args.path.now)) c.write_new.ensures.err
-
-pub returns-in-Ok-clause-cause : goal.returns-in-Ok-clause-cause
-returns-in-Ok-clause-cause g c =
-    IfErr-weaker c.write_new.result _ _ (λ refused cut.
-    cut_off_cause (g.F.Opens.may_fail c.args.files.now c.args.path.now) g.F.Opened.Store.may_fail_read (g.F.Creates.may_fail c.args.files.now c.args.output.now) g.F.Creates.is_new g.F.Created.Write.contents sink_inner sink_failures
-    (g.P.Probe.may_find c.args.probe.now) (plan_model c.args.plan.now) (g.F.Opens.contents c.args.files.now c.args.path.now) c.in-Ok.made.items c.as_slice.result.now refused.error refused.file
-    c.as_slice.ensures.value c.in-Ok.ensures.made cut) c.write_new.ensures.err
+pub returns-in-Err-write_store-clause-cause : goal.returns-in-Err-write_store-clause-cause
+returns-in-Err-write_store-clause-cause g c =
+    output_cause_at (g.O.OpensOnce.may_fail c.args.source c.args.path.now) g.O.Opened.Store.may_fail_read (g.C.Creates.may_fail c.args.files.now c.args.output.now) g.C.Creates.is_new g.C.Created.Write.contents sink_inner sink_failures
+    (g.P.Probe.may_find c.args.probe.now) (plan_model c.args.plan.now) (g.O.OpensOnce.contents c.args.source c.args.path.now) _ _ _ c.in-Err-write_store.error.error c.in-Err-write_store.error.file
+    c.in-Ok.ensures.bytes c.in-Ok.ensures.fresh c.in-Err-write_store.ensures.cause
