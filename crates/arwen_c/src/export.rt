@@ -1,6 +1,6 @@
 //! What is exported to C.
-ghost use Rattle.std.specs.Prelude.{◌≡◌, ◌==◌, ◌<◌, ◌≤◌, ◌++◌, IsTrue, drop, length, not, true};
-ghost use Rattle.arwen_c.specs.Export.{Gives, GivesWith, Wants, WantsWith};
+ghost use Rattle.std.specs.Prelude.{◌≡◌, ◌==◌, ◌<◌, ◌≤◌, ◌++◌, IsTrue, drop, false, length, not, true};
+ghost use Rattle.arwen_c.specs.Export.{Gives, GivesWith, RefusesWith, Wants, WantsWith, answer_to};
 
 use crate::editing::{EditError, edited, edited_moving};
 use arwen_macho::macho::MachoError;
@@ -38,6 +38,8 @@ pub extern "C" fn arwen_apply(
 ) -> u32
     ensures gives { result ≡ ARWEN_OK → Gives words.now bytes.now out.old out.new size.new }
     ensures wants { result ≡ ARWEN_ROOM → Wants words.now bytes.now out.old out.new size.new }
+    ensures refuses { IsTrue (not (result == ARWEN_OK)) → IsTrue (not (result == ARWEN_ROOM))
+        → RefusesWith false words.now bytes.now result size.new }
     ensures stays { IsTrue (not (result == ARWEN_OK)) → out.new ≡ out.old }
 {
     match edited(alloc, bytes, words) {
@@ -64,6 +66,8 @@ pub extern "C" fn arwen_apply_moving(
         → GivesWith true words.now bytes.now out.old out.new size.new }
     ensures wants { result ≡ ARWEN_ROOM
         → WantsWith true words.now bytes.now out.old out.new size.new }
+    ensures refuses { IsTrue (not (result == ARWEN_OK)) → IsTrue (not (result == ARWEN_ROOM))
+        → RefusesWith true words.now bytes.now result size.new }
     ensures stays { IsTrue (not (result == ARWEN_OK)) → out.new ≡ out.old }
 {
     match edited_moving(alloc, bytes, words) {
@@ -101,6 +105,7 @@ fn lay(new: &[u8], out: &mut [u8])
 
 /// Tells an error.
 fn tell(alloc: Global, error: &EditError, message: &mut [u8]) -> u32
+    ensures answer { result ≡ answer_to error.now }
     ensures failed { IsTrue (not (result == ARWEN_OK)) }
     ensures other { IsTrue (not (result == ARWEN_ROOM)) }
 {
@@ -113,6 +118,7 @@ fn tell(alloc: Global, error: &EditError, message: &mut [u8]) -> u32
 
 /// The answer that stands for an error.
 fn status_of(error: &EditError) -> u32
+    ensures answer { result ≡ answer_to error.now }
     ensures failed { IsTrue (not (result == ARWEN_OK)) }
     ensures other { IsTrue (not (result == ARWEN_ROOM)) }
 {
