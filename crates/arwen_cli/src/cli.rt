@@ -19,8 +19,8 @@ pub use arwen_cli_show as show;
 use arwen_cli_show::Args;
 pub use command::Command;
 pub use command_words::{
-    EditFault, EditKind, EditsError, KeyValueError, MOST_BYTES, NotDone, Notes, ValueError,
-    parse_key_val,
+    EditFault, EditKind, EditsError, FileBytes, KeyValueError, MOST_BYTES, NotDone, Notes,
+    RegularBytes, ValueError, parse_key_val,
 };
 pub use elf_commands::elf::{
     FileProbe, Probe, edit_path, edit_store, print_path, print_store, run_elf, shrink_path,

@@ -4,7 +4,8 @@ use Rattle.std.specs.declared.io.Error.{Error}
 use Rattle.byte_store.specs.declared.reading.ReadError.{ReadError}
 use Rattle.byte_store.specs.declared.reading.ReadError.TheVariants as read
 use Rattle.elf_commands.specs.ElfErrors.{answer_to_read}
-use Rattle.elf_commands.specs.Failures.{HasReadCause, HasReadCauseAt, IsNotLoaded}
+use Rattle.command_words.specs.Loading.{IsNotLoaded}
+use Rattle.elf_commands.specs.Failures.{HasReadCause, HasReadCauseAt}
 use Rattle.elf_commands.specs.ElfCommandError.{ElfCommandError}
 use Rattle.elf_commands.specs.ElfCommandError.TheVariants.{Edits, Elf, ElfBatch, Io, Memory}
 use Rattle.elf_commands.specs.Shrinking.{Finding}

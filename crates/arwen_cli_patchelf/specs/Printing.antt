@@ -7,7 +7,7 @@ use Rattle.elf_apply.specs.declared.error.ElfError.{ElfError}
 use Rattle.elf_apply.specs.declared.error.ElfError.TheVariants as elf
 use Rattle.elf_image.specs.Image.{Image, image_of, shown}
 use Rattle.elf_format.specs.declared.fault.ElfFault.{ElfFault}
-use Rattle.elf_commands.specs.Failures.{IsNotLoaded}
+use Rattle.command_words.specs.Loading.{IsNotLoaded}
 use Rattle.elf_commands.specs.Prints.{StopsWriting}
 use Rattle.elf_commands.specs.ElfCommandError.{ElfCommandError}
 use Rattle.elf_commands.specs.ElfCommandError.TheVariants.{Elf, Io, Memory}

@@ -9,9 +9,9 @@ ghost use Rattle.arwen_cli_patchelf.specs.Patched.{FailsPatch, FailsPatchAt, IsP
 
 use crate::making::made_bytes;
 use crate::steps::apply_if;
-use arwen_cli_patchelf_lines::{Plan, load};
+use arwen_cli_patchelf_lines::Plan;
 use byte_store::{Store, replace};
-use command_words::{NotDone, OpensOnce};
+use command_words::{NotDone, OpensOnce, load};
 use elf_commands::ElfCommandError;
 use elf_commands::elf::{Probe, open_path};
 use std::alloc::Global;

@@ -9,11 +9,10 @@ ghost use Rattle.arwen_cli_peers.specs.EditWords.{asked_model};
 ghost use Rattle.arwen_cli_patchelf.specs.Printing.{HasPrintCause, HasPrintCauseAt, IsPrinted, IsPrintedOf, PrintsAll, TellsPrint, TellsPrintOf, TellsPrints, option_for, prints_among, prints_asked as prints_meant};
 
 use crate::print_texts::print_text;
-use arwen_cli_patchelf_lines::load;
 use arwen_cli_peers::AskedOption;
 use arwen_cli_peers::asked::is_given;
 use byte_store::Store;
-use command_words::{NotDone, OpensOnce};
+use command_words::{NotDone, OpensOnce, load};
 use elf_commands::ElfCommandError;
 use elf_commands::elf::open_path;
 use elf_commands::files::{CountedWrite, ElfContainer, ElfError, write_all_counted};

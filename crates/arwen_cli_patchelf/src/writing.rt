@@ -11,9 +11,9 @@ ghost use Rattle.arwen_cli_patchelf.specs.Output.{HasOutputCause, IsCutOff, Stop
 ghost use Rattle.arwen_cli_patchelf.specs.Patched.{HoldsBytes, HoldsKnown, IsMadeKnown, TellsPlanPath};
 
 use crate::making::made_bytes;
-use arwen_cli_patchelf_lines::{Plan, load};
+use arwen_cli_patchelf_lines::Plan;
 use byte_store::{Creates, Store};
-use command_words::{NotDone, OpensOnce};
+use command_words::{NotDone, OpensOnce, load};
 use elf_commands::ElfCommandError;
 use elf_commands::elf::Probe;
 use elf_commands::files::{Sink, write_all_counted};

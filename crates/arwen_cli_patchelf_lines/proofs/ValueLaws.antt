@@ -6,6 +6,9 @@ use Rattle.arwen_cli_peers.specs.declared.options.Given.{Given}
 use Rattle.arwen_cli_patchelf_lines.specs.Values.{AreResolvedFrom, IsPut, IsRefusedAmong, IsUnreadFrom, path_named}
 use Rattle.std.specs.Str.{IsUtf8}
 use Rattle.byte_store.specs.Known.{IsAll}
+use Rattle.byte_store.specs.declared.reading.ReadError.{ReadError}
+use Rattle.byte_store.specs.declared.reading.ReadError.TheVariants as read
+use Rattle.arwen_cli_patchelf_lines.specs.Causes.{cause_of_read}
 use Rattle.arwen_cli_patchelf_lines.specs.NameMaps.{spaced_all}
 use Rattle.arwen_cli_patchelf_lines.specs.declared.values.Source.TheVariants.{File, NameMap}
 use Rattle.arwen_cli_patchelf_lines.specs.declared.values.ValueCause.{ValueCause}
@@ -29,27 +32,37 @@ all_put known shrinks given i new past before =
     before new (subst (λ (left : List Given). AreResolvedFrom known shrinks new (map given_model left) new) (sym (drop_all i given past)) refl)
 
 -- a refusal of one of the options that are left is one of all
-abbrev pub Stops : (Text → Option (List ℕ)) → Bool → List Given → List Given → Type 0
-Stops known shrinks given left =
-    (refused : ValueRefused) → IsRefusedAmong known shrinks (map given_model left) refused → IsRefusedAmong known shrinks (map given_model given) refused
+abbrev pub Stops : (Text → Option (List ℕ)) → (Text → ReadError → Type 0) → Bool → List Given → List Given → Type 0
+Stops known fails shrinks given left =
+    (refused : ValueRefused) → IsRefusedAmong known fails shrinks (map given_model left) refused → IsRefusedAmong known fails shrinks (map given_model given) refused
 
-pub one_past : (known : Text → Option (List ℕ)) (shrinks : Bool) (given : List Given) (i : ℕ) (d : Given) (old new : List Asked) → i < length given
-    → Stops known shrinks given (drop i given) → IsPut known shrinks (given_model (get_or given i d)) old new
-    → Stops known shrinks given (drop (i + 1) given)
-one_past known shrinks given i d old new inside before put = λ refused more.
-    before refused (subst (λ (left : List Given). IsRefusedAmong known shrinks (map given_model left) refused) (sym (drop_more given i d inside)) (inr (put.0, put.1, more)))
+pub one_past : (known : Text → Option (List ℕ)) (fails : Text → ReadError → Type 0) (shrinks : Bool) (given : List Given) (i : ℕ) (d : Given) (old new : List Asked) → i < length given
+    → Stops known fails shrinks given (drop i given) → IsPut known shrinks (given_model (get_or given i d)) old new
+    → Stops known fails shrinks given (drop (i + 1) given)
+one_past known fails shrinks given i d old new inside before put = λ refused more.
+    before refused (subst (λ (left : List Given). IsRefusedAmong known fails shrinks (map given_model left) refused) (sym (drop_more given i d inside)) (inr (put.0, put.1, more)))
 
--- ## Files that are no text
+-- ## Files that aren't read, or are no text
 
-pub no_text : (known : Text → Option (List ℕ)) (one : Asked) (bytes : List ℕ) (cause : ValueCause) → IsAll (known (path_named one.first)) bytes → cause ≡ NotText → (IsUtf8 bytes → ⊥)
-    → IsUnreadFrom File known one cause
-no_text known one bytes cause all is never =
-    let P : ValueCause → Type 0 = λ told. IsUnreadFrom File known one told in
+pub no_file : (known : Text → Option (List ℕ)) (fails : Text → ReadError → Type 0) (one : Asked) (e : ReadError) → fails (path_named one.first) e
+    → IsUnreadFrom File known fails one (cause_of_read e)
+no_file known fails one read.Memory failed = tt
+no_file known fails one (read.Io e) failed = failed
+
+pub no_map : (known : Text → Option (List ℕ)) (fails : Text → ReadError → Type 0) (one : Asked) (e : ReadError) → fails one.first e
+    → IsUnreadFrom NameMap known fails one (cause_of_read e)
+no_map known fails one read.Memory failed = tt
+no_map known fails one (read.Io e) failed = failed
+
+pub no_text : (known : Text → Option (List ℕ)) (fails : Text → ReadError → Type 0) (one : Asked) (bytes : List ℕ) (cause : ValueCause) → IsAll (known (path_named one.first)) bytes → cause ≡ NotText → (IsUtf8 bytes → ⊥)
+    → IsUnreadFrom File known fails one cause
+no_text known fails one bytes cause all is never =
+    let P : ValueCause → Type 0 = λ told. IsUnreadFrom File known fails one told in
     subst P (sym is) (bytes, all, never)
 
-pub no_map_text : (known : Text → Option (List ℕ)) (one : Asked) (bytes text : List ℕ) (cause : ValueCause) → IsAll (known one.first) bytes → text ≡ spaced_all bytes → cause ≡ NotText → (IsUtf8 text → ⊥)
-    → IsUnreadFrom NameMap known one cause
-no_map_text known one bytes text cause all same is never =
-    let P : ValueCause → Type 0 = λ told. IsUnreadFrom NameMap known one told in
+pub no_map_text : (known : Text → Option (List ℕ)) (fails : Text → ReadError → Type 0) (one : Asked) (bytes text : List ℕ) (cause : ValueCause) → IsAll (known one.first) bytes → text ≡ spaced_all bytes → cause ≡ NotText → (IsUtf8 text → ⊥)
+    → IsUnreadFrom NameMap known fails one cause
+no_map_text known fails one bytes text cause all same is never =
+    let P : ValueCause → Type 0 = λ told. IsUnreadFrom NameMap known fails one told in
     let Never : List ℕ → Type 0 = λ l. IsUtf8 l → ⊥ in
     subst P (sym is) (bytes, all, subst Never same never)

@@ -1,5 +1,6 @@
 -- What a line of patchelf asks for.
 use Rattle.std.specs.Prelude.{ℕ, ◌≡◌, ◌⊎◌, List, map, Option, Some, None, Ok, codes, option_map, string_bytes, ⊤}
+use Rattle.byte_store.specs.declared.reading.ReadError.{ReadError}
 use Rattle.arwen_cli_peers.specs.EditWords.{asked_model, last_of}
 use Rattle.arwen_cli_peers.specs.Options.{Asked, TellsWrong, Text, line_of, values_of}
 use Rattle.arwen_cli_peers.specs.Tables.{patchelf_known}
@@ -53,8 +54,8 @@ pub record RefusesValues (known : Text → Option (List ℕ)) (given : List Aske
   pub refusal : values_refused asked ≡ Some (refused_model refused)
 
 -- A refusal of the first option whose value isn't read from its file, though there was memory.
-pub record RefusesValue (known : Text → Option (List ℕ)) (given : List Asked) (refused : ValueRefused) : Type 0 where
-  pub among : IsRefusedAmong known (is_asked (codes "--shrink-rpath") given) given refused
+pub record RefusesValue (known : Text → Option (List ℕ)) (fails : Text → ReadError → Type 0) (given : List Asked) (refused : ValueRefused) : Type 0 where
+  pub among : IsRefusedAmong known fails (is_asked (codes "--shrink-rpath") given) given refused
   pub had_memory : refused.cause ≡ Memory → ⊥
 
 -- the words give a line that isn't refused before values are looked at, and this holds of what they give
@@ -70,29 +71,29 @@ TellsGiven words (error.Words fault) = TellsWrong (line_of patchelf_known words)
 TellsGiven words error.Memory = ⊤
 TellsGiven words e = ⊥
 
-abbrev pub TellsValues : (Text → Option (List ℕ)) → List Asked → LineError → Type 0
-TellsValues known given (error.Refused refused) = RefusesValues known given refused
-TellsValues known given (error.Value refused) = RefusesValue known given refused
-TellsValues known given error.Memory = ⊤
-TellsValues known given e = ⊥
+abbrev pub TellsValues : (Text → Option (List ℕ)) → (Text → ReadError → Type 0) → List Asked → LineError → Type 0
+TellsValues known fails given (error.Refused refused) = RefusesValues known given refused
+TellsValues known fails given (error.Value refused) = RefusesValue known fails given refused
+TellsValues known fails given error.Memory = ⊤
+TellsValues known fails given e = ⊥
 
 abbrev pub TellsAsked : List Asked → LineError → Type 0
 TellsAsked asked (error.Refused refused) = values_refused asked ≡ Some (refused_model refused)
 TellsAsked asked error.Memory = ⊤
 TellsAsked asked e = ⊥
 
-abbrev pub TellsLine : (Text → Option (List ℕ)) → List Text → LineError → Type 0
-TellsLine known words (error.Words fault) = TellsWrong (line_of patchelf_known words) fault
-TellsLine known words (error.Refused refused) =
+abbrev pub TellsLine : (Text → Option (List ℕ)) → (Text → ReadError → Type 0) → List Text → LineError → Type 0
+TellsLine known fails words (error.Words fault) = TellsWrong (line_of patchelf_known words) fault
+TellsLine known fails words (error.Refused refused) =
     RefusesGiven words refused ⊎ IsTaken words (λ given. RefusesValues known given refused)
-TellsLine known words (error.Value refused) = IsTaken words (λ given. RefusesValue known given refused)
-TellsLine known words error.Memory = ⊤
+TellsLine known fails words (error.Value refused) = IsTaken words (λ given. RefusesValue known fails given refused)
+TellsLine known fails words error.Memory = ⊤
 
 -- why options have no values
-abbrev pub IsOfValue : (Text → Option (List ℕ)) → List Asked → LineError → Type 0
-IsOfValue known given (error.Value refused) = RefusesValue known given refused
-IsOfValue known given error.Memory = ⊤
-IsOfValue known given e = ⊥
+abbrev pub IsOfValue : (Text → Option (List ℕ)) → (Text → ReadError → Type 0) → List Asked → LineError → Type 0
+IsOfValue known fails given (error.Value refused) = RefusesValue known fails given refused
+IsOfValue known fails given error.Memory = ⊤
+IsOfValue known fails given e = ⊥
 
 -- the error of a refusal, which is want of memory where that is its cause
 abbrev pub IsErrorOf : ValueRefused → LineError → Type 0

@@ -4,6 +4,8 @@ use Rattle.std.specs.List.{after_first, position_or_len}
 use Rattle.std.specs.Str.{IsUtf8, bytes_eq, trim}
 use Rattle.std.specs.Char.{to_ascii_lowercase}
 use Rattle.byte_store.specs.Known.{IsAll}
+use Rattle.byte_store.specs.declared.reading.ReadError.{ReadError}
+use Rattle.byte_store.specs.declared.reading.ReadError.TheVariants as read
 use Rattle.arwen_cli_peers.specs.Options.{Asked, Text}
 use Rattle.arwen_cli_patchelf_lines.specs.NameMaps.{pairs_of, spaced_all}
 use Rattle.arwen_cli_patchelf_lines.specs.declared.name_maps.MapWrong.{MapWrong}
@@ -123,24 +125,25 @@ IsNoText f known = (bytes : List ℕ) × IsAll known bytes × (IsUtf8 (f bytes) 
 abbrev pub IsWrongMap : MapWrong → ℕ → Option (List ℕ) → Type 0
 IsWrongMap wrong line known = (bytes : List ℕ) × IsAll known bytes × (pairs_of (spaced_all bytes) ≡ Err (wrong, line))
 
--- why a value that stands there isn't read: its file can't be, or is no text, or no map of names. There may be no memory anywhere
-abbrev pub IsUnreadFrom : Source → (Text → Option (List ℕ)) → Asked → ValueCause → Type 0
-IsUnreadFrom source known one cause.Memory = ⊤
-IsUnreadFrom File known one (cause.Io e) = ⊤
-IsUnreadFrom File known one cause.NotText = IsNoText (λ bytes. bytes) (known (path_named one.first))
-IsUnreadFrom NameMap known one (cause.Io e) = ⊤
-IsUnreadFrom NameMap known one cause.NotText = IsNoText spaced_all (known one.first)
-IsUnreadFrom NameMap known one (cause.Map wrong line) = IsWrongMap wrong line (known one.first)
-IsUnreadFrom source known one cause = ⊥
+-- why a value that stands there isn't read: reading its file fails so, or it is no text, or no map of names. There may be no memory
+-- anywhere
+abbrev pub IsUnreadFrom : Source → (Text → Option (List ℕ)) → (Text → ReadError → Type 0) → Asked → ValueCause → Type 0
+IsUnreadFrom source known fails one cause.Memory = ⊤
+IsUnreadFrom File known fails one (cause.Io e) = fails (path_named one.first) (read.Io e)
+IsUnreadFrom File known fails one cause.NotText = IsNoText (λ bytes. bytes) (known (path_named one.first))
+IsUnreadFrom NameMap known fails one (cause.Io e) = fails one.first (read.Io e)
+IsUnreadFrom NameMap known fails one cause.NotText = IsNoText spaced_all (known one.first)
+IsUnreadFrom NameMap known fails one (cause.Map wrong line) = IsWrongMap wrong line (known one.first)
+IsUnreadFrom source known fails one cause = ⊥
 
 -- A refusal tells of an option that it is the one whose value isn't read, from which file, and why.
-pub record IsRefusedOf (known : Text → Option (List ℕ)) (shrinks : Bool) (one : Asked) (refused : ValueRefused) : Type 0 where
+pub record IsRefusedOf (known : Text → Option (List ℕ)) (fails : Text → ReadError → Type 0) (shrinks : Bool) (one : Asked) (refused : ValueRefused) : Type 0 where
   pub option : refused.option.now ≡ one.name
   pub path : refused.path.now ≡ path_from (source_of shrinks one) one.first
-  pub cause : IsUnreadFrom (source_of shrinks one) known one refused.cause
+  pub cause : IsUnreadFrom (source_of shrinks one) known fails one refused.cause
 
 -- it tells so of the first of these whose value isn't read
-abbrev pub IsRefusedAmong : (Text → Option (List ℕ)) → Bool → List Asked → ValueRefused → Type 0
-IsRefusedAmong known shrinks [] refused = ⊥
-IsRefusedAmong known shrinks (one ∷ rest) refused = IsRefusedOf known shrinks one refused
-    ⊎ ((asked : List Asked) × IsResolved known shrinks one asked × IsRefusedAmong known shrinks rest refused)
+abbrev pub IsRefusedAmong : (Text → Option (List ℕ)) → (Text → ReadError → Type 0) → Bool → List Asked → ValueRefused → Type 0
+IsRefusedAmong known fails shrinks [] refused = ⊥
+IsRefusedAmong known fails shrinks (one ∷ rest) refused = IsRefusedOf known fails shrinks one refused
+    ⊎ ((asked : List Asked) × IsResolved known shrinks one asked × IsRefusedAmong known fails shrinks rest refused)

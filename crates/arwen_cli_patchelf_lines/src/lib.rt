@@ -3,7 +3,6 @@
 #![tactic(auto)]
 
 mod line;
-mod loading;
 mod name_maps;
 mod parts;
 mod plans;
@@ -11,7 +10,6 @@ mod refusals;
 mod values;
 
 pub use crate::line::{Line, LineError, read_line};
-pub use crate::loading::{ProgramTexts, TextFiles, load};
 pub use crate::name_maps::MapWrong;
 pub use crate::plans::{Plan, plan_of};
 pub use crate::refusals::Refused;

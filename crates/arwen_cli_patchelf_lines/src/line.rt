@@ -7,7 +7,6 @@ ghost use Rattle.arwen_cli_patchelf_lines.specs.Line.{IsErrorOf, IsLineOf, IsOfV
 ghost use Rattle.arwen_cli_patchelf_lines.specs.Refusals.{is_asked as is_shrinking, values_refused};
 ghost use Rattle.arwen_cli_patchelf_lines.specs.Values.{AreResolved};
 
-use crate::loading::TextFiles;
 use crate::plans::{Plan, plan_of};
 use crate::refusals::{Refused, is_asked, line_refusal, values_refusal};
 use crate::values::{ValueCause, ValueRefused, resolved};
@@ -15,6 +14,7 @@ use arwen_cli_peers::asked::last_of;
 use arwen_cli_peers::options::FILE;
 use arwen_cli_peers::tables::patchelf_options;
 use arwen_cli_peers::{AskedOption, Given, LineFault, parse_words};
+use command_words::FileBytes;
 use std::alloc::{AllocError, Global};
 
 /// What a line of patchelf asks for.
@@ -60,13 +60,14 @@ impl From<AllocError> for LineError<'_> {
 ///
 /// The first of these: what the words say that is no line; an option that isn't there, no file or too many, options that
 /// don't go with one another; a value that can't be read from its file; a value that `apply` would read otherwise.
-pub fn read_line<'a, F: TextFiles>(
+pub fn read_line<'a, F: FileBytes>(
     alloc: Global,
     files: &F,
     words: &[&'a str],
 ) -> Result<Line, LineError<'a>>
     ensures reads { IfOk result (ReadsLine (F.contents files.now) (map (λ w. w.now) words.now)) }
-    ensures refused { IfErr result (TellsLine (F.contents files.now) (map (λ w. w.now) words.now)) }
+    ensures refused { IfErr result (TellsLine (F.contents files.now) (F.may_fail files.now)
+        (map (λ w. w.now) words.now)) }
 {
     let given = given_of(alloc, words)?;
     let paths = paths_of(alloc, given.as_slice())?;
@@ -104,7 +105,7 @@ fn paths_of(alloc: Global, given: &[Given<'_>]) -> Result<Vec<String>, AllocErro
 }
 
 /// The line that gives this and names these files.
-fn resolved_line<'a, F: TextFiles>(
+fn resolved_line<'a, F: FileBytes>(
     alloc: Global,
     files: &F,
     given: &[Given<'a>],
@@ -113,14 +114,15 @@ fn resolved_line<'a, F: TextFiles>(
     ensures reads { IfOk result (ReadsGiven (F.contents files.now) (map given_model given.now)
         (map string_bytes paths.items)) }
     ensures refused { IfErr result
-        (TellsValues (F.contents files.now) (map given_model given.now)) }
+        (TellsValues (F.contents files.now) (F.may_fail files.now)
+        (map given_model given.now)) }
 {
     let asked = asked_of(alloc, files, given)?;
     checked_line(alloc, asked, paths)
 }
 
 /// What options ask for with their values.
-fn asked_of<'a, F: TextFiles>(
+fn asked_of<'a, F: FileBytes>(
     alloc: Global,
     files: &F,
     given: &[Given<'a>],
@@ -128,7 +130,8 @@ fn asked_of<'a, F: TextFiles>(
     ensures ok { IfOk result (λ asked. AreResolved (F.contents files.now)
         (is_shrinking (codes "--shrink-rpath") (map given_model given.now))
         (map given_model given.now) (map asked_model asked.items)) }
-    ensures err { IfErr result (IsOfValue (F.contents files.now) (map given_model given.now)) }
+    ensures err { IfErr result (IsOfValue (F.contents files.now) (F.may_fail files.now)
+        (map given_model given.now)) }
 {
     let shrinks = is_asked(given, "--shrink-rpath");
     match resolved(alloc, files, given, shrinks) {

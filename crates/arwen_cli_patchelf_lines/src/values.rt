@@ -8,10 +8,10 @@ ghost use Rattle.arwen_cli_patchelf_lines.specs.Values.{AreResolved, IsPut, IsPu
 ghost use Rattle.arwen_cli_patchelf_lines.specs.declared.values.Source.TheVariants.{File, NameMap};
 ghost use Rattle.arwen_cli_patchelf_lines.specs.declared.values.ValueCause.TheVariants.{NotText};
 
-use crate::loading::TextFiles;
 use crate::name_maps::{MapFault, MapWrong, NamePair, pairs_in, spaced};
 use arwen_cli_peers::{AskedOption, Given};
 use byte_store::ReadError;
+use command_words::FileBytes;
 use std::alloc::{AllocError, AllocFailed, Global};
 use std::io;
 
@@ -103,7 +103,7 @@ pub(crate) enum Source {
 }
 
 /// What a line asks for that gives this, with the values that stand in files.
-pub(crate) fn resolved<'a, F: TextFiles>(
+pub(crate) fn resolved<'a, F: FileBytes>(
     alloc: Global,
     files: &F,
     given: &[Given<'a>],
@@ -112,7 +112,8 @@ pub(crate) fn resolved<'a, F: TextFiles>(
     ensures ok { IfOk result (λ asked. AreResolved (F.contents files.now) shrinks
         (map given_model given.now) (map asked_model asked.items)) }
     ensures err { IfErr result
-        (IsRefusedAmong (F.contents files.now) shrinks (map given_model given.now)) }
+        (IsRefusedAmong (F.contents files.now) (F.may_fail files.now) shrinks
+        (map given_model given.now)) }
 {
     let mut asked = Vec::new(alloc);
     for one in given {
@@ -122,7 +123,7 @@ pub(crate) fn resolved<'a, F: TextFiles>(
 }
 
 /// Puts what an option asks for behind others, or tells which option it is whose value wasn't read.
-fn put_one<'a, F: TextFiles>(
+fn put_one<'a, F: FileBytes>(
     alloc: Global,
     files: &F,
     one: &Given<'a>,
@@ -132,7 +133,8 @@ fn put_one<'a, F: TextFiles>(
     ensures ok { OnOk result (IsPut (F.contents files.now) shrinks (given_model one.now)
         (map asked_model asked.old.items) (map asked_model asked.new.items)) }
     ensures err { IfErr result
-        (IsRefusedOf (F.contents files.now) shrinks (given_model one.now)) }
+        (IsRefusedOf (F.contents files.now) (F.may_fail files.now) shrinks
+        (given_model one.now)) }
 {
     let source = source_of(one, shrinks);
     match put_resolved(alloc, files, one, source, asked) {
@@ -166,7 +168,7 @@ fn file_named(value: &str) -> &str
 }
 
 /// Puts what an option asks for, whose value stands there, behind others.
-fn put_resolved<'a, F: TextFiles>(
+fn put_resolved<'a, F: FileBytes>(
     alloc: Global,
     files: &F,
     one: &Given<'a>,
@@ -176,7 +178,8 @@ fn put_resolved<'a, F: TextFiles>(
     ensures ok { OnOk result (IsPutFrom source (F.contents files.now) (given_model one.now)
         (map asked_model asked.old.items) (map asked_model asked.new.items)) }
     ensures err { IfErr result
-        (IsUnreadFrom source (F.contents files.now) (given_model one.now)) }
+        (IsUnreadFrom source (F.contents files.now) (F.may_fail files.now)
+        (given_model one.now)) }
 {
     match source {
         Source::Nowhere => Ok(()),
@@ -301,7 +304,7 @@ fn abi_name(alloc: Global, name: &str) -> Result<String, AllocError>
 }
 
 /// Puts an option whose value stands in a file behind others.
-fn put_read<'a, F: TextFiles>(
+fn put_read<'a, F: FileBytes>(
     alloc: Global,
     files: &F,
     one: &Given<'a>,
@@ -310,7 +313,8 @@ fn put_read<'a, F: TextFiles>(
     ensures ok { OnOk result (IsPutFrom File (F.contents files.now) (given_model one.now)
         (map asked_model asked.old.items) (map asked_model asked.new.items)) }
     ensures err { IfErr result
-        (IsUnreadFrom File (F.contents files.now) (given_model one.now)) }
+        (IsUnreadFrom File (F.contents files.now) (F.may_fail files.now)
+        (given_model one.now)) }
 {
     let bytes = files.bytes(alloc, file_named(one.first))?;
     let text = text_of(bytes)?;
@@ -330,7 +334,7 @@ fn text_of(bytes: Vec<u8>) -> Result<String, ValueCause>
 }
 
 /// Puts an option for each pair of a map of names behind others.
-fn put_pairs<'a, F: TextFiles>(
+fn put_pairs<'a, F: FileBytes>(
     alloc: Global,
     files: &F,
     one: &Given<'a>,
@@ -339,7 +343,8 @@ fn put_pairs<'a, F: TextFiles>(
     ensures ok { OnOk result (IsPutFrom NameMap (F.contents files.now) (given_model one.now)
         (map asked_model asked.old.items) (map asked_model asked.new.items)) }
     ensures err { IfErr result
-        (IsUnreadFrom NameMap (F.contents files.now) (given_model one.now)) }
+        (IsUnreadFrom NameMap (F.contents files.now) (F.may_fail files.now)
+        (given_model one.now)) }
 {
     let bytes = files.bytes(alloc, one.first)?;
     let text = text_of(spaced(alloc, bytes.as_slice())?)?;

@@ -11,7 +11,7 @@ use Rattle.arwen_cli_patchelf_lines.specs.declared.line.LineError.TheVariants as
 use Rattle.arwen_cli_peers.specs.Options.{TellsWrong, Text, Wrong, help, version}
 use Rattle.arwen_cli_peers.specs.declared.options.LineFault.{LineFault}
 use Rattle.arwen_cli_peers.specs.declared.options.LineFault.TheVariants as fault
-use Rattle.arwen_cli_runners.specs.Endings.{EndsLine, MayBeDone, status_of, unknown}
+use Rattle.arwen_cli_runners.specs.Endings.{EndsLine, MayBeDone, any_error, status_of, unknown}
 use Rattle.arwen_cli_runners.specs.Texts.{EndsUnread, EndsUnreadNames, EndsWords}
 use Rattle.arwen_cli_runners.specs.declared.ending.Ending.{Ending}
 use Rattle.arwen_cli_runners.specs.declared.ending.Ending.TheVariants.{Done, Failed, Told}
@@ -41,7 +41,7 @@ asked meant said fault.Memory Done tells ends zero = absurd ends
 asked meant said fault.Memory (Told text) tells ends zero = absurd ends
 asked meant said fault.Memory (Failed line) tells ends zero = absurd ends
 
-unread : (words : List Text) (e : LineError) (said : Sayings) (ending : Ending) → TellsLine unknown words e → EndsUnread said e ending → status_of ending ≡ 0 → MayBeDone Patchelf words
+unread : (words : List Text) (e : LineError) (said : Sayings) (ending : Ending) → TellsLine unknown any_error words e → EndsUnread said e ending → status_of ending ≡ 0 → MayBeDone Patchelf words
 unread words (error.Words f) said ending tells ends zero = inl (asked _ said f ending tells ends zero)
 unread words (error.Refused refused) said Done tells ends zero = absurd ends
 unread words (error.Refused refused) said (Told text) tells ends zero = absurd ends

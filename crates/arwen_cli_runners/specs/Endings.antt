@@ -1,5 +1,6 @@
 -- How lines end.
 use Rattle.std.specs.Prelude.{ℕ, ◌≡◌, ◌⊎◌, List, Option, None, Err, codes, string_bytes, ⊤}
+use Rattle.byte_store.specs.declared.reading.ReadError.{ReadError}
 use Rattle.elf_commands.specs.ElfCommandError.{ElfCommandError}
 use Rattle.arwen_cli_install_names.specs.Line.{ReadsNames, TellsNames}
 use Rattle.arwen_cli_install_names.specs.declared.editing.NamesError.{NamesError}
@@ -28,6 +29,10 @@ status_of (Failed line) = 1
 abbrev pub unknown : Text → Option (List ℕ)
 unknown path = None
 
+-- nor why they can't be read
+abbrev pub any_error : Text → ReadError → Type 0
+any_error path e = ⊤
+
 -- ## Lines that were read
 
 -- all is done of a line of patchelf, or its ending tells the fault of a file
@@ -53,7 +58,7 @@ EndsReadNames path (Told text) = ⊥
 -- it isn't read, and the ending tells why; or it is, and was run
 abbrev pub EndsPatchelf : List Text → Ending → Type 0
 EndsPatchelf words ending =
-    ((e : LineError) × (said : Sayings) × TellsLine unknown words e × (said.name.now ≡ codes "patchelf") × EndsUnread said e ending)
+    ((e : LineError) × (said : Sayings) × TellsLine unknown any_error words e × (said.name.now ≡ codes "patchelf") × EndsUnread said e ending)
     ⊎ ((line : Line) × ReadsLine unknown words line × EndsReadLine ending)
 
 abbrev pub EndsNames : List Text → Ending → Type 0

@@ -11,8 +11,9 @@ use crate::peers::Peer;
 use crate::texts::{name_tool_says, patchelf_says, unread_line, unread_names};
 use arwen_cli_install_names::{NameLine, NamesError, read_name_line};
 use arwen_cli_patchelf::prints_asked;
-use arwen_cli_patchelf_lines::{Line, ProgramTexts, read_line};
+use arwen_cli_patchelf_lines::{Line, read_line};
 use byte_store::Opens;
+use command_words::RegularBytes;
 use elf_commands::elf::FileProbe;
 use elf_commands::files::Sink;
 use std::alloc::AllocError;
@@ -73,8 +74,8 @@ fn patchelf_ending<R: Files + Print + AllocGlobal>(
 ) -> Result<Ending, AllocError>
     ensures { IfOk result (EndsPatchelf (map (λ w. w.now) words.now)) }
 {
-    let texts = ProgramTexts { files: rt };
-    match read_line(rt.alloc(), &texts, words) {
+    let files = RegularBytes { files: rt };
+    match read_line(rt.alloc(), &files, words) {
         Ok(line) => run_patchelf(rt, line),
         Err(error) => {
             let ending = unread_line(rt.alloc(), patchelf_says(), &error);

@@ -1,9 +1,7 @@
 -- What the command `show` writes of files at paths.
-use Rattle.std.specs.Prelude.{ℕ, ◌≡◌, ◌-◌, ◌^◌, ◌<◌, ◌⊎◌, ◌++◌, Bool, true, false, List, [], ◌∷◌, length, take, Option, None, codes, ⊤}
+use Rattle.std.specs.Prelude.{ℕ, ◌≡◌, ◌<◌, ◌⊎◌, ◌++◌, Bool, true, false, List, [], ◌∷◌, length, take, Option, None, codes, ⊤}
 use Rattle.std.specs.List.{flat_map, list_all}
 use Rattle.std.specs.Io.KnownBytes.{Appends}
-use Rattle.std.specs.declared.io.Error.{Error}
-use Rattle.byte_store.specs.Causes.{IsNotWhole}
 use Rattle.byte_store.specs.Known.{IsAll}
 use Rattle.byte_store.specs.declared.reading.ReadError.{ReadError}
 use Rattle.byte_store.specs.declared.reading.ReadError.TheVariants as read
@@ -17,24 +15,15 @@ use Rattle.arwen_cli_show.specs.declared.show.Style.{Style}
 
 -- ## Why nothing is told of a file
 
--- a store was not read whole, which counted so many failures before and after
-abbrev pub IsNotLoaded : (Error → Type 0) → Option (List ℕ) → ℕ → ℕ → ReadError → Type 0
-IsNotLoaded reads known old new e = IsNotWhole reads (2 ^ 64 - 2) known old new e
-
--- the store at a path was not read whole: its opening answered the error, or it is one of the store that was opened
-abbrev pub IsNotOpened : (Error → Type 0) → (Error → Type 0) → Option (List ℕ) → ReadError → Type 0
-IsNotOpened opens reads known read.Memory = ⊤
-IsNotOpened opens reads known (read.Io e) = opens e ⊎ ((failed : ℕ) × IsNotLoaded reads known 0 failed (read.Io e))
-
 -- the refusal of a file that couldn't be read: nothing more is known of it
 abbrev pub unread_refusal : ReadError → Refusal
 unread_refusal read.Memory = record { error = show.Memory; reason = None }
 unread_refusal (read.Io e) = record { error = show.Io e; reason = None }
 
 -- why nothing is told of the file at a path: it couldn't be read, or its bytes are refused
-abbrev pub IsFileRefusal : (Error → Type 0) → (Error → Type 0) → Option (List ℕ) → Refusal → Type 0
-IsFileRefusal opens reads known refusal =
-    ((e : ReadError) × IsNotOpened opens reads known e × (refusal ≡ unread_refusal e))
+abbrev pub IsFileRefusal : (ReadError → Type 0) → Option (List ℕ) → Refusal → Type 0
+IsFileRefusal may_fail known refusal =
+    ((e : ReadError) × may_fail e × (refusal ≡ unread_refusal e))
     ⊎ ((bytes : List ℕ) × IsAll known bytes × IsRefusalOf bytes refusal)
 
 -- its line: the path, the causes, and what they leave open
@@ -68,11 +57,11 @@ abbrev pub is_told : Telling → Bool
 is_told (told text) = true
 is_told (refused line) = false
 
--- it tells of the file at a path: of all its bytes where they are known, or by an error that opening it or reading it may answer
-abbrev pub TellingAt : (List ℕ → Error → Type 0) → (Error → Type 0) → (List ℕ → Option (List ℕ)) → Style → List ℕ → Telling → Type 0
-TellingAt opens reads contents style path (told text) = TellsFile style path (contents path) text
-TellingAt opens reads contents style path (refused line) =
-    (refusal : Refusal) × IsFileRefusal (opens path) reads (contents path) refusal × IsRefusalLine path refusal line
+-- it tells of the file at a path: of all its bytes where they are known, or by an error that reading it may answer
+abbrev pub TellingAt : (List ℕ → ReadError → Type 0) → (List ℕ → Option (List ℕ)) → Style → List ℕ → Telling → Type 0
+TellingAt may_fail contents style path (told text) = TellsFile style path (contents path) text
+TellingAt may_fail contents style path (refused line) =
+    (refusal : Refusal) × IsFileRefusal (may_fail path) (contents path) refusal × IsRefusalLine path refusal line
 
 -- one for each path, in order
 abbrev pub AreTellings : (List ℕ → Telling → Type 0) → List (List ℕ) → List Telling → Type 0

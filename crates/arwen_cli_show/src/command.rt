@@ -1,9 +1,8 @@
 //! The command `show`, over files at paths.
-ghost use Rattle.std.specs.Prelude.{◌≡◌, ◌<◌, ◌≤◌, ◌∷◌, [], false, true, IfErr, IfOk, OnOk, length, map, string_bytes, vec_len};
+ghost use Rattle.std.specs.Prelude.{◌≡◌, ◌<◌, ◌∷◌, [], false, true, IfErr, IfOk, OnOk, length, map, string_bytes, vec_len};
 ghost use Rattle.std.specs.Io.KnownBytes.{Appends};
-ghost use Rattle.byte_store.specs.Known.{IsAll};
 ghost use Rattle.arwen_cli_facts.specs.Reasons.{IsRefusalOf};
-ghost use Rattle.arwen_cli_show.specs.Command.{AreShown, GetsLine, IsFileRefusal, IsIo, IsNotLoaded, IsNotOpened, IsRefusalLine, StopsLine, StopsPath, StopsShow, TellingAt, unread_refusal};
+ghost use Rattle.arwen_cli_show.specs.Command.{AreShown, GetsLine, IsFileRefusal, IsIo, IsRefusalLine, StopsLine, StopsPath, StopsShow, TellingAt, unread_refusal};
 ghost use Rattle.arwen_cli_show.specs.Shown.{TellsFile, TellsOf};
 
 use crate::args::Args;
@@ -11,8 +10,8 @@ use crate::notes::Notes;
 use crate::show::{Style, text_of_bytes};
 use arwen_cli_facts::error::ShowCauses;
 use arwen_cli_facts::{Refusal, ShowError, bracket_of, file_line, refusal_of};
-use byte_store::{Opens, ReadError, Store, load_whole};
-use command_words::{MOST_BYTES, RegularFiles};
+use byte_store::ReadError;
+use command_words::{FileBytes, RegularBytes};
 use std::alloc::{AllocError, Global};
 use std::io;
 use std::io::Write;
@@ -79,35 +78,35 @@ fn show_lent<R: Files + Print + Eprint + AllocGlobal>(
 ) -> Result<(), ShowCommandError>
     ensures { IfErr result (λ _. 0 < vec_len args.now.paths) }
 {
-    let files = RegularFiles { files: rt };
+    let files = RegularBytes { files: rt };
     let mut out = io::writer(rt);
     let mut err = Notes { to: rt };
     let paths = args.paths.as_slice();
     show_paths(rt.alloc(), &files, paths, args.style, &mut out, &mut err)
 }
 
-/// Writes of the file at each path what is told of its bytes, which are read whole: at most 4 GiB, or as many as the file
-/// says that it has, where these are more. Of a file that can't be read, or is refused, a line is written to the other
-/// writer: its path, the causes, and in brackets what they leave open; and the files behind it are told of all the same.
+/// Writes of the file at each path what is told of its bytes. Of a file that can't be read, or is refused, a line is written to
+/// the other writer: its path, the causes, and in brackets what they leave open; and the files behind it are told of all the
+/// same. The files are left as they are.
 ///
 /// # Errors
 ///
 /// `NotAll` where there was such a line, once all paths were gone through; `Io` where one of the writers failed, and
 /// `Memory` where there was no memory for such a line: then the paths behind that file were not looked at.
-pub fn show_paths<'p, O: Opens<'p>, W: Write, E: Write>(
+pub fn show_paths<F: FileBytes, W: Write, E: Write>(
     alloc: Global,
-    files: &O,
-    paths: &'p [String],
+    files: &F,
+    paths: &[String],
     style: Style,
     out: &mut W,
     err: &mut E,
 ) -> Result<(), ShowCommandError>
     ensures all { OnOk result (AreShown
-        (TellingAt (O.may_fail files.now) O.Opened.may_fail_read (O.contents files.now) style)
+        (TellingAt (F.may_fail files.now) (F.contents files.now) style)
         (map string_bytes paths.now) true
         (W.contents out.old) (W.contents out.new) (E.contents err.old) (E.contents err.new)) }
     ensures stopped { IfErr result (StopsShow
-        (TellingAt (O.may_fail files.now) O.Opened.may_fail_read (O.contents files.now) style)
+        (TellingAt (F.may_fail files.now) (F.contents files.now) style)
         (map string_bytes paths.now)
         (W.contents out.old) (W.contents out.new) (E.contents err.old) (E.contents err.new)) }
     ensures some { IfErr result (λ _. 0 < length paths.now) }
@@ -126,16 +125,16 @@ pub fn show_paths<'p, O: Opens<'p>, W: Write, E: Write>(
 }
 
 /// Writes what is told of the file at a path, or to the other writer why nothing is. Says whether it was told of.
-fn show_path<'p, O: Opens<'p>, W: Write, E: Write>(
+fn show_path<F: FileBytes, W: Write, E: Write>(
     alloc: Global,
-    files: &O,
-    path: &'p str,
+    files: &F,
+    path: &str,
     style: Style,
     out: &mut W,
     err: &mut E,
 ) -> Result<bool, ShowCommandError>
     ensures told { IfOk result (λ is_told. AreShown
-        (TellingAt (O.may_fail files.now) O.Opened.may_fail_read (O.contents files.now) style)
+        (TellingAt (F.may_fail files.now) (F.contents files.now) style)
         (path.now ∷ []) is_told
         (W.contents out.old) (W.contents out.new) (E.contents err.old) (E.contents err.new)) }
     ensures stopped { IfErr result (StopsPath
@@ -193,18 +192,18 @@ fn causes_of(alloc: Global, error: &ShowError) -> Result<String, AllocError> {
 }
 
 /// What is told of the file at a path, as text.
-fn text_at<'p, 't, O: Opens<'p>>(
+fn text_at<'t, F: FileBytes>(
     alloc: Global,
-    files: &O,
-    path: &'p str,
+    files: &F,
+    path: &str,
     style: Style,
 ) -> Result<String, Refusal<'t>>
     ensures told { IfOk result (λ text.
-        TellsFile style path.now (O.contents files.now path.now) (string_bytes text)) }
-    ensures refused { IfErr result (IsFileRefusal (O.may_fail files.now path.now)
-        O.Opened.may_fail_read (O.contents files.now path.now)) }
+        TellsFile style path.now (F.contents files.now path.now) (string_bytes text)) }
+    ensures refused { IfErr result (IsFileRefusal (F.may_fail files.now path.now)
+        (F.contents files.now path.now)) }
 {
-    match bytes_at(alloc, files, path) {
+    match files.bytes(alloc, path) {
         Ok(bytes) => told_bytes(alloc, path, bytes.as_slice(), style),
         Err(error) => Err(unread(error)),
     }
@@ -238,33 +237,4 @@ fn told_bytes<'t>(
         Ok(text) => Ok(text),
         Err(error) => Err(refusal_of(alloc, error, bytes)),
     }
-}
-
-/// The bytes of the file at a path, whole.
-fn bytes_at<'p, O: Opens<'p>>(alloc: Global, files: &O, path: &'p str) -> Result<Vec<u8>, ReadError>
-    ensures read { IfOk result (λ bytes. IsAll (O.contents files.now path.now) bytes.items) }
-    ensures cause { IfErr result (IsNotOpened (O.may_fail files.now path.now)
-        O.Opened.may_fail_read (O.contents files.now path.now)) }
-{
-    let mut store = files.open(path)?;
-    load(alloc, &mut store)
-}
-
-/// The bytes of a store, whole.
-fn load<S: Store>(alloc: Global, store: &mut S) -> Result<Vec<u8>, ReadError>
-    ensures read { IfOk result (λ bytes. IsAll (S.contents store.old) bytes.items) }
-    ensures cause { IfErr result (IsNotLoaded S.may_fail_read (S.contents store.old)
-        (S.failed store.old) (S.failed store.new)) }
-{
-    let most = most_of(store.length()?);
-    load_whole(alloc, store, most)
-}
-
-/// How many bytes are read of a store that says it has so many.
-fn most_of(told: u64) -> usize
-    ensures bound { result < usize.MAX }
-    ensures reach { told < usize.MAX → told ≤ result }
-{
-    let told = usize::try_from(told).unwrap_or(usize::MAX);
-    told.max(MOST_BYTES).min(usize::MAX - 1)
 }

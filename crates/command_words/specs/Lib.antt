@@ -1,4 +1,5 @@
 pub mod Groups
 pub mod KeyValue
+pub mod Loading
 pub mod Rows
 pub mod WordValues

@@ -6,6 +6,7 @@
 mod edits;
 mod file;
 mod key_value;
+mod loading;
 mod not_done;
 mod noting;
 mod opens_once;
@@ -18,6 +19,7 @@ pub use edits::{
 };
 pub use file::{MOST_BYTES, RegularFiles};
 pub use key_value::{KeyValueError, decimal_number, parse_key_val};
+pub use loading::{FileBytes, RegularBytes, bytes_at, load};
 pub use not_done::NotDone;
 pub use noting::Notes;
 pub use opens_once::OpensOnce;

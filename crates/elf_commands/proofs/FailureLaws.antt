@@ -11,7 +11,8 @@ use Rattle.command_words.specs.Rows.{Text}
 use Rattle.elf_commands.specs.ElfAsked.{ElfAsked}
 use Rattle.elf_commands.specs.ElfEngine.{TellsEdit}
 use Rattle.elf_commands_steps.specs.ElfErrors.{answer_to_read, answer_to_replaced}
-use Rattle.elf_commands_steps.specs.Failures.{HasCause, HasShrinkCause, HasTellCause, HasWriteCause, IsNotLoaded}
+use Rattle.command_words.specs.Loading.{IsNotLoaded}
+use Rattle.elf_commands_steps.specs.Failures.{HasCause, HasShrinkCause, HasTellCause, HasWriteCause}
 use Rattle.elf_commands.specs.ShrinkRuns.{TellsShrunk}
 use Rattle.elf_commands_steps.specs.Shrinking.{Finding}
 use Rattle.elf_commands_steps.specs.declared.error.ElfCommandError.{ElfCommandError}

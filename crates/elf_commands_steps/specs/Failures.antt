@@ -1,20 +1,12 @@
 -- Why a command for an ELF file answers that the file could not be read or written, or that nothing could be printed.
-use Rattle.std.specs.Prelude.{ℕ, ◌-◌, ◌^◌, ◌⊎◌, List, Option, Some, None, ⊤}
+use Rattle.std.specs.Prelude.{ℕ, ◌⊎◌, List, Option, Some, None, ⊤}
 use Rattle.std.specs.declared.io.Error.{Error}
-use Rattle.byte_store.specs.Causes.{EndsBy, IsNotWhole}
+use Rattle.byte_store.specs.Causes.{EndsBy}
 use Rattle.byte_store.specs.Counts.{RisesBy}
-use Rattle.byte_store.specs.declared.reading.ReadError.{ReadError}
 use Rattle.byte_store.specs.declared.reading.ReadError.TheVariants as read
+use Rattle.command_words.specs.Loading.{IsNotLoaded}
 use Rattle.elf_commands_steps.specs.declared.error.ElfCommandError.{ElfCommandError}
 use Rattle.elf_commands_steps.specs.declared.error.ElfCommandError.TheVariants.{Io}
-
--- as many bytes as are read of a store that says so
-abbrev pub most_read : ℕ
-most_read = 2 ^ 64 - 2
-
--- a store was not read whole
-abbrev pub IsNotLoaded : (Error → Type 0) → Option (List ℕ) → ℕ → ℕ → ReadError → Type 0
-IsNotLoaded reads known old new e = IsNotWhole reads most_read known old new e
 
 -- an error of a store of these bytes: its calls that read failed or came to no end, or those that write ended by it
 abbrev pub IsOfStore : (Error → Type 0) → (Error → Type 0) → Type 0 → Option (List ℕ) → ℕ → ℕ → Error → Type 0

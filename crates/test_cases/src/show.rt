@@ -2,8 +2,8 @@
 //!
 //! Printed is of each file what stands in its lines, and its line of JSON; of a file that is refused the error. Then all of
 //! them are shown at once, with one that isn't there: what each writer got, and the answer.
+use arwen_cli::cli::RegularBytes;
 use arwen_cli::cli::show::{ShowCommandError, Style, show_bytes, show_paths};
-use byte_store::RuntimeFiles;
 use std::alloc::AllocError;
 use std::io;
 use std::io::Write;
@@ -51,7 +51,7 @@ fn show_names(rt: &HostRuntime, names: &str) -> io::Result<()> {
 
 /// Shows files, each in a line of JSON, and prints what each writer got, and the answer.
 fn show_all(rt: &HostRuntime, paths: &[String]) -> io::Result<()> {
-    let files = RuntimeFiles { files: rt };
+    let files = RegularBytes { files: rt };
     let mut out = Vec::new(rt.alloc());
     let mut err = Vec::new(rt.alloc());
     let style = Style::Json;

@@ -15,8 +15,8 @@ use crate::elf::engine::edited_pieces;
 use crate::elf::in_turn::edit_in_turn;
 use crate::elf::opening::open_path;
 use byte_store::Store;
-use command_words::{NotDone, Notes, OpensOnce, RegularFiles};
-use elf_commands_steps::{ElfCommandError, load_elf, make_opened, tell};
+use command_words::{NotDone, Notes, OpensOnce, RegularFiles, load};
+use elf_commands_steps::{ElfCommandError, make_opened, tell};
 use elf_edits::ElfEdit;
 use std::alloc::Global;
 use std::rt::Files;
@@ -53,7 +53,7 @@ pub fn edit_store<S: Store>(
     ensures cause { IfErr result (HasCause S.may_fail_read S.may_fail_write S.may_take_none
         (S.contents store.old) (S.failed store.old) (S.failed store.new)) }
 {
-    let bytes = load_elf(alloc, store)?;
+    let bytes = load(alloc, store)?;
     let asked = asked_by(alloc, command)?;
     edit_as_asked(alloc, store, bytes.as_slice(), command, &asked, notes)
 }

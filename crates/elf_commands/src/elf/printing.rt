@@ -12,9 +12,9 @@ use crate::command::ElfCommand;
 use crate::elf::engine::print_asked;
 use crate::elf::opening::open_path;
 use byte_store::Store;
-use command_words::{NotDone, OpensOnce, RegularFiles};
+use command_words::{NotDone, OpensOnce, RegularFiles, load};
+use elf_commands_steps::ElfCommandError;
 use elf_commands_steps::files::{CountedWrite, ElfContainer, ElfError, Sink, write_all_counted};
-use elf_commands_steps::{ElfCommandError, load_elf};
 use std::alloc::{AllocError, Global};
 use std::io;
 use std::rt::Files;
@@ -41,7 +41,7 @@ pub fn print_store<S: Store, W: CountedWrite>(
     ensures cause { IfErr result (HasReadCause S.may_fail_read (S.contents store.old)
         (S.failed store.old) (S.failed store.new)) }
 {
-    let bytes = load_elf(alloc, store)?;
+    let bytes = load(alloc, store)?;
     print_loaded(alloc, bytes.as_slice(), command, out)
 }
 

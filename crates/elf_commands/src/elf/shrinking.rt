@@ -12,10 +12,10 @@ ghost use Rattle.elf_commands.specs.ShrinkRuns.{FailsShrink, FailsShrinkAt, IsQu
 use crate::elf::opening::open_path;
 use crate::elf::shrink_rpath::Args;
 use byte_store::Store;
-use command_words::{NotDone, OpensOnce, RegularFiles};
+use command_words::{NotDone, OpensOnce, RegularFiles, load};
 use elf_commands_steps::files::{CountedWrite, ElfContainer, ProbeAnswer, Sink, write_all_counted};
 use elf_commands_steps::{
-    ElfCommandError, FileProbe, Probe, Shrunk, StandardError, answers_of, load_elf, make_opened,
+    ElfCommandError, FileProbe, Probe, Shrunk, StandardError, answers_of, make_opened,
     pieces_by_answers, shrink_image, tell_removed,
 };
 use elf_edits::laws::{batches_are_their_edits, edits_show};
@@ -113,7 +113,7 @@ pub fn shrink_store<S: Store, P: Probe, W: CountedWrite>(
         (S.contents store.old) (S.failed store.old) (S.failed store.new)
         (W.failed out.old) (W.failed out.new)) }
 {
-    let bytes = load_elf(alloc, store)?;
+    let bytes = load(alloc, store)?;
     let prefixes = args.allowed_rpath_prefixes.as_slice();
     shrink_loaded(alloc, store, bytes.as_slice(), prefixes, probe, out)
 }

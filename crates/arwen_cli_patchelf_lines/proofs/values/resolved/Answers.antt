@@ -6,12 +6,12 @@ use Rattle.arwen_cli_patchelf_lines.proofs.values.resolved.Goals as goal
 
 pub loop-one-preserved : goal.loop-one-preserved
 loop-one-preserved g c =
-    let known = g.F.TextFiles.contents c.args.files.now in (
+    let known = g.F.FileBytes.contents c.args.files.now in (
       one_more known c.args.shrinks c.args.given.now c.loop-one.one-index _ (map asked_model c.loop-one.asked.items) (map asked_model c.put_one.new.asked.items)
           c.loop-one-test.true c.loop-one.invariant.0 c.in_ok-put_one.ensures.ok,
-      one_past known c.args.shrinks c.args.given.now c.loop-one.one-index _ (map asked_model c.loop-one.asked.items) (map asked_model c.put_one.new.asked.items)
+      one_past known (g.F.FileBytes.may_fail c.args.files.now) c.args.shrinks c.args.given.now c.loop-one.one-index _ (map asked_model c.loop-one.asked.items) (map asked_model c.put_one.new.asked.items)
           c.loop-one-test.true c.loop-one.invariant.1 c.in_ok-put_one.ensures.ok,
     )
 
 pub returns-clause-ok : goal.returns-clause-ok
-returns-clause-ok g c = all_put (g.F.TextFiles.contents c.args.files.now) c.args.shrinks c.args.given.now c.loop-one.one-index (map asked_model c.loop-one.asked.items) c.loop-one-test.false c.loop-one.invariant.0
+returns-clause-ok g c = all_put (g.F.FileBytes.contents c.args.files.now) c.args.shrinks c.args.given.now c.loop-one.one-index (map asked_model c.loop-one.asked.items) c.loop-one-test.false c.loop-one.invariant.0

@@ -9,7 +9,7 @@ use Rattle.arwen_cli_show.proofs.command.show_paths.Goals.{then-not-branch, else
 
 pub loop-path-preserved : goal.loop-path-preserved
 loop-path-preserved g c =
-    let IsAt : List ℕ → Telling → Type 0 = TellingAt (g.O.Opens.may_fail c.args.files.now) g.O.Opened.Store.may_fail_read (g.O.Opens.contents c.args.files.now) c.args.style in
+    let IsAt : List ℕ → Telling → Type 0 = TellingAt (g.F.FileBytes.may_fail c.args.files.now) (g.F.FileBytes.contents c.args.files.now) c.args.style in
     let next = one_more_shown IsAt c.args.paths.now c.loop-path.path-index c.path-item.result c.as_str.result.now c.loop-path.are_all c.in_ok-show_path.field-0 c.if-not-branch.are_all
     (g.W.Write.contents c.args.out.now) (g.W.Write.contents c.loop-path.out) (g.W.Write.contents c.show_path.new.out) (g.E.Write.contents c.args.err.now) (g.E.Write.contents c.loop-path.err) (g.E.Write.contents c.show_path.new.err)
     c.loop-path-test.true c.path-item.is c.as_str.ensures.value
@@ -19,7 +19,7 @@ loop-path-preserved g c =
 
 pub returns-in_err-show_path-clause-stopped : goal.returns-in_err-show_path-clause-stopped
 returns-in_err-show_path-clause-stopped g c =
-    let IsAt : List ℕ → Telling → Type 0 = TellingAt (g.O.Opens.may_fail c.args.files.now) g.O.Opened.Store.may_fail_read (g.O.Opens.contents c.args.files.now) c.args.style in
+    let IsAt : List ℕ → Telling → Type 0 = TellingAt (g.F.FileBytes.may_fail c.args.files.now) (g.F.FileBytes.contents c.args.files.now) c.args.style in
     let paths : List (List ℕ) = map string_bytes c.args.paths.now in
     let so_far : AreShown IsAt (take c.loop-path.path-index paths) c.loop-path.are_all
     (g.W.Write.contents c.args.out.now) (g.W.Write.contents c.loop-path.out) (g.E.Write.contents c.args.err.now) (g.E.Write.contents c.loop-path.err) =
