@@ -1,18 +1,31 @@
 //! The words of a line. Blanks stand between words, and `''` is the empty word. In words that are read by their marks `~`
 //! stands for a NUL and `^` for a blank.
+ghost use Rattle.std.specs.Prelude.{◌≡◌, ◌++◌, ◌∷◌, [], OnOk};
+ghost use Rattle.test_cases_files.specs.Words.{cut_at};
+
 use command_words::EditsError;
 use elf_commands::files::ElfEdit;
 use elf_commands::{parse_elf_edits, plain_edits};
 use std::alloc::{AllocError, Global};
 
 /// The first word of a line, which says what kind of line it is, and what stands behind the blank.
-pub fn split_kind(line: &str) -> (&str, &str) {
-    line.split_once(' ').unwrap_or((line, ""))
+pub fn split_kind(line: &str) -> (&str, &str)
+    ensures { (result.0.now, result.1.now) ≡ cut_at 32 line.now }
+{
+    match line.split_once(' ') {
+        Some(parts) => parts,
+        None => (line, ""),
+    }
 }
 
 /// What stands before a `>`, and what behind it.
-pub fn split_parts(line: &str) -> (&str, &str) {
-    line.split_once('>').unwrap_or((line, ""))
+pub fn split_parts(line: &str) -> (&str, &str)
+    ensures { (result.0.now, result.1.now) ≡ cut_at 62 line.now }
+{
+    match line.split_once('>') {
+        Some(parts) => parts,
+        None => (line, ""),
+    }
 }
 
 /// What a word is.
@@ -21,7 +34,9 @@ fn word_of(word: &str) -> &str {
 }
 
 /// Puts an item behind others.
-pub fn push<T: Drop>(items: &mut Vec<T>, item: T) -> Result<(), AllocError> {
+pub fn push<T: Drop>(items: &mut Vec<T>, item: T) -> Result<(), AllocError>
+    ensures { OnOk result (items.new.items ≡ items.old.items ++ item ∷ []) }
+{
     items.push(item)?;
     Ok(())
 }
