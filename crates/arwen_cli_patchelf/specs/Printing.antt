@@ -1,7 +1,8 @@
 -- What lines of patchelf print of a file, and in which order.
-use Rattle.std.specs.Prelude.{ℕ, ◌≡◌, ◌⊎◌, List, [], ◌∷◌, Option, Some, Result, Ok, Err, codes, if◌then◌else◌, ⊤}
+use Rattle.std.specs.Prelude.{ℕ, ◌≡◌, ◌⊎◌, List, [], ◌∷◌, Option, Some, None, Result, Ok, Err, codes, if◌then◌else◌, ⊤}
 use Rattle.std.specs.Io.KnownBytes.{Appends}
 use Rattle.std.specs.declared.io.Error.{Error}
+use Rattle.byte_store.specs.Known.{Stays}
 use Rattle.byte_store.specs.declared.reading.ReadError.TheVariants as read
 use Rattle.elf_apply.specs.declared.error.ElfError.{ElfError}
 use Rattle.elf_apply.specs.declared.error.ElfError.TheVariants as elf
@@ -79,6 +80,11 @@ abbrev pub PrintsAll : List Print → Option (List ℕ) → Option (List ℕ) �
 PrintsAll [] known old new = new ≡ old
 PrintsAll (print ∷ rest) known old new =
     (mid : Option (List ℕ)) × IsPrinted print known old mid × PrintsAll rest known mid new
+
+-- what is there after so many prints of a store at a path: it has the bytes that were known there; for none it isn't opened
+abbrev pub IsReadFor : {S : Type 0} → (S → Option (List ℕ)) → ℕ → Option (List ℕ) → Option S → Type 0
+IsReadFor contents count known None = count ≡ 0
+IsReadFor contents count known (Some store) = Stays known (contents store)
 
 -- an error of printing these: of one of them, once those before it were printed
 abbrev pub TellsPrints : {W : Type 0} → (W → Option (List ℕ)) → (W → ℕ) → List Print → Option (List ℕ) → W → W → ElfCommandError → Type 0

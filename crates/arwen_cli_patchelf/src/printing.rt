@@ -6,7 +6,7 @@ ghost use Rattle.elf_image.specs.Image.{image_of};
 ghost use Rattle.elf_commands.specs.ElfStores.{IsKeptAt};
 ghost use Rattle.elf_commands.specs.Prints.{PrintMayFail, StopsWriting};
 ghost use Rattle.arwen_cli_peers.specs.EditWords.{asked_model};
-ghost use Rattle.arwen_cli_patchelf.specs.Printing.{HasPrintCause, HasPrintCauseAt, IsPrinted, IsPrintedOf, PrintsAll, TellsPrint, TellsPrintOf, TellsPrints, option_for, prints_among, prints_asked as prints_meant};
+ghost use Rattle.arwen_cli_patchelf.specs.Printing.{HasPrintCause, HasPrintCauseAt, IsPrinted, IsPrintedOf, IsReadFor, PrintsAll, TellsPrint, TellsPrintOf, TellsPrints, option_for, prints_among, prints_asked as prints_meant};
 
 use crate::print_texts::print_text;
 use arwen_cli_peers::AskedOption;
@@ -98,13 +98,14 @@ pub fn print_path<'p, O: OpensOnce<'p> + Drop, W: CountedWrite>(
 ) -> Result<Option<O::Opened>, NotDone<O::Opened, ElfCommandError>>
     ensures printed { IfOk result (λ _. PrintsAll prints.now
         (O.contents files path.now) (W.contents out.old) (W.contents out.new)) }
-    ensures kept { IfOk result (IsKeptAt O.Opened.contents (O.contents files path.now)) }
+    ensures kept { IfOk result (IsReadFor O.Opened.contents
+        (length prints.now) (O.contents files path.now)) }
     ensures idle { length prints.now ≡ 0 → IsOkAnd result (λ store. store ≡ None) }
     ensures err { IfErr result (λ refused. PrintMayFail refused.error) }
     ensures tells { IfErr result (λ refused. TellsPrints W.contents W.failed prints.now
         (O.contents files path.now) out.old out.new refused.error) }
-    ensures left { IfErr result (λ refused.
-        IsKeptAt O.Opened.contents (O.contents files path.now) refused.store) }
+    ensures left { IfErr result (λ refused. IsKeptAt (O.may_fail files path.now)
+        O.Opened.contents (O.contents files path.now) refused.error refused.store) }
     ensures cause { IfErr result (λ refused. HasPrintCauseAt (O.may_fail files path.now)
         O.Opened.may_fail_read (O.contents files path.now) refused.error) }
 {

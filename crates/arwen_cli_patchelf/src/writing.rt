@@ -51,8 +51,8 @@ pub fn write_path<'p, O: OpensOnce<'p>, C: Creates<'p>, P: Probe>(
         Stays (O.contents source path.now) (O.Opened.contents done.0)) }
     ensures tells { IfErr result (λ refused. TellsPlanPath (P.may_find probe.now)
         (plan_model plan.now) (O.contents source path.now) refused.error.error) }
-    ensures left { IfErr result (λ refused.
-        IsKeptAt O.Opened.contents (O.contents source path.now) refused.store) }
+    ensures left { IfErr result (λ refused. IsKeptAt (O.may_fail source path.now)
+        O.Opened.contents (O.contents source path.now) refused.error.error refused.store) }
     ensures cause { IfErr result (λ refused. HasOutputCause (HasReadCauseAt
         (O.may_fail source path.now) O.Opened.may_fail_read (O.contents source path.now))
         (C.may_fail files.now output.now) C.is_new C.Created.contents

@@ -19,7 +19,7 @@ pub use edits::{
 };
 pub use file::{MOST_BYTES, RegularFiles};
 pub use key_value::{KeyValueError, decimal_number, parse_key_val};
-pub use loading::{FileBytes, RegularBytes, bytes_at, load};
+pub use loading::{FileBytes, RegularBytes, load, load_path};
 pub use not_done::NotDone;
 pub use noting::Notes;
 pub use opens_once::OpensOnce;

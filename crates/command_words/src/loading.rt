@@ -1,11 +1,14 @@
 //! The bytes of files, read whole.
-ghost use Rattle.std.specs.Prelude.{◌<◌, ◌≤◌, IfErr, IfOk, vec_len};
+ghost use Rattle.std.specs.Prelude.{◌<◌, ◌≡◌, ◌≤◌, None, IfErr, IfOk, vec_len};
 ghost use Rattle.byte_store.specs.Known.{HasLength, IsAll, Stays};
-ghost use Rattle.command_words.specs.Loading.{IsNotLoaded, IsNotOpened};
+ghost use Rattle.command_words.specs.Loading.{IsNotLoaded, IsUnread};
 
 use crate::file::{MOST_BYTES, RegularFiles};
-use byte_store::{Opens, ReadError, Store, load_whole};
+use crate::not_done::NotDone;
+use crate::opens_once::OpensOnce;
+use byte_store::{ReadError, Store, load_whole};
 use std::alloc::Global;
+use std::io;
 use std::rt::Files;
 
 /// A thing that hands out the bytes of files by their paths. Nothing can be written with it, so a function that is lent one leaves
@@ -37,22 +40,58 @@ pub struct RegularBytes<'a, R> {
 impl<R: Files> FileBytes for RegularBytes<'_, R> {
     fn bytes(&self, alloc: Global, path: &str) -> Result<Vec<u8>, ReadError> {
         let files = RegularFiles { files: self.files };
-        bytes_at(alloc, &files, path)
+        match load_path(alloc, &files, path) {
+            Ok((bytes, store)) => {
+                drop(store);
+                Ok(bytes)
+            }
+            Err(NotDone { error, store }) => {
+                drop(store);
+                Err(error)
+            }
+        }
     }
 }
 
-/// The bytes of the file at a path that something opens, as `load` reads them. Nothing is written.
-pub fn bytes_at<'p, O: Opens<'p>>(
+/// The bytes of the store at a path, as `load` reads them, and the store, which has the bytes that it had.
+///
+/// # Errors
+///
+/// What the opening answered, without a store, or what `load` did, with the store.
+pub fn load_path<'p, O: OpensOnce<'p>>(
     alloc: Global,
-    files: &O,
+    files: O,
     path: &'p str,
-) -> Result<Vec<u8>, ReadError>
-    ensures read { IfOk result (λ bytes. IsAll (O.contents files.now path.now) bytes.items) }
-    ensures cause { IfErr result (IsNotOpened (O.may_fail files.now path.now)
-        O.Opened.may_fail_read (O.contents files.now path.now)) }
+) -> Result<(Vec<u8>, O::Opened), NotDone<O::Opened, ReadError>>
+    ensures read { IfOk result (λ made. IsAll (O.contents files path.now) made.0.items) }
+    ensures kept { IfOk result (λ made.
+        Stays (O.contents files path.now) (O.Opened.contents made.1)) }
+    ensures err { IfErr result (λ refused. IsUnread (O.may_fail files path.now)
+        O.Opened.may_fail_read O.Opened.contents O.Opened.failed
+        (O.contents files path.now) refused.error refused.store) }
 {
-    let mut store = files.open(path)?;
-    load(alloc, &mut store)
+    let mut store = match files.open_once(path) {
+        Ok(store) => store,
+        Err(error) => return Err(not_opened(error)),
+    };
+    match load(alloc, &mut store) {
+        Ok(bytes) => Ok((bytes, store)),
+        Err(error) => Err(NotDone {
+            error,
+            store: Some(store),
+        }),
+    }
+}
+
+/// The answer to an opening that failed.
+fn not_opened<S>(error: io::Error) -> NotDone<S, ReadError>
+    ensures error { result.error ≡ ReadError.Io error }
+    ensures store { result.store ≡ None }
+{
+    NotDone {
+        error: ReadError::Io(error),
+        store: None,
+    }
 }
 
 /// The bytes of a store, whole: at most 4 GiB, or as many as it says that it has, where these are more. A store that goes on behind

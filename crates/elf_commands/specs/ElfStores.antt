@@ -47,10 +47,11 @@ abbrev pub IsUnopened : {S : Type 0} → (Error → Type 0) → ElfCommandError 
 IsUnopened opens (Io e) None = opens e
 IsUnopened opens e store = ⊥
 
--- nothing was opened, or what was opened holds the bytes that were known of the path
-abbrev pub IsKeptAt : {S : Type 0} → (S → Option (List ℕ)) → Option (List ℕ) → Option S → Type 0
-IsKeptAt contents known None = ⊤
-IsKeptAt contents known (Some store) = Stays known (contents store)
+-- nothing was opened, for this error, or what was opened comes back with the bytes that were known of the path
+abbrev pub IsKeptAt : {S : Type 0} → (Error → Type 0) → (S → Option (List ℕ)) → Option (List ℕ) → ElfCommandError → Option S → Type 0
+IsKeptAt opens contents known (Io e) None = opens e
+IsKeptAt opens contents known e None = ⊥
+IsKeptAt opens contents known e (Some store) = Stays known (contents store)
 
 -- what an error at a path leaves and tells: nothing was opened, or what was opened holds what the error left of the bytes
 -- there

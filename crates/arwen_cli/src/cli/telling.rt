@@ -3,7 +3,6 @@ ghost use Rattle.std.specs.Prelude.{◌≡◌, ◌++◌, None, Some, IfOk, IfSom
 ghost use Rattle.arwen_cli.specs.Fault.{words_told};
 ghost use Rattle.arwen_cli.specs.Meaning.{shown};
 ghost use Rattle.arwen_cli.specs.Telling.{IsCausesText, IsFaultLine, IsLineWith, TellsBytes, TellsOverlapOf, is_of_line as is_line_fault, path_if, path_of as path_told, words_of as words_for};
-ghost use Rattle.byte_store.specs.Known.{IsAll};
 ghost use Rattle.command_words.specs.Rows.{Text};
 ghost use Rattle.elf_commands.specs.Meaning.{elf_command_model, elf_file_of};
 
@@ -13,8 +12,7 @@ use crate::cli::line::parse_line;
 use arwen_cli_overlaps::overlap_text;
 use arwen_cli_show::{Told, bracket_of, elf_words, file_line, macho_words, rule_of};
 use arwen_macho::macho::MachoError;
-use byte_store::{Opens, load_whole};
-use command_words::{MOST_BYTES, RegularFiles};
+use command_words::{FileBytes, RegularBytes};
 use elf_commands::ElfCommand;
 use elf_commands::files::{ElfError, ModifyCause};
 use std::alloc::{AllocError, Global};
@@ -131,7 +129,7 @@ fn bracket_at<R: Files + AllocGlobal>(
 ) -> Result<Option<String>, AllocError> {
     match command {
         Command::Elf(elf) if is_overlap(error) => {
-            let files = RegularFiles { files: rt };
+            let files = RegularBytes { files: rt };
             Ok(overlap_at(rt.alloc(), &files, elf))
         }
         _ => bracket_of(rt.alloc(), reason_at(rt, path, error)),
@@ -147,22 +145,12 @@ fn is_overlap(error: &ArwenError) -> bool {
 }
 
 /// What is said of two blocks that stand against a command for the file at its path; `None` where nothing is found.
-fn overlap_at<'p, O: Opens<'p>>(alloc: Global, files: &O, elf: &'p ElfCommand) -> Option<String>
+fn overlap_at<F: FileBytes>(alloc: Global, files: &F, elf: &ElfCommand) -> Option<String>
     ensures { IfSome result (λ text. TellsOverlapOf (elf_command_model elf.now)
-        (O.contents files.now (elf_file_of (elf_command_model elf.now))) (string_bytes text)) }
+        (F.contents files.now (elf_file_of (elf_command_model elf.now))) (string_bytes text)) }
 {
-    let bytes = bytes_at(alloc, files, elf.path_to_binary())?;
+    let bytes = files.bytes(alloc, elf.path_to_binary()).ok()?;
     overlap_text(alloc, bytes.as_slice(), elf)
-}
-
-/// The bytes of the file at a path; `None` where they can't be read. None of them is written.
-fn bytes_at<'p, O: Opens<'p>>(alloc: Global, files: &O, path: &'p str) -> Option<Vec<u8>>
-    ensures { IfSome result (λ bytes. IsAll (O.contents files.now path.entry.now) bytes.items) }
-{
-    let Ok(mut store) = files.open(path) else {
-        return None;
-    };
-    load_whole(alloc, &mut store, MOST_BYTES).ok()
 }
 
 /// What the fault of the file at a path leaves open; `None` where it can't be read.
@@ -174,8 +162,8 @@ fn reason_at<R: Files + AllocGlobal>(
     if !is_of_bytes(error) {
         return None;
     }
-    let files = RegularFiles { files: rt };
-    let bytes = bytes_at(rt.alloc(), &files, path)?;
+    let files = RegularBytes { files: rt };
+    let bytes = files.bytes(rt.alloc(), path).ok()?;
     reason_of(rt.alloc(), error, bytes.as_slice())
 }
 

@@ -113,8 +113,10 @@ pub fn print_path<'p, O: OpensOnce<'p>, W: CountedWrite>(
         (elf_command_model command.now)
         (O.contents files (elf_file_of (elf_command_model command.now)))
         out.old out.new refused.error) }
-    ensures left { IfErr result (λ refused. IsKeptAt O.Opened.contents
-        (O.contents files (elf_file_of (elf_command_model command.now))) refused.store) }
+    ensures left { IfErr result (λ refused. IsKeptAt
+        (O.may_fail files (elf_file_of (elf_command_model command.now))) O.Opened.contents
+        (O.contents files (elf_file_of (elf_command_model command.now)))
+        refused.error refused.store) }
     ensures cause { IfErr result (λ refused. HasReadCauseAt
         (O.may_fail files (elf_file_of (elf_command_model command.now)))
         O.Opened.may_fail_read
