@@ -1,7 +1,8 @@
 //! The words of a line. Blanks stand between words, and `''` is the empty word. In words that are read by their marks `~`
 //! stands for a NUL and `^` for a blank.
-ghost use Rattle.std.specs.Prelude.{◌≡◌, ◌++◌, ◌∷◌, [], OnOk};
-ghost use Rattle.test_cases_files.specs.Words.{cut_at};
+ghost use Rattle.std.specs.Prelude.{◌≡◌, ◌==◌, ◌<◌, ◌++◌, ◌∷◌, [], IfOk, OnOk, map};
+ghost use Rattle.std.specs.List.{slice_split};
+ghost use Rattle.test_cases_files.specs.Words.{cut_at, texts_lent, unmarked, unquoted, words_among};
 
 use command_words::EditsError;
 use elf_commands::files::ElfEdit;
@@ -29,7 +30,9 @@ pub fn split_parts(line: &str) -> (&str, &str)
 }
 
 /// What a word is.
-fn word_of(word: &str) -> &str {
+fn word_of(word: &str) -> &str
+    ensures { result.now ≡ unquoted word.entry.now }
+{
     if word == "''" { "" } else { word }
 }
 
@@ -41,12 +44,41 @@ pub fn push<T: Drop>(items: &mut Vec<T>, item: T) -> Result<(), AllocError>
     Ok(())
 }
 
-/// The words of a text between which a character stands.
-pub fn split_words(alloc: Global, text: &str, separator: char) -> Result<Vec<&str>, AllocError> {
+/// The words of a text between which an ASCII character stands.
+pub fn split_words<'t>(
+    alloc: Global,
+    text: &'t str,
+    separator: char,
+) -> Result<Vec<&'t str>, AllocError>
+    requires { separator < 128 }
+    ensures { IfOk result (λ words. texts_lent words.items
+        ≡ words_among (slice_split (λ byte. byte == separator) text.now)) }
+{
+    let parts = parts_of(alloc, text, separator)?;
+    words_of(alloc, parts.as_slice())
+}
+
+/// The parts of a text between these separators.
+fn parts_of<'t>(alloc: Global, text: &'t str, separator: char) -> Result<Vec<&'t str>, AllocError>
+    requires { separator < 128 }
+    ensures { IfOk result (λ parts. texts_lent parts.items
+        ≡ slice_split (λ byte. byte == separator) text.now) }
+{
+    let mut parts = Vec::new(alloc);
+    for part in text.split(separator) {
+        parts.push(part)?;
+    }
+    Ok(parts)
+}
+
+/// The words that parts are. Empty ones are none.
+fn words_of<'t>(alloc: Global, parts: &[&'t str]) -> Result<Vec<&'t str>, AllocError>
+    ensures { IfOk result (λ words. texts_lent words.items ≡ words_among (texts_lent parts.now)) }
+{
     let mut words = Vec::new(alloc);
-    for word in text.split(separator) {
-        if !word.is_empty() {
-            push(&mut words, word_of(word))?;
+    for part in parts {
+        if !part.is_empty() {
+            words.push(word_of(part))?;
         }
     }
     Ok(words)
@@ -84,25 +116,45 @@ fn edits_in(alloc: Global, text: &str) -> Result<Vec<ElfEdit>, EditsError> {
     Ok(plain_edits(alloc, edits)?)
 }
 
-/// The words of a line by their marks, as bytes.
-pub fn texts_of(alloc: Global, line: &str) -> Result<Vec<Vec<u8>>, AllocError> {
-    let text = text_of_marks(alloc, line)?;
-    texts_in(alloc, text.as_str())
-}
-
-/// The lines of a text as bytes.
-fn texts_in(alloc: Global, text: &str) -> Result<Vec<Vec<u8>>, AllocError> {
-    let mut texts = Vec::new(alloc);
-    put_texts(alloc, text, &mut texts)?;
-    Ok(texts)
-}
-
-/// Puts the lines of a text behind others, as bytes.
-fn put_texts(alloc: Global, text: &str, texts: &mut Vec<Vec<u8>>) -> Result<(), AllocError> {
-    for word in text.split('\n') {
-        if !word.is_empty() {
-            push(texts, Vec::from_slice(alloc, word_of(word).as_bytes())?)?;
-        }
+/// The byte that a byte of a word stands for.
+fn byte_of(mark: u8) -> u8
+    ensures { result ≡ unmarked mark }
+{
+    match mark {
+        b'^' => b' ',
+        b'~' => 0,
+        other => other,
     }
-    Ok(())
+}
+
+/// The bytes that a word stands for.
+fn bytes_of(alloc: Global, word: &str) -> Result<Vec<u8>, AllocError>
+    ensures { IfOk result (λ bytes. bytes.items ≡ map unmarked word.now) }
+{
+    let mut bytes = Vec::new(alloc);
+    for mark in word.as_bytes() {
+        bytes.push(byte_of(*mark))?;
+    }
+    Ok(bytes)
+}
+
+/// The words of a line by their marks, as bytes.
+pub fn texts_of(alloc: Global, line: &str) -> Result<Vec<Vec<u8>>, AllocError>
+    ensures { IfOk result (λ texts. map (λ text. text.items) texts.items
+        ≡ map (map unmarked) (words_among (slice_split (λ byte. byte == 32) line.now))) }
+{
+    let words = split_words(alloc, line, ' ')?;
+    texts_in(alloc, words.as_slice())
+}
+
+/// The bytes that words stand for.
+fn texts_in(alloc: Global, words: &[&str]) -> Result<Vec<Vec<u8>>, AllocError>
+    ensures { IfOk result (λ texts. map (λ text. text.items) texts.items
+        ≡ map (map unmarked) (texts_lent words.now)) }
+{
+    let mut texts = Vec::new(alloc);
+    for word in words {
+        texts.push(bytes_of(alloc, word)?)?;
+    }
+    Ok(texts)
 }

@@ -1,4 +1,6 @@
 //! Edits of files by the calls of their writer.
+ghost use Rattle.std.specs.Prelude.{◌≡◌, IfOk, Ok};
+ghost use Rattle.elf_image.specs.Image.{image_of};
 
 use crate::words::{Names, filled, first, number, texts_of};
 use arwen_elf::elf::{ElfContainer, ElfError, Writer};
@@ -7,7 +9,10 @@ use std::collections::{HashMap, HashSet};
 use std::io;
 
 /// A file, read again where memory was refused.
-pub fn parse<'f>(alloc: Global, bytes: &'f [u8]) -> Result<ElfContainer<'f>, ElfError> {
+pub fn parse<'f>(alloc: Global, bytes: &'f [u8]) -> Result<ElfContainer<'f>, ElfError>
+    ensures { IfOk result (λ file.
+        (image_of bytes.entry.now ≡ Ok file.inner) × (file.bytes.now ≡ bytes.entry.now)) }
+{
     match ElfContainer::parse(alloc, bytes) {
         Err(ElfError::Memory) => ElfContainer::parse(alloc, bytes),
         read => read,

@@ -1,20 +1,31 @@
 //! Words of a line, and what they stand for.
+ghost use Rattle.std.specs.Prelude.{◌≡◌, ◌++◌, ◌∷◌, [], OnOk};
+ghost use Rattle.test_cases_written.specs.Words.{IsNumberOrZero, cut_at_blank};
 
 use std::alloc::{AllocError, Global};
 
 /// The number that a word is, 0 for other words.
-pub fn number(word: &str) -> u64 {
+pub fn number(word: &str) -> u64
+    ensures { IsNumberOrZero 64 word.now result }
+{
     word.parse::<u64>().unwrap_or(0)
 }
 
 /// A position or a length that a word is.
-pub fn place(word: &str) -> usize {
+pub fn place(word: &str) -> usize
+    ensures { IsNumberOrZero 64 word.now result }
+{
     word.parse::<usize>().unwrap_or(0)
 }
 
 /// The first word of some, and the rest.
-pub fn first(words: &str) -> (&str, &str) {
-    words.split_once(' ').unwrap_or((words, ""))
+pub fn first(words: &str) -> (&str, &str)
+    ensures { (result.0.now, result.1.now) ≡ cut_at_blank words.now }
+{
+    match words.split_once(' ') {
+        Some(parts) => parts,
+        None => (words, ""),
+    }
 }
 
 /// The value of a digit in base 16.
@@ -35,7 +46,9 @@ fn byte(digits: &[u8]) -> u8 {
 }
 
 /// Puts an item behind others.
-pub(crate) fn push<T: Drop>(items: &mut Vec<T>, item: T) -> Result<(), AllocError> {
+pub(crate) fn push<T: Drop>(items: &mut Vec<T>, item: T) -> Result<(), AllocError>
+    ensures { OnOk result (items.new.items ≡ items.old.items ++ item ∷ []) }
+{
     items.push(item)?;
     Ok(())
 }
