@@ -9,7 +9,7 @@ use Rattle.macho_commands.specs.Meaning.{MachoMeaning, macho_lines}
 use Rattle.elf_commands.specs.ElfEngine.{ElfMayFail as ElfCommandMayFail}
 use Rattle.elf_commands.specs.ElfCommandError.TheVariants as elf_error
 use Rattle.macho_commands.specs.declared.error.MachoCommandError.TheVariants as macho_error
-use Rattle.arwen_cli_show.specs.Args.{ShowMeaning, args_meant}
+use Rattle.arwen_cli_show.specs.Args.{ShowMeaning, meaning_of_args}
 use Rattle.arwen_cli_show.specs.declared.command.ShowCommandError.TheVariants as show_error
 use Rattle.arwen_cli.specs.Fault.{IsOfLine}
 use Rattle.arwen_cli.specs.declared.cli.error.ArwenError.{ArwenError}
@@ -134,13 +134,13 @@ first_word (word ∷ words) first known is named =
     (words, ap (λ (n : Text). n ∷ texts words) (ap (λ (w : Bor Text). w.now) (sym same) ∙ named), omega arith, refl)
 
 -- words behind `show` that ask for files to be shown, and a line that does
-show_line : (rest : List Text) (m : ShowMeaning) → args_meant rest ≡ Some m → meaning_of (codes "show" ∷ rest) ≡ Some (of_show m)
+show_line : (rest : List Text) (m : ShowMeaning) → meaning_of_args rest ≡ Some m → meaning_of (codes "show" ∷ rest) ≡ Some (of_show m)
 show_line [] m meant = absurd (some≢none m meant)
 show_line (name ∷ rest) m meant = ap (option_map of_show) meant
 
-show_asked : (rest : List Text) (m : Meaning) → meaning_of (codes "show" ∷ rest) ≡ Some m → (s : ShowMeaning) × (args_meant rest ≡ Some s)
+show_asked : (rest : List Text) (m : Meaning) → meaning_of (codes "show" ∷ rest) ≡ Some m → (s : ShowMeaning) × (meaning_of_args rest ≡ Some s)
 show_asked [] m meant = absurd (some≢none m meant)
-show_asked (name ∷ rest) m meant = made_of of_show (args_meant (name ∷ rest)) m meant
+show_asked (name ∷ rest) m meant = made_of of_show (meaning_of_args (name ∷ rest)) m meant
 
 module _ (words : List (Bor Text)) (first : Bor Text) (is : Some first ≡ slice_get words 0) (plain : has_option (texts words) ≡ false) where
   behind : (known : Text) → (rest : List (Bor Text)) → texts words ≡ known ∷ texts rest → has_option (texts rest) ≡ false
@@ -160,16 +160,16 @@ module _ (words : List (Bor Text)) (first : Bor Text) (is : Some first ≡ slice
       let n = means_of (codes "elf") elf_lines refl (texts w.0) (Ok m) at (behind (codes "elf") w.0 w.1) in
       ap meaning_of (w.1 ∙ ap (λ ws. codes "elf" ∷ ws) n.2) ∙ ap (λ asked. option_map of_elf (if_taken asked)) n.3
 
-  pub show_means : (m : ShowMeaning) → first.now ≡ codes "show" → args_meant (texts (drop 1 words)) ≡ Some m → meaning_of (texts words) ≡ Some (of_show m)
+  pub show_means : (m : ShowMeaning) → first.now ≡ codes "show" → meaning_of_args (texts (drop 1 words)) ≡ Some m → meaning_of (texts words) ≡ Some (of_show m)
   show_means m named meant =
       let w = first_word words first (codes "show") is named in
-      ap meaning_of w.1 ∙ show_line (texts w.0) m (ap (λ ws. args_meant (texts ws)) (sym w.3) ∙ meant)
+      ap meaning_of w.1 ∙ show_line (texts w.0) m (ap (λ ws. meaning_of_args (texts ws)) (sym w.3) ∙ meant)
 
-  pub show_passes : (m : Meaning) → first.now ≡ codes "show" → meaning_of (texts words) ≡ Some m → (s : ShowMeaning) × (args_meant (texts (drop 1 words)) ≡ Some s)
+  pub show_passes : (m : Meaning) → first.now ≡ codes "show" → meaning_of (texts words) ≡ Some m → (s : ShowMeaning) × (meaning_of_args (texts (drop 1 words)) ≡ Some s)
   show_passes m named meant =
       let w = first_word words first (codes "show") is named in
       let asked = show_asked (texts w.0) m (ap meaning_of (sym w.1) ∙ meant) in
-      (asked.0, ap (λ ws. args_meant (texts ws)) w.3 ∙ asked.1)
+      (asked.0, ap (λ ws. meaning_of_args (texts ws)) w.3 ∙ asked.1)
 
   macho_by : (m : Meaning) (rest : List Text) → has_option rest ≡ false → length rest ≤ usize_max → meaning_of (codes "macho" ∷ rest) ≡ Some m → (taken : MachoMeaning) × MeansBy (codes "macho") macho_lines (codes "macho" ∷ rest) taken
   macho_by m [] p fits meant = absurd (some≢none m meant)

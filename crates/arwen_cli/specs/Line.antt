@@ -10,7 +10,7 @@ use Rattle.elf_commands.specs.ElfCommandError.{ElfCommandError}
 use Rattle.macho_commands.specs.Engine.{MayFail}
 use Rattle.macho_commands.specs.Meaning.{MachoMeaning, macho_lines}
 use Rattle.macho_commands.specs.declared.error.MachoCommandError.{MachoCommandError}
-use Rattle.arwen_cli_show.specs.Args.{args_meant}
+use Rattle.arwen_cli_show.specs.Args.{meaning_of_args}
 use Rattle.arwen_cli_show.specs.declared.command.ShowCommandError.{ShowCommandError}
 use Rattle.arwen_cli.specs.Fault.{IsOfLine, answer_to_elf_command, answer_to_macho_command, answer_to_show_command}
 use Rattle.arwen_cli.specs.Meaning.{Meaning, of_elf, of_macho, of_show}
@@ -31,7 +31,7 @@ meaning_of (first ∷ name ∷ words) =
     else (if bytes_eq first (codes "elf")
     then option_map of_elf (if_taken (meant_by elf_lines name words))
     else (if bytes_eq first (codes "show")
-    then option_map of_show (args_meant (name ∷ words))
+    then option_map of_show (meaning_of_args (name ∷ words))
     else None))
 meaning_of _ = None
 

@@ -77,8 +77,8 @@ abbrev pub facts_at : List ℕ → Result (Option Place) SigningFault → Option
 facts_at bytes (Ok (Some place)) = Some (readable (contents_facts bytes (has_identity bytes) (thin_directories bytes)))
 facts_at bytes _ = None
 
-abbrev pub facts_held : List ℕ → Option SignatureFacts
-facts_held bytes = facts_at bytes (signature_place bytes)
+abbrev pub facts_in : List ℕ → Option SignatureFacts
+facts_in bytes = facts_at bytes (signature_place bytes)
 
 abbrev pub fault_facts : SigningFault → Option SignatureFacts
 fault_facts fault = Some (refused fault)
@@ -86,7 +86,7 @@ fault_facts fault = Some (refused fault)
 -- where a check of a file or of its signature fails, the first one
 abbrev pub facts_unless : Option SigningFault → List ℕ → Option SignatureFacts
 facts_unless (Some fault) bytes = fault_facts fault
-facts_unless None bytes = facts_held bytes
+facts_unless None bytes = facts_in bytes
 
 unfoldable pub signature_facts : List ℕ → Option SignatureFacts
 signature_facts bytes = facts_unless (thin_fault bytes) bytes

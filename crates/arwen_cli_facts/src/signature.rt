@@ -3,7 +3,7 @@ ghost use Rattle.std.specs.Prelude.{◌≡◌, ◌≢◌, IfOk, drop, length, ma
 ghost use Rattle.macho_signatures.specs.Pages.{unfit_from};
 ghost use Rattle.macho_signing.specs.Thin.{Holds, HoldsSignature};
 ghost use Rattle.macho_signing.specs.declared.fault.SigningFault.TheVariants.{Memory};
-ghost use Rattle.arwen_cli_facts.specs.SignatureFacts.{contents_facts, contents_model, facts_held, fault_facts, identifier_of, is_linker_signed, kind_of, lossily, signature_facts, signature_model};
+ghost use Rattle.arwen_cli_facts.specs.SignatureFacts.{contents_facts, contents_model, facts_in, fault_facts, identifier_of, is_linker_signed, kind_of, lossily, signature_facts, signature_model};
 
 use bstr::ByteSlice;
 use macho_signatures::{Directory, HashKind, Signature};
@@ -79,7 +79,7 @@ fn summary_of(
     bytes: &[u8],
 ) -> Result<Option<SignatureSummary>, AllocError>
     requires { Holds bytes.now signature.now }
-    ensures { IfOk result (λ told. option_map signature_model told ≡ facts_held bytes.now) }
+    ensures { IfOk result (λ told. option_map signature_model told ≡ facts_in bytes.now) }
 {
     match signature {
         None => Ok(None),

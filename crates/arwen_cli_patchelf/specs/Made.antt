@@ -15,8 +15,8 @@ use Rattle.arwen_cli_patchelf_lines.specs.Plans.{PlanMeant}
 use Rattle.arwen_cli_patchelf.specs.FirstFound.{AreFirstFoundIn, TellsFirstShrunk}
 
 -- the prefixes by which run paths shrink, where they do
-abbrev pub prefixes_meant : Option (Vec (String Global) Global) → Option (List Text)
-prefixes_meant shrinks = option_map (λ prefixes. map string_bytes prefixes.items) shrinks
+abbrev pub prefixes_model : Option (Vec (String Global) Global) → Option (List Text)
+prefixes_model shrinks = option_map (λ prefixes. map string_bytes prefixes.items) shrinks
 
 -- what the command `apply` asks for by these words, of whichever file, with leave that the dynamic section moves
 abbrev pub words_ask : List Text → ElfAsked

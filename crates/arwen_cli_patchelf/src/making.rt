@@ -1,7 +1,7 @@
 //! What plans make of bytes in memory.
 ghost use Rattle.std.specs.Prelude.{Some, IfErr, IfOk, map, string_bytes};
 ghost use Rattle.arwen_cli_patchelf_lines.specs.Plans.{plan_model};
-ghost use Rattle.arwen_cli_patchelf.specs.Made.{IsAppliedTo, IsMadeOf, IsShrunkTo, TellsUnapplied, TellsUnmade, TellsUnshrunk, prefixes_meant};
+ghost use Rattle.arwen_cli_patchelf.specs.Made.{IsAppliedTo, IsMadeOf, IsShrunkTo, TellsUnapplied, TellsUnmade, TellsUnshrunk, prefixes_model};
 
 use crate::first_found::shrunk_bytes;
 use crate::steps::{apply_if, in_memory};
@@ -39,9 +39,9 @@ fn shrink_if<P: Probe>(
     probe: &P,
 ) -> Result<Vec<u8>, ElfCommandError>
     ensures shrunk { IfOk result (λ made. IsShrunkTo (P.may_find probe.now)
-        (prefixes_meant shrinks.now) bytes.items made.items) }
+        (prefixes_model shrinks.now) bytes.items made.items) }
     ensures err { IfErr result
-        (TellsUnshrunk (P.may_find probe.now) (prefixes_meant shrinks.now) bytes.items) }
+        (TellsUnshrunk (P.may_find probe.now) (prefixes_model shrinks.now) bytes.items) }
 {
     match shrinks {
         Some(prefixes) => shrunk(alloc, bytes, prefixes.as_slice(), probe),

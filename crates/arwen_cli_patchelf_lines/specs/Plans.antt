@@ -28,9 +28,9 @@ prefixes_by (Some list) = prefixes_in list
 abbrev pub prefixes_asked : List Asked → List Text
 prefixes_asked asked = prefixes_by (last_of (codes "--allowed-rpath-prefixes") asked)
 
-abbrev pub shrinks_meant : List Asked → Option (List Text)
-shrinks_meant asked = if is_given (codes "--shrink-rpath") asked then Some (prefixes_asked asked) else None
+abbrev pub shrinks_of_options : List Asked → Option (List Text)
+shrinks_of_options asked = if is_given (codes "--shrink-rpath") asked then Some (prefixes_asked asked) else None
 
 -- what options ask of the bytes of a file
-abbrev pub plan_meant : List Asked → PlanMeant
-plan_meant asked = record { shrinks = shrinks_meant asked; words = edit_words asked }
+abbrev pub plan_of_options : List Asked → PlanMeant
+plan_of_options asked = record { shrinks = shrinks_of_options asked; words = edit_words asked }

@@ -74,8 +74,8 @@ abbrev pub first_asked : Text → Text → Text
 first_asked name first = if bytes_eq name (codes "--set-os-abi") then abi_asked first else first
 
 -- an option with this as its first value
-abbrev pub settled : Asked → Text → Asked
-settled one first = record { name = one.name; first = first_asked one.name first; second = one.second }
+abbrev pub first_replaced : Asked → Text → Asked
+first_replaced one first = record { name = one.name; first = first_asked one.name first; second = one.second }
 
 -- a pair of names that an option of this name asks for
 abbrev pub rename_asked : Text → Text × Text → Asked
@@ -84,9 +84,9 @@ rename_asked name pair = record { name = name; first = pair.0; second = pair.1 }
 -- what an option asks for whose value stands there; of the bytes at paths this is known
 abbrev pub IsResolvedFrom : Source → (Text → Option (List ℕ)) → Asked → List Asked → Type 0
 IsResolvedFrom Nowhere known one asked = asked ≡ []
-IsResolvedFrom Line known one asked = asked ≡ settled one one.first ∷ []
+IsResolvedFrom Line known one asked = asked ≡ first_replaced one one.first ∷ []
 IsResolvedFrom File known one asked =
-    (text : Text) × IsAll (known (path_named one.first)) text × (asked ≡ settled one text ∷ [])
+    (text : Text) × IsAll (known (path_named one.first)) text × (asked ≡ first_replaced one text ∷ [])
 IsResolvedFrom NameMap known one asked =
     (text : Text) × (pairs : List (Text × Text)) × IsAll (known one.first) text × (pairs_of (spaced_all text) ≡ Ok pairs)
     × (asked ≡ map (rename_asked one.name) pairs)

@@ -1,7 +1,7 @@
 //! What a line asks of the bytes of each of its files.
 ghost use Rattle.std.specs.Prelude.{◌≡◌, IfOk, map, option_map, string_bytes};
 ghost use Rattle.arwen_cli_peers.specs.EditWords.{asked_model};
-ghost use Rattle.arwen_cli_patchelf_lines.specs.Plans.{plan_meant, plan_model, prefixes_asked, prefixes_in as prefixes_named, shrinks_meant};
+ghost use Rattle.arwen_cli_patchelf_lines.specs.Plans.{plan_of_options, plan_model, prefixes_asked, prefixes_in as prefixes_named, shrinks_of_options};
 
 use crate::parts::filled_parts;
 use arwen_cli_peers::AskedOption;
@@ -21,7 +21,7 @@ pub struct Plan {
 
 /// What options ask of the bytes of a file. Error: `AllocError`.
 pub fn plan_of(alloc: Global, asked: &[AskedOption]) -> Result<Plan, AllocError>
-    ensures { IfOk result (λ plan. plan_model plan ≡ plan_meant (map asked_model asked.now)) }
+    ensures { IfOk result (λ plan. plan_model plan ≡ plan_of_options (map asked_model asked.now)) }
 {
     let shrinks = shrinks_of(alloc, asked)?;
     let words = edit_words(alloc, asked)?;
@@ -31,7 +31,7 @@ pub fn plan_of(alloc: Global, asked: &[AskedOption]) -> Result<Plan, AllocError>
 /// The prefixes that are allowed where run paths are to shrink.
 fn shrinks_of(alloc: Global, asked: &[AskedOption]) -> Result<Option<Vec<String>>, AllocError>
     ensures { IfOk result (λ shrinks. option_map (λ prefixes. map string_bytes prefixes.items) shrinks
-        ≡ shrinks_meant (map asked_model asked.now)) }
+        ≡ shrinks_of_options (map asked_model asked.now)) }
 {
     if is_given(asked, "--shrink-rpath") {
         Ok(Some(prefixes_of(alloc, asked)?))

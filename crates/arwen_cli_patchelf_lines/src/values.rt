@@ -4,7 +4,7 @@ ghost use Rattle.std.specs.Str.{IsUtf8};
 ghost use Rattle.arwen_cli_peers.specs.EditWords.{asked_model};
 ghost use Rattle.arwen_cli_peers.specs.Options.{given_model};
 ghost use Rattle.arwen_cli_patchelf_lines.specs.NameMaps.{lent_pair};
-ghost use Rattle.arwen_cli_patchelf_lines.specs.Values.{AreResolved, IsPut, IsPutFrom, IsRefusedAmong, IsRefusedOf, IsUnreadFrom, abi_asked, first_asked, is_passed_over as is_passed, is_run_path as sets_run_path, path_from, path_named, rename_asked, settled, source_of as source_by, takes_file as may_stand_in_file};
+ghost use Rattle.arwen_cli_patchelf_lines.specs.Values.{AreResolved, IsPut, IsPutFrom, IsRefusedAmong, IsRefusedOf, IsUnreadFrom, abi_asked, first_asked, first_replaced, is_passed_over as is_passed, is_run_path as sets_run_path, path_from, path_named, rename_asked, source_of as source_by, takes_file as may_stand_in_file};
 ghost use Rattle.arwen_cli_patchelf_lines.specs.declared.values.Source.TheVariants.{File, NameMap};
 ghost use Rattle.arwen_cli_patchelf_lines.specs.declared.values.ValueCause.TheVariants.{NotText};
 
@@ -250,7 +250,7 @@ fn put_settled(
     asked: &mut Vec<AskedOption>,
 ) -> Result<(), AllocError>
     ensures { OnOk result (map asked_model asked.new.items ≡ map asked_model asked.old.items
-        ++ settled (given_model one.now) first.now ∷ []) }
+        ++ first_replaced (given_model one.now) first.now ∷ []) }
 {
     let first = first_of(alloc, one.name, first)?;
     put_option(alloc, one.name, first, one.second, asked)

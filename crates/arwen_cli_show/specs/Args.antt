@@ -68,8 +68,8 @@ meant_with (Some word) words = None
 meant_with None words = with_paths (style_if (asks_json words)) (paths_given words)
 
 -- words that have no other option and name a file ask for it to be shown
-abbrev pub args_meant : List Text → Option ShowMeaning
-args_meant words = meant_with (other_option words) words
+abbrev pub meaning_of_args : List Text → Option ShowMeaning
+meaning_of_args words = meant_with (other_option words) words
 
 -- what an option says that isn't --json
 abbrev pub fault_with : Bor Text → ArgsFault

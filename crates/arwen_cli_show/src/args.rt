@@ -1,6 +1,6 @@
 //! What the words of a line behind `show` ask for.
 ghost use Rattle.std.specs.Prelude.{◌≡◌, IfErr, IfOk, map, option_map, string_bytes};
-ghost use Rattle.arwen_cli_show.specs.Args.{IsFaultOf, args_meant, args_model, asks_json as json_asked, fault_with, is_help as asks_help, is_json as names_json, is_mark as marks_paths, is_option as is_option_word, other_option as other_found, paths_given, status_told, style_if};
+ghost use Rattle.arwen_cli_show.specs.Args.{IsFaultOf, meaning_of_args, args_model, asks_json as json_asked, fault_with, is_help as asks_help, is_json as names_json, is_mark as marks_paths, is_option as is_option_word, other_option as other_found, paths_given, status_told, style_if};
 ghost use Rattle.arwen_cli_show.specs.declared.args.ArgsFault.TheVariants.{Memory};
 
 use crate::show::Style;
@@ -91,7 +91,7 @@ impl From<AllocError> for ArgsFault<'_> {
 /// is answered, before it is looked whether a file is named.
 pub fn parse_args<'a>(alloc: Global, words: &[&'a str]) -> Result<Args, ArgsFault<'a>>
     ensures means { IfOk result (λ args.
-        args_meant (map (λ w. w.now) words.now) ≡ Some (args_model args)) }
+        meaning_of_args (map (λ w. w.now) words.now) ≡ Some (args_model args)) }
     ensures refused { IfErr result (IsFaultOf (map (λ w. w.now) words.now)) }
 {
     if let Some(word) = other_option(words) {

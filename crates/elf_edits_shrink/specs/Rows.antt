@@ -12,8 +12,8 @@ use Rattle.elf_edits_shrink.specs.Questions.{shrink_questions}
 use Rattle.elf_edits_shrink.specs.Removals.{removed_by}
 
 -- a library found in a directory, for a machine
-abbrev pub found : List ℕ → List ℕ → Option ℕ → Answer
-found directory name m = record { directory = directory; needed = name; machine = m }
+abbrev pub library_found : List ℕ → List ℕ → Option ℕ → Answer
+library_found directory name m = record { directory = directory; needed = name; machine = m }
 
 abbrev pub gone : List ℕ → Removal
 gone directory = record { directory = directory; reason = NoLibrary }
@@ -30,15 +30,15 @@ pub record ShrinksTo (edit : Edit) (from to : List ℕ) (removals : List Removal
   pub removed : removed_by edit (searching from) ≡ removals
 
 pub record ShrinkRows : Type 0 where
-  pub found_in_one : ShrinksTo (ShrinkRunPath [] (found (codes "/foo/lib") foo (Some machine) ∷ [])) (codes "/lib:/usr/lib:/foo/lib") (codes "/foo/lib")
+  pub found_in_one : ShrinksTo (ShrinkRunPath [] (library_found (codes "/foo/lib") foo (Some machine) ∷ [])) (codes "/lib:/usr/lib:/foo/lib") (codes "/foo/lib")
       (gone (codes "/lib") ∷ gone (codes "/usr/lib") ∷ [])
   pub found_nowhere : ShrinksTo (ShrinkRunPath [] []) (codes "/lib:/foo/lib") [] (gone (codes "/lib") ∷ gone (codes "/foo/lib") ∷ [])
   pub not_absolute : ShrinksTo (ShrinkRunPath [] []) (codes "$ORIGIN:/lib::lib") (codes "$ORIGIN::lib") (gone (codes "/lib") ∷ [])
-  pub nothing_goes : ShrinksTo (ShrinkRunPath [] (found (codes "/lib") foo (Some machine) ∷ [])) (codes "/lib:/lib") (codes "/lib:/lib") []
-  pub another_machine : ShrinksTo (ShrinkRunPath [] (found (codes "/lib") foo (Some 3) ∷ found (codes "/usr/lib") foo None ∷ [])) (codes "/lib:/usr/lib") [] (gone (codes "/lib") ∷ gone (codes "/usr/lib") ∷ [])
-  pub first_answer_counts : ShrinksTo (ShrinkRunPath [] (found (codes "/lib") foo None ∷ found (codes "/lib") foo (Some machine) ∷ [])) (codes "/lib") [] (gone (codes "/lib") ∷ [])
+  pub nothing_goes : ShrinksTo (ShrinkRunPath [] (library_found (codes "/lib") foo (Some machine) ∷ [])) (codes "/lib:/lib") (codes "/lib:/lib") []
+  pub another_machine : ShrinksTo (ShrinkRunPath [] (library_found (codes "/lib") foo (Some 3) ∷ library_found (codes "/usr/lib") foo None ∷ [])) (codes "/lib:/usr/lib") [] (gone (codes "/lib") ∷ gone (codes "/usr/lib") ∷ [])
+  pub first_answer_counts : ShrinksTo (ShrinkRunPath [] (library_found (codes "/lib") foo None ∷ library_found (codes "/lib") foo (Some machine) ∷ [])) (codes "/lib") [] (gone (codes "/lib") ∷ [])
   -- a prefix is one of bytes; what it doesn't begin goes for that reason, found or not
-  pub by_prefixes : ShrinksTo (ShrinkRunPath (codes "/opt" ∷ codes "/us" ∷ []) (found (codes "/lib") foo (Some machine) ∷ found (codes "/usr/lib") foo (Some machine) ∷ [])) (codes "/lib:/usr/lib:/opt") (codes "/usr/lib")
+  pub by_prefixes : ShrinksTo (ShrinkRunPath (codes "/opt" ∷ codes "/us" ∷ []) (library_found (codes "/lib") foo (Some machine) ∷ library_found (codes "/usr/lib") foo (Some machine) ∷ [])) (codes "/lib:/usr/lib:/opt") (codes "/usr/lib")
       (record { directory = codes "/lib"; reason = Prefix } ∷ gone (codes "/opt") ∷ [])
   pub no_run_path : step (ShrinkRunPath [] []) (with_entries (Auto 5 ∷ [])) ≡ Err NoRunPath
   pub questions : shrink_questions small_entries ≡ (codes "/a", codes "libc.so.6") ∷ []
@@ -48,4 +48,4 @@ pub record ShrinkRows : Type 0 where
   -- prefixes come before what stands against shrinking alone
   pub texts_next : cause (ShrinkRunPath (with_nul_in_it ∷ []) []) (with_entries []) ≡ Some NulInText
   -- the image stays as it was, the mark too
-  pub nothing_shrinks : LeavesAll (ShrinkRunPath [] (found (codes "/a") (codes "libc.so.6") (Some machine) ∷ [])) small_image
+  pub nothing_shrinks : LeavesAll (ShrinkRunPath [] (library_found (codes "/a") (codes "libc.so.6") (Some machine) ∷ [])) small_image

@@ -11,7 +11,7 @@ use Rattle.elf_format.specs.Dynamic.{Auto, Entry, Integer, Text, entries_at, sho
 use Rattle.elf_format.specs.Form.{Form, fixed_field, records}
 use Rattle.elf_format.specs.Options.{each, is_one_of, when_wanted}
 use Rattle.elf_format.specs.Records.{EntryNumbers, SymbolNumbers, entry_numbers, entry_size, symbol_numbers, symbol_size}
-use Rattle.elf_format.specs.Versions.{DefinitionNumbers, NeedNameNumbers, NeedNumbers, Step, VersionDefinition, VersionName, VersionNeeds, definition_at, definition_name_at, is_whole_walk, need_at, need_name_at, shown_definition, shown_need, shown_need_name, values_of, version_id, walked}
+use Rattle.elf_format.specs.Versions.{DefinitionNumbers, NeedNameNumbers, NeedNumbers, Step, VersionDefinition, VersionName, VersionNeeds, definition_at, definition_name_at, is_whole_walk, need_at, need_name_at, shown_definition, shown_need, shown_need_name, values_of, version_id, chain_steps}
 use Rattle.elf_format.specs.Views.{defined_versions, dynamic_symbols, named_symbols, names_of, needed_versions, symbol_versions, whole_chain}
 
 -- ## Steps and lists of steps
@@ -101,7 +101,7 @@ WholeAgrees {A} f g = (a : ℕ) (s : Step A) → f a ≡ Some s → s.is_whole �
 
 -- what is walked behind a step, and from a step on
 after_step : {A : Type 0} → (ℕ → Option (Step A)) → ℕ → ℕ → Step A → Bool → List (Step A)
-after_step read n a step b = elim b [ true ↦ walked read n (a + step.next) | _ ↦ [] ]
+after_step read n a step b = elim b [ true ↦ chain_steps read n (a + step.next) | _ ↦ [] ]
 
 from_step : {A : Type 0} → (ℕ → Option (Step A)) → ℕ → ℕ → Option (Step A) → List (Step A)
 unfolding after_step
@@ -116,14 +116,14 @@ whole_parts n s rest h =
     (each_whole.0, and_from (eqb (length rest) n) (list_all (λ t. t.is_whole) rest) (eq-eqb (length rest) n counted) each_whole.1)
 
 after_step-same : {A : Type 0} → (f g : ℕ → Option (Step A)) (n a : ℕ) (s : Step A)
-    → (is_whole_walk n (walked f n (a + s.next)) ≡ true → walked g n (a + s.next) ≡ walked f n (a + s.next))
+    → (is_whole_walk n (chain_steps f n (a + s.next)) ≡ true → chain_steps g n (a + s.next) ≡ chain_steps f n (a + s.next))
     → (b : Bool) → is_whole_walk n (after_step f n a s b) ≡ true → after_step g n a s b ≡ after_step f n a s b
 unfolding after_step
 after_step-same f g n a s same true h = same h
 after_step-same f g n a s same false h = refl
 
 from_step-same : {A : Type 0} → (f g : ℕ → Option (Step A)) → WholeAgrees f g → (n a : ℕ)
-    → ((c : ℕ) → is_whole_walk n (walked f n c) ≡ true → walked g n c ≡ walked f n c)
+    → ((c : ℕ) → is_whole_walk n (chain_steps f n c) ≡ true → chain_steps g n c ≡ chain_steps f n c)
     → (o : Option (Step A)) → f a ≡ o → is_whole_walk (suc n) (from_step f n a o) ≡ true → from_step g n a (g a) ≡ from_step f n a o
 unfolding from_step
 from_step-same f g agrees n a same None e h =
@@ -135,15 +135,15 @@ from_step-same f g agrees n a same (Some s) e h =
     ∙ ap (λ l. s ∷ l) (after_step-same f g n a s (same (a + s.next)) goes rest)
 
 -- a whole walk is the same in the other memory
-pub walked-same : {A : Type 0} → (f g : ℕ → Option (Step A)) → WholeAgrees f g → (n a : ℕ) → is_whole_walk n (walked f n a) ≡ true → walked g n a ≡ walked f n a
-unfolding walked from_step after_step
+pub walked-same : {A : Type 0} → (f g : ℕ → Option (Step A)) → WholeAgrees f g → (n a : ℕ) → is_whole_walk n (chain_steps f n a) ≡ true → chain_steps g n a ≡ chain_steps f n a
+unfolding chain_steps from_step after_step
 walked-same f g agrees zero a h = refl
 walked-same f g agrees (suc n) a h = from_step-same f g agrees n a (walked-same f g agrees n) (f a) refl h
 
 pub whole_chain-agrees : {A : Type 0} → (f g : ℕ → Option (Step A)) → WholeAgrees f g → (n : ℕ) → Agrees (whole_chain f n) (whole_chain g n)
 unfolding whole_chain
 whole_chain-agrees f g agrees n x h =
-    let whole = (cond_some (is_whole_walk n (walked f n 0)) (values_of (walked f n 0)) x h).0 in
+    let whole = (cond_some (is_whole_walk n (chain_steps f n 0)) (values_of (chain_steps f n 0)) x h).0 in
     ap (λ w. cond (is_whole_walk n w) (Some (values_of w)) None) (walked-same f g agrees n 0 whole) ∙ h
 
 -- steps that agree, agree where they are whole
@@ -168,7 +168,7 @@ definition_step form bytes names = record {
 }
 
 names_by : Form → Memory → ℕ → List ℕ → List (Step ℕ)
-names_by form f a bytes = walked (definition_name_at form f) (fixed_field form (6, 2) bytes) (a + fixed_field form (12, 4) bytes)
+names_by form f a bytes = chain_steps (definition_name_at form f) (fixed_field form (6, 2) bytes) (a + fixed_field form (12, 4) bytes)
 
 definition-agrees : (form : Form) (f g : Memory) → Keeps f g → WholeAgrees (definition_at form f) (definition_at form g)
 unfolding definition_at definition_step names_by
@@ -218,7 +218,7 @@ need_step form bytes versions = record {
 }
 
 versions_by : Form → Memory → ℕ → List ℕ → List (Step NeedNameNumbers)
-versions_by form f a bytes = walked (need_name_at form f) (fixed_field form (2, 2) bytes) (a + fixed_field form (8, 4) bytes)
+versions_by form f a bytes = chain_steps (need_name_at form f) (fixed_field form (2, 2) bytes) (a + fixed_field form (8, 4) bytes)
 
 need-agrees : (form : Form) (f g : Memory) → Keeps f g → WholeAgrees (need_at form f) (need_at form g)
 unfolding need_at need_step versions_by

@@ -10,7 +10,7 @@ use Rattle.elf_format.specs.declared.view_fault.ViewFault.{ViewFault}
 use Rattle.elf_format.specs.declared.view_fault.ViewFault.TheVariants as faults
 use Rattle.elf_format.specs.Form.{Form, fixed_field}
 use Rattle.elf_format.specs.Answers.{Fails, chain, whole_step}
-use Rattle.elf_format.specs.Versions.{DefinitionNumbers, NeedNameNumbers, NeedNumbers, Step, definition_at, definition_name_at, need_at, need_name_at, is_whole_walk, values_of, walked}
+use Rattle.elf_format.specs.Versions.{DefinitionNumbers, NeedNameNumbers, NeedNumbers, Step, definition_at, definition_name_at, need_at, need_name_at, is_whole_walk, values_of, chain_steps}
 use Rattle.elf_format.specs.Views.{whole_chain}
 use Rattle.elf_format.proofs.ReadingSteps.{with_front, with_front-cons}
 
@@ -73,18 +73,18 @@ behind : {A : Type 0} → ℕ → (ℕ → Option (List A)) → ℕ → Step A �
 behind n tail a s = elim (eqb n 0 || not (eqb s.next 0)) [ true ↦ tail (a + s.next) >>= (λ xs. Some (s.value ∷ xs)) | _ ↦ None ]
 
 walk_from : {A : Type 0} → (ℕ → Option (Step A)) → ℕ → ℕ → Option (Step A) → List (Step A)
-walk_from read n a o = elim o [ None ↦ [] | Some step ↦ step ∷ (elim (step.is_whole && not (eqb step.next 0)) [ true ↦ walked read n (a + step.next) | _ ↦ [] ]) ]
+walk_from read n a o = elim o [ None ↦ [] | Some step ↦ step ∷ (elim (step.is_whole && not (eqb step.next 0)) [ true ↦ chain_steps read n (a + step.next) | _ ↦ [] ]) ]
 
-by_step : {A : Type 0} → (read : ℕ → Option (Step A)) (n a : ℕ) → ((b : ℕ) → from_whole n (walked read n b) ≡ chain read n b) → (o : Option (Step A))
+by_step : {A : Type 0} → (read : ℕ → Option (Step A)) (n a : ℕ) → ((b : ℕ) → from_whole n (chain_steps read n b) ≡ chain read n b) → (o : Option (Step A))
     → from_whole (suc n) (walk_from read n a o) ≡ (whole_step o >>= (behind n (chain read n) a))
 unfolding walk_from walk_by chain_by rest_by behind
 by_step read n a same None = ap (λ b. cond (b && true) (Some []) None) (ne_eqb 0 (suc n) (λ e. omega arith))
 by_step read n a same (Some s) =
-    by_flags n s (walked read n (a + s.next)) (chain read n (a + s.next)) (same (a + s.next)) (λ e. none_left read n (a + s.next) e) s.is_whole (eqb s.next 0)
+    by_flags n s (chain_steps read n (a + s.next)) (chain read n (a + s.next)) (same (a + s.next)) (λ e. none_left read n (a + s.next) e) s.is_whole (eqb s.next 0)
     ∙ cond_bind s.is_whole s (λ t. elim (eqb n 0 || not (eqb t.next 0)) [ true ↦ chain read n (a + t.next) >>= (λ xs. Some (t.value ∷ xs)) | _ ↦ None ])
 
-pub walked-chain : {A : Type 0} → (read : ℕ → Option (Step A)) (n a : ℕ) → from_whole n (walked read n a) ≡ chain read n a
-unfolding walked chain walk_from behind
+pub walked-chain : {A : Type 0} → (read : ℕ → Option (Step A)) (n a : ℕ) → from_whole n (chain_steps read n a) ≡ chain read n a
+unfolding chain_steps chain walk_from behind
 walked-chain read zero a = refl
 walked-chain read (suc n) a = by_step read n a (walked-chain read n) (read a)
 
@@ -169,11 +169,11 @@ pub more_left : (count i : ℕ) → i < count → eqb (i + 1) count ≡ false �
 more_left count i less e z = eqb-false (i + 1) count e (omega arith)
 
 -- a walk whose chain is there is whole, and has its values
-walk_is : {A : Type 0} → (read : ℕ → Option (Step A)) (n a : ℕ) (xs : List A) → chain read n a ≡ Some xs → (is_whole_walk n (walked read n a) ≡ true) × (values_of (walked read n a) ≡ xs)
-walk_is read n a xs e = cond_some (is_whole_walk n (walked read n a)) (values_of (walked read n a)) xs (walked-chain read n a ∙ e)
+walk_is : {A : Type 0} → (read : ℕ → Option (Step A)) (n a : ℕ) (xs : List A) → chain read n a ≡ Some xs → (is_whole_walk n (chain_steps read n a) ≡ true) × (values_of (chain_steps read n a) ≡ xs)
+walk_is read n a xs e = cond_some (is_whole_walk n (chain_steps read n a)) (values_of (chain_steps read n a)) xs (walked-chain read n a ∙ e)
 
-walk_is_not : {A : Type 0} → (read : ℕ → Option (Step A)) (n a : ℕ) → chain read n a ≡ None → is_whole_walk n (walked read n a) ≡ false
-walk_is_not read n a e = no_value (is_whole_walk n (walked read n a)) (values_of (walked read n a)) (walked-chain read n a ∙ e)
+walk_is_not : {A : Type 0} → (read : ℕ → Option (Step A)) (n a : ℕ) → chain read n a ≡ None → is_whole_walk n (chain_steps read n a) ≡ false
+walk_is_not read n a e = no_value (is_whole_walk n (chain_steps read n a)) (values_of (chain_steps read n a)) (walked-chain read n a ∙ e)
   where
     no_value : {A : Type 0} → (b : Bool) (xs : List A) → cond b (Some xs) None ≡ None → b ≡ false
     no_value true xs h = absurd (none-some xs (sym h))
@@ -190,30 +190,30 @@ definition_by form b w names = record {
 
 module _ (form : Form) (f : Memory) (a : ℕ) where
   definition_from : (b : List ℕ) → bytes_at 20 f a ≡ Some b
-      → whole_step (definition_at form f a) ≡ whole_step (Some (definition_by form b (is_whole_walk (fixed_field form (6, 2) b) (walked (definition_name_at form f) (fixed_field form (6, 2) b) (a + fixed_field form (12, 4) b)))
-      (values_of (walked (definition_name_at form f) (fixed_field form (6, 2) b) (a + fixed_field form (12, 4) b)))))
+      → whole_step (definition_at form f a) ≡ whole_step (Some (definition_by form b (is_whole_walk (fixed_field form (6, 2) b) (chain_steps (definition_name_at form f) (fixed_field form (6, 2) b) (a + fixed_field form (12, 4) b)))
+      (values_of (chain_steps (definition_name_at form f) (fixed_field form (6, 2) b) (a + fixed_field form (12, 4) b)))))
   unfolding definition_at definition_by
-  definition_from b here = ap (λ o. whole_step (o >>= (λ c. Some (definition_by form c (is_whole_walk (fixed_field form (6, 2) c) (walked (definition_name_at form f) (fixed_field form (6, 2) c) (a + fixed_field form (12, 4) c)))
-      (values_of (walked (definition_name_at form f) (fixed_field form (6, 2) c) (a + fixed_field form (12, 4) c))))))) here
+  definition_from b here = ap (λ o. whole_step (o >>= (λ c. Some (definition_by form c (is_whole_walk (fixed_field form (6, 2) c) (chain_steps (definition_name_at form f) (fixed_field form (6, 2) c) (a + fixed_field form (12, 4) c)))
+      (values_of (chain_steps (definition_name_at form f) (fixed_field form (6, 2) c) (a + fixed_field form (12, 4) c))))))) here
 
   pub definition_whole : (b names : List ℕ) → bytes_at 20 f a ≡ Some b → chain (definition_name_at form f) (fixed_field form (6, 2) b) (a + fixed_field form (12, 4) b) ≡ Some names
       → whole_step (definition_at form f a) ≡ Some (record { value = record { index = fixed_field form (4, 2) b; flags = fixed_field form (2, 2) b; names = names }; is_whole = true; next = fixed_field form (16, 4) b })
   unfolding definition_by
   definition_whole b names here chained =
       let is = walk_is (definition_name_at form f) (fixed_field form (6, 2) b) (a + fixed_field form (12, 4) b) names chained in
-      let steps = walked (definition_name_at form f) (fixed_field form (6, 2) b) (a + fixed_field form (12, 4) b) in
+      let steps = chain_steps (definition_name_at form f) (fixed_field form (6, 2) b) (a + fixed_field form (12, 4) b) in
       definition_from b here ∙ ap (λ w. whole_step (Some (definition_by form b w (values_of steps)))) is.0 ∙ ap (λ ns. Some (definition_by form b true ns)) is.1
 
   pub definition_none : (b : List ℕ) → bytes_at 20 f a ≡ Some b → chain (definition_name_at form f) (fixed_field form (6, 2) b) (a + fixed_field form (12, 4) b) ≡ None → whole_step (definition_at form f a) ≡ None
   unfolding definition_by
   definition_none b here chained =
-      let steps = walked (definition_name_at form f) (fixed_field form (6, 2) b) (a + fixed_field form (12, 4) b) in
+      let steps = chain_steps (definition_name_at form f) (fixed_field form (6, 2) b) (a + fixed_field form (12, 4) b) in
       definition_from b here ∙ ap (λ w. whole_step (Some (definition_by form b w (values_of steps)))) (walk_is_not (definition_name_at form f) (fixed_field form (6, 2) b) (a + fixed_field form (12, 4) b) chained)
 
   pub definition_absent : bytes_at 20 f a ≡ None → whole_step (definition_at form f a) ≡ None
   unfolding definition_at definition_by
-  definition_absent here = ap (λ o. whole_step (o >>= (λ c. Some (definition_by form c (is_whole_walk (fixed_field form (6, 2) c) (walked (definition_name_at form f) (fixed_field form (6, 2) c) (a + fixed_field form (12, 4) c)))
-      (values_of (walked (definition_name_at form f) (fixed_field form (6, 2) c) (a + fixed_field form (12, 4) c))))))) here
+  definition_absent here = ap (λ o. whole_step (o >>= (λ c. Some (definition_by form c (is_whole_walk (fixed_field form (6, 2) c) (chain_steps (definition_name_at form f) (fixed_field form (6, 2) c) (a + fixed_field form (12, 4) c)))
+      (values_of (chain_steps (definition_name_at form f) (fixed_field form (6, 2) c) (a + fixed_field form (12, 4) c))))))) here
 
 need_by : Form → List ℕ → Bool → List NeedNameNumbers → Step NeedNumbers
 need_by form b w names = record {
@@ -224,30 +224,30 @@ need_by form b w names = record {
 
 module _ (form : Form) (f : Memory) (a : ℕ) where
   need_from : (b : List ℕ) → bytes_at 16 f a ≡ Some b
-      → whole_step (need_at form f a) ≡ whole_step (Some (need_by form b (is_whole_walk (fixed_field form (2, 2) b) (walked (need_name_at form f) (fixed_field form (2, 2) b) (a + fixed_field form (8, 4) b)))
-      (values_of (walked (need_name_at form f) (fixed_field form (2, 2) b) (a + fixed_field form (8, 4) b)))))
+      → whole_step (need_at form f a) ≡ whole_step (Some (need_by form b (is_whole_walk (fixed_field form (2, 2) b) (chain_steps (need_name_at form f) (fixed_field form (2, 2) b) (a + fixed_field form (8, 4) b)))
+      (values_of (chain_steps (need_name_at form f) (fixed_field form (2, 2) b) (a + fixed_field form (8, 4) b)))))
   unfolding need_at need_by
-  need_from b here = ap (λ o. whole_step (o >>= (λ c. Some (need_by form c (is_whole_walk (fixed_field form (2, 2) c) (walked (need_name_at form f) (fixed_field form (2, 2) c) (a + fixed_field form (8, 4) c)))
-      (values_of (walked (need_name_at form f) (fixed_field form (2, 2) c) (a + fixed_field form (8, 4) c))))))) here
+  need_from b here = ap (λ o. whole_step (o >>= (λ c. Some (need_by form c (is_whole_walk (fixed_field form (2, 2) c) (chain_steps (need_name_at form f) (fixed_field form (2, 2) c) (a + fixed_field form (8, 4) c)))
+      (values_of (chain_steps (need_name_at form f) (fixed_field form (2, 2) c) (a + fixed_field form (8, 4) c))))))) here
 
   pub need_whole : (b : List ℕ) (names : List NeedNameNumbers) → bytes_at 16 f a ≡ Some b → chain (need_name_at form f) (fixed_field form (2, 2) b) (a + fixed_field form (8, 4) b) ≡ Some names
       → whole_step (need_at form f a) ≡ Some (record { value = record { file = fixed_field form (4, 4) b; versions = names }; is_whole = true; next = fixed_field form (12, 4) b })
   unfolding need_by
   need_whole b names here chained =
       let is = walk_is (need_name_at form f) (fixed_field form (2, 2) b) (a + fixed_field form (8, 4) b) names chained in
-      let steps = walked (need_name_at form f) (fixed_field form (2, 2) b) (a + fixed_field form (8, 4) b) in
+      let steps = chain_steps (need_name_at form f) (fixed_field form (2, 2) b) (a + fixed_field form (8, 4) b) in
       need_from b here ∙ ap (λ w. whole_step (Some (need_by form b w (values_of steps)))) is.0 ∙ ap (λ ns. Some (need_by form b true ns)) is.1
 
   pub need_none : (b : List ℕ) → bytes_at 16 f a ≡ Some b → chain (need_name_at form f) (fixed_field form (2, 2) b) (a + fixed_field form (8, 4) b) ≡ None → whole_step (need_at form f a) ≡ None
   unfolding need_by
   need_none b here chained =
-      let steps = walked (need_name_at form f) (fixed_field form (2, 2) b) (a + fixed_field form (8, 4) b) in
+      let steps = chain_steps (need_name_at form f) (fixed_field form (2, 2) b) (a + fixed_field form (8, 4) b) in
       need_from b here ∙ ap (λ w. whole_step (Some (need_by form b w (values_of steps)))) (walk_is_not (need_name_at form f) (fixed_field form (2, 2) b) (a + fixed_field form (8, 4) b) chained)
 
   pub need_absent : bytes_at 16 f a ≡ None → whole_step (need_at form f a) ≡ None
   unfolding need_at need_by
-  need_absent here = ap (λ o. whole_step (o >>= (λ c. Some (need_by form c (is_whole_walk (fixed_field form (2, 2) c) (walked (need_name_at form f) (fixed_field form (2, 2) c) (a + fixed_field form (8, 4) c)))
-      (values_of (walked (need_name_at form f) (fixed_field form (2, 2) c) (a + fixed_field form (8, 4) c))))))) here
+  need_absent here = ap (λ o. whole_step (o >>= (λ c. Some (need_by form c (is_whole_walk (fixed_field form (2, 2) c) (chain_steps (need_name_at form f) (fixed_field form (2, 2) c) (a + fixed_field form (8, 4) c)))
+      (values_of (chain_steps (need_name_at form f) (fixed_field form (2, 2) c) (a + fixed_field form (8, 4) c))))))) here
 
 -- ## What the reader of a record with a chain answers
 

@@ -16,7 +16,7 @@ use Rattle.elf_format.specs.Placement.{addresses_apart, file_parts_fit, header_t
 use Rattle.elf_format.specs.Places.{places_of}
 use Rattle.elf_format.specs.Ranges.{Range, range}
 use Rattle.elf_format.specs.Records.{EntryNumbers, Relocation, SectionHeader, SegmentHeader, entry_size, file_header_size, relocation_size, relocations_in, section_header, section_header_size, segment_header_size, symbol_size, symbols_in}
-use Rattle.elf_format.specs.Versions.{DefinitionNumbers, NeedNumbers, Step, definition_at, is_whole_walk, need_at, shown_definition, shown_need, values_of, version_id, walked}
+use Rattle.elf_format.specs.Versions.{DefinitionNumbers, NeedNumbers, Step, definition_at, is_whole_walk, need_at, shown_definition, shown_need, values_of, version_id, chain_steps}
 use Rattle.elf_format.specs.Views.{View, byte_at, dynamic_symbol_count, first_by_tag, interpreter_section, loader_view, loader_view_within, names_of, section_memory, section_view}
 
 -- A rule: what has to hold of a value, and the fault where it doesn't.
@@ -289,10 +289,10 @@ symbols_are_named p texts type =
 
 -- the records of defined and of needed versions as far as they can be walked; sh_info counts them
 abbrev pub definition_steps : Parts → SectionHeader → List (Step DefinitionNumbers)
-definition_steps p s = walked (definition_at p.opened.form (section_memory (file_of p) (Some s))) s.sh_info 0
+definition_steps p s = chain_steps (definition_at p.opened.form (section_memory (file_of p) (Some s))) s.sh_info 0
 
 abbrev pub need_steps : Parts → SectionHeader → List (Step NeedNumbers)
-need_steps p s = walked (need_at p.opened.form (section_memory (file_of p) (Some s))) s.sh_info 0
+need_steps p s = chain_steps (need_at p.opened.form (section_memory (file_of p) (Some s))) s.sh_info 0
 
 abbrev pub section_names_end : Parts → Bool
 section_names_end p = is_some (each (λ s. text_at (length (file_of p)) (texts_of p (slice_get p.sections p.opened.header.e_shstrndx)) s.sh_name) p.sections)

@@ -23,10 +23,10 @@ pub record Step (A : Type 0) : Type 0 where
 
 -- the records of a chain, as far as it can be walked: `count` at most, up to one that isn't there, isn't
 -- whole or has no next
-unfoldable pub walked : {A : Type 0} → (ℕ → Option (Step A)) → ℕ → ℕ → List (Step A)
-walked read zero a = []
-walked read (suc count) a =
-    elim (read a) [ None ↦ [] | Some step ↦ step ∷ (elim (step.is_whole && not (step.next == 0)) [ true ↦ walked read count (a + step.next) | _ ↦ [] ]) ]
+unfoldable pub chain_steps : {A : Type 0} → (ℕ → Option (Step A)) → ℕ → ℕ → List (Step A)
+chain_steps read zero a = []
+chain_steps read (suc count) a =
+    elim (read a) [ None ↦ [] | Some step ↦ step ∷ (elim (step.is_whole && not (step.next == 0)) [ true ↦ chain_steps read count (a + step.next) | _ ↦ [] ]) ]
 
 -- the walk met as many records as it should, all of them whole
 abbrev pub is_whole_walk : {A : Type 0} → ℕ → List (Step A) → Bool
@@ -51,7 +51,7 @@ unfoldable pub definition_at : Form → Memory → ℕ → Option (Step Definiti
 definition_at form memory a = do
   bytes ← bytes_at 20 memory a
   let count = fixed_field form (6, 2) bytes in
-      let names = walked (definition_name_at form memory) count (a + fixed_field form (12, 4) bytes) in
+      let names = chain_steps (definition_name_at form memory) count (a + fixed_field form (12, 4) bytes) in
       Some (record {
         value = record { index = fixed_field form (4, 2) bytes; flags = fixed_field form (2, 2) bytes; names = values_of names };
         is_whole = is_whole_walk count names;
@@ -77,7 +77,7 @@ unfoldable pub need_at : Form → Memory → ℕ → Option (Step NeedNumbers)
 need_at form memory a = do
   bytes ← bytes_at 16 memory a
   let count = fixed_field form (2, 2) bytes in
-      let versions = walked (need_name_at form memory) count (a + fixed_field form (8, 4) bytes) in
+      let versions = chain_steps (need_name_at form memory) count (a + fixed_field form (8, 4) bytes) in
       Some (record {
         value = record { file = fixed_field form (4, 4) bytes; versions = values_of versions };
         is_whole = is_whole_walk count versions;

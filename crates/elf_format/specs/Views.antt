@@ -10,7 +10,7 @@ use Rattle.elf_format.specs.File.{Opened, bytes_in, linked_section, loads_of, op
 use Rattle.elf_format.specs.Form.{Form, records}
 use Rattle.elf_format.specs.Options.{each, is_none_or, when_wanted}
 use Rattle.elf_format.specs.Records.{EntryNumbers, SectionHeader, SegmentHeader, SymbolNumbers, symbol_numbers, symbol_size}
-use Rattle.elf_format.specs.Versions.{Step, VersionDefinition, VersionNeeds, definition_at, is_whole_walk, need_at, shown_definition, shown_need, values_of, version_id, walked}
+use Rattle.elf_format.specs.Versions.{Step, VersionDefinition, VersionNeeds, definition_at, is_whole_walk, need_at, shown_definition, shown_need, values_of, version_id, chain_steps}
 
 -- A symbol as it is shown, with its version where the file has versions (gABI, Symbol Table).
 pub record NamedSymbol : Type 0 where
@@ -78,7 +78,7 @@ dynamic_symbols form room with_versions table versions = do
 -- the records of a chain, where all of them are there and whole
 unfoldable pub whole_chain : {A : Type 0} → (ℕ → Option (Step A)) → ℕ → Option (List A)
 whole_chain read count =
-    let steps = walked read count 0 in
+    let steps = chain_steps read count 0 in
     if is_whole_walk count steps then Some (values_of steps) else None
 
 -- the versions that the file defines (GNU symbol versioning, .gnu.version_d)

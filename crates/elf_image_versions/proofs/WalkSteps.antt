@@ -12,7 +12,7 @@ use Rattle.elf_format.specs.declared.form.Form.{Form}
 use Rattle.elf_format.specs.Form.{fixed_field}
 use Rattle.elf_format.specs.Answers.{Gives}
 use Rattle.elf_format.specs.declared.records.NeedNameNumbers.{NeedNameNumbers}
-use Rattle.elf_format.specs.Versions.{DefinitionNumbers, NeedNumbers, Step, definition_at, definition_name_at, need_at, need_name_at, is_whole_walk, values_of, walked}
+use Rattle.elf_format.specs.Versions.{DefinitionNumbers, NeedNumbers, Step, definition_at, definition_name_at, need_at, need_name_at, is_whole_walk, values_of, chain_steps}
 use Rattle.elf_image_versions.specs.WalkSteps.{IsFound, IsWalk}
 use Rattle.elf_format.proofs.ForCallers.ChainSteps.{eqb-suc}
 use Rattle.elf_format.proofs.ForCallers.TableSteps.{bytes_at-past}
@@ -42,39 +42,39 @@ and_false false b e = refl
 module _ {A : Type 0} (read : ℕ → Option (Step A)) where
   -- the walk behind a step, by whether it goes on
   behind_by : ℕ → ℕ → Bool → List (Step A)
-  behind_by n p goes = elim goes [ true ↦ walked read n p | _ ↦ [] ]
+  behind_by n p goes = elim goes [ true ↦ chain_steps read n p | _ ↦ [] ]
 
-  absent : (n a : ℕ) → read a ≡ None → walked read n a ≡ []
-  unfolding walked
+  absent : (n a : ℕ) → read a ≡ None → chain_steps read n a ≡ []
+  unfolding chain_steps
   absent zero a e = refl
-  absent (suc n) a e = ap (λ (o : Option (Step A)). elim o as (λ _. List (Step A)) [ None ↦ [] | Some step ↦ step ∷ (elim (step.is_whole && not (eqb step.next 0)) [ true ↦ walked read n (a + step.next) | _ ↦ [] ]) ]) e
+  absent (suc n) a e = ap (λ (o : Option (Step A)). elim o as (λ _. List (Step A)) [ None ↦ [] | Some step ↦ step ∷ (elim (step.is_whole && not (eqb step.next 0)) [ true ↦ chain_steps read n (a + step.next) | _ ↦ [] ]) ]) e
 
-  there : (n a : ℕ) (s : Step A) → read a ≡ Some s → walked read (suc n) a ≡ s ∷ behind_by n (a + s.next) (s.is_whole && not (eqb s.next 0))
-  unfolding walked behind_by
-  there n a s e = ap (λ (o : Option (Step A)). elim o as (λ _. List (Step A)) [ None ↦ [] | Some step ↦ step ∷ (elim (step.is_whole && not (eqb step.next 0)) [ true ↦ walked read n (a + step.next) | _ ↦ [] ]) ]) e
+  there : (n a : ℕ) (s : Step A) → read a ≡ Some s → chain_steps read (suc n) a ≡ s ∷ behind_by n (a + s.next) (s.is_whole && not (eqb s.next 0))
+  unfolding chain_steps behind_by
+  there n a s e = ap (λ (o : Option (Step A)). elim o as (λ _. List (Step A)) [ None ↦ [] | Some step ↦ step ∷ (elim (step.is_whole && not (eqb step.next 0)) [ true ↦ chain_steps read n (a + step.next) | _ ↦ [] ]) ]) e
 
   -- the walk goes on, or no record is left
-  goes_on : (n a p : ℕ) (s : Step A) → read a ≡ Some s → s.is_whole ≡ true → (n ≡ 0) ⊎ ((s.next ≡ 0 → ⊥) × (p ≡ a + s.next)) → walked read (suc n) a ≡ s ∷ walked read n p
-  unfolding walked behind_by
+  goes_on : (n a p : ℕ) (s : Step A) → read a ≡ Some s → s.is_whole ≡ true → (n ≡ 0) ⊎ ((s.next ≡ 0 → ⊥) × (p ≡ a + s.next)) → chain_steps read (suc n) a ≡ s ∷ chain_steps read n p
+  unfolding chain_steps behind_by
   goes_on n a p s here whole next = there n a s here ∙ ap (λ l. s ∷ l) (onwards next)
     where
       nothing : (q : ℕ) (b : Bool) → behind_by 0 q b ≡ []
       nothing q true = refl
       nothing q false = refl
 
-      none : (q : ℕ) → walked read 0 q ≡ []
+      none : (q : ℕ) → chain_steps read 0 q ≡ []
       none q = refl
 
-      onwards : (n ≡ 0) ⊎ ((s.next ≡ 0 → ⊥) × (p ≡ a + s.next)) → behind_by n (a + s.next) (s.is_whole && not (eqb s.next 0)) ≡ walked read n p
+      onwards : (n ≡ 0) ⊎ ((s.next ≡ 0 → ⊥) × (p ≡ a + s.next)) → behind_by n (a + s.next) (s.is_whole && not (eqb s.next 0)) ≡ chain_steps read n p
       onwards (inl e) =
           ap (λ m. behind_by m (a + s.next) (s.is_whole && not (eqb s.next 0))) e ∙ nothing (a + s.next) (s.is_whole && not (eqb s.next 0))
-          ∙ sym (ap (λ m. walked read m p) e ∙ none p)
+          ∙ sym (ap (λ m. chain_steps read m p) e ∙ none p)
       onwards (inr h) =
           ap (λ w. behind_by n (a + s.next) (w && not (eqb s.next 0))) whole ∙ ap (λ z. behind_by n (a + s.next) (not z)) (ne_eqb s.next 0 h.0)
-          ∙ ap (walked read n) (sym h.1)
+          ∙ ap (chain_steps read n) (sym h.1)
 
   -- the walk stops behind a record
-  stops : (n a : ℕ) (s : Step A) → read a ≡ Some s → (s.is_whole ≡ false) ⊎ (s.next ≡ 0) → walked read (suc n) a ≡ s ∷ []
+  stops : (n a : ℕ) (s : Step A) → read a ≡ Some s → (s.is_whole ≡ false) ⊎ (s.next ≡ 0) → chain_steps read (suc n) a ≡ s ∷ []
   unfolding behind_by
   stops n a s here stop = there n a s here ∙ ap (λ l. s ∷ l) (nowhere stop)
     where
@@ -90,46 +90,46 @@ module _ {A : Type 0} (read : ℕ → Option (Step A)) where
 
 -- what was walked so far and what is left make up the whole walk
 pub record WalkLeft {A : Type 0} (read : ℕ → Option (Step A)) (count start : ℕ) (made : List A) (n a : ℕ) : Type 0 where
-  pub values : made ++ values_of (walked read n a) ≡ values_of (walked read count start)
-  pub whole : is_whole_walk n (walked read n a) ≡ is_whole_walk count (walked read count start)
+  pub values : made ++ values_of (chain_steps read n a) ≡ values_of (chain_steps read count start)
+  pub whole : is_whole_walk n (chain_steps read n a) ≡ is_whole_walk count (chain_steps read count start)
 
 module _ {A : Type 0} (read : ℕ → Option (Step A)) (count start : ℕ) where
   pub walk_starts : WalkLeft read count start [] (count - 0) start
   walk_starts =
       let e : count - 0 ≡ count = omega arith in
-      record { values = ap (λ n. values_of (walked read n start)) e; whole = ap (λ n. is_whole_walk n (walked read n start)) e }
+      record { values = ap (λ n. values_of (chain_steps read n start)) e; whole = ap (λ n. is_whole_walk n (chain_steps read n start)) e }
 
   pub walk_goes : (made : List A) (i a p : ℕ) (s : Step A) → i < count → read a ≡ Some s → s.is_whole ≡ true → (count - (i + 1) ≡ 0) ⊎ ((s.next ≡ 0 → ⊥) × (p ≡ a + s.next))
       → WalkLeft read count start made (count - i) a → WalkLeft read count start (made ++ s.value ∷ []) (count - (i + 1)) p
   walk_goes made i a p s less here whole next left =
       let n : ℕ = count - (i + 1) in
       let k : count - i ≡ suc n = omega arith in
-      let on : walked read (count - i) a ≡ s ∷ walked read n p = ap (λ m. walked read m a) k ∙ goes_on read n a p s here whole next in
+      let on : chain_steps read (count - i) a ≡ s ∷ chain_steps read n p = ap (λ m. chain_steps read m a) k ∙ goes_on read n a p s here whole next in
       record {
-        values = append_assoc made (s.value ∷ []) (values_of (walked read n p)) ∙ sym (ap (λ l. made ++ values_of l) on) ∙ left.values;
+        values = append_assoc made (s.value ∷ []) (values_of (chain_steps read n p)) ∙ sym (ap (λ l. made ++ values_of l) on) ∙ left.values;
         whole =
-            sym (ap (λ m. is_whole_walk m (walked read (count - i) a)) k ∙ ap (is_whole_walk (suc n)) on
-            ∙ ap (λ w. eqb (suc (length (walked read n p))) (suc n) && (w && list_all (λ t. t.is_whole) (walked read n p))) whole
-            ∙ ap (λ b. b && list_all (λ t. t.is_whole) (walked read n p)) (eqb-suc (length (walked read n p)) n)) ∙ left.whole;
+            sym (ap (λ m. is_whole_walk m (chain_steps read (count - i) a)) k ∙ ap (is_whole_walk (suc n)) on
+            ∙ ap (λ w. eqb (suc (length (chain_steps read n p))) (suc n) && (w && list_all (λ t. t.is_whole) (chain_steps read n p))) whole
+            ∙ ap (λ b. b && list_all (λ t. t.is_whole) (chain_steps read n p)) (eqb-suc (length (chain_steps read n p)) n)) ∙ left.whole;
       }
 
   pub walk_ends : (made : List A) (i a : ℕ) → i < count → read a ≡ None → WalkLeft read count start made (count - i) a → IsWalk read count start made false
   walk_ends made i a less none left =
       let n : ℕ = count - (i + 1) in
       let k : count - i ≡ suc n = omega arith in
-      let e : walked read (count - i) a ≡ [] = absent read (count - i) a none in
+      let e : chain_steps read (count - i) a ≡ [] = absent read (count - i) a none in
       record {
         all = sym (append-nil made) ∙ sym (ap (λ l. made ++ values_of l) e) ∙ left.values;
         whole = sym (ap (is_whole_walk (count - i)) e ∙ ap (λ m. is_whole_walk {A = A} m []) k ∙ ap (λ b. b && true) (ne_eqb 0 (suc n) (λ z. omega arith))) ∙ left.whole;
       }
 
   -- one record is kept, and the walk isn't whole
-  stopped : (made : List A) (i a : ℕ) (s : Step A) → i < count → walked read (suc (count - (i + 1))) a ≡ s ∷ [] → is_whole_walk (suc (count - (i + 1))) (s ∷ []) ≡ false
+  stopped : (made : List A) (i a : ℕ) (s : Step A) → i < count → chain_steps read (suc (count - (i + 1))) a ≡ s ∷ [] → is_whole_walk (suc (count - (i + 1))) (s ∷ []) ≡ false
       → WalkLeft read count start made (count - i) a → IsWalk read count start (made ++ s.value ∷ []) false
   stopped made i a s less one broken left =
       let n : ℕ = count - (i + 1) in
       let k : count - i ≡ suc n = omega arith in
-      let e : walked read (count - i) a ≡ s ∷ [] = ap (λ m. walked read m a) k ∙ one in
+      let e : chain_steps read (count - i) a ≡ s ∷ [] = ap (λ m. chain_steps read m a) k ∙ one in
       record {
         all = sym (ap (λ l. made ++ values_of l) e) ∙ left.values;
         whole = sym (ap (is_whole_walk (count - i)) e ∙ ap (λ m. is_whole_walk m (s ∷ [])) k ∙ broken) ∙ left.whole;
@@ -147,12 +147,12 @@ module _ {A : Type 0} (read : ℕ → Option (Step A)) (count start : ℕ) where
       stopped made i a s less (stops read n a s here (inl broken)) (and_false (eqb 1 (suc n)) s.is_whole broken) left
 
   pub walk_done : (made : List A) (i a : ℕ) → count ≤ i → WalkLeft read count start made (count - i) a → IsWalk read count start made true
-  unfolding walked
+  unfolding chain_steps
   walk_done made i a past left =
       let k : count - i ≡ 0 = omega arith in
       record {
-        all = sym (append-nil made) ∙ sym (ap (λ m. made ++ values_of (walked read m a)) k) ∙ left.values;
-        whole = sym (ap (λ m. is_whole_walk m (walked read m a)) k) ∙ left.whole;
+        all = sym (append-nil made) ∙ sym (ap (λ m. made ++ values_of (chain_steps read m a)) k) ∙ left.values;
+        whole = sym (ap (λ m. is_whole_walk m (chain_steps read m a)) k) ∙ left.whole;
       }
 
 -- ## Records
@@ -216,17 +216,17 @@ module _ (form : Form) (f : Memory) (a : ℕ) where
   definition_there b names w n d index flags next here is_n is_d walk is_index is_flags is_next =
       let read : ℕ → Option (Step ℕ) = definition_name_at form f in
       let count : ℕ = fixed_field form (6, 2) b in
-      let steps : List (Step ℕ) = walked read count (a + fixed_field form (12, 4) b) in
-      let same : walked read n (a + d) ≡ steps = ap (λ k. walked read k (a + d)) is_n ∙ ap (λ k. walked read count (a + k)) is_d in
+      let steps : List (Step ℕ) = chain_steps read count (a + fixed_field form (12, 4) b) in
+      let same : chain_steps read n (a + d) ≡ steps = ap (λ k. chain_steps read k (a + d)) is_n ∙ ap (λ k. chain_steps read count (a + k)) is_d in
       ap (λ k. made_definition k flags names w next) is_index ∙ ap (λ k. made_definition (fixed_field form (4, 2) b) k names w next) is_flags
       ∙ ap (λ k. made_definition (fixed_field form (4, 2) b) (fixed_field form (2, 2) b) names w k) is_next
       ∙ ap (λ l. made_definition (fixed_field form (4, 2) b) (fixed_field form (2, 2) b) l w (fixed_field form (16, 4) b)) (walk.all ∙ ap values_of same)
       ∙ ap (λ v. made_definition (fixed_field form (4, 2) b) (fixed_field form (2, 2) b) (values_of steps) v (fixed_field form (16, 4) b)) (walk.whole ∙ ap (is_whole_walk n) same ∙ ap (λ k. is_whole_walk k steps) is_n)
-      ∙ sym (ap (λ o. o >>= (λ c. definition_by c (walked read (fixed_field form (6, 2) c) (a + fixed_field form (12, 4) c)))) here)
+      ∙ sym (ap (λ o. o >>= (λ c. definition_by c (chain_steps read (fixed_field form (6, 2) c) (a + fixed_field form (12, 4) c)))) here)
 
   pub definition_missing : bytes_at 20 f a ≡ None → definition_at form f a ≡ None
   unfolding definition_at definition_by
-  definition_missing here = ap (λ o. o >>= (λ c. definition_by c (walked (definition_name_at form f) (fixed_field form (6, 2) c) (a + fixed_field form (12, 4) c)))) here
+  definition_missing here = ap (λ o. o >>= (λ c. definition_by c (chain_steps (definition_name_at form f) (fixed_field form (6, 2) c) (a + fixed_field form (12, 4) c)))) here
 
   need_by : List ℕ → List (Step NeedNameNumbers) → Option (Step NeedNumbers)
   need_by b names = Some (record {
@@ -245,16 +245,16 @@ module _ (form : Form) (f : Memory) (a : ℕ) where
   need_there b names w n d file next here is_n is_d walk is_file is_next =
       let read : ℕ → Option (Step NeedNameNumbers) = need_name_at form f in
       let count : ℕ = fixed_field form (2, 2) b in
-      let steps : List (Step NeedNameNumbers) = walked read count (a + fixed_field form (8, 4) b) in
-      let same : walked read n (a + d) ≡ steps = ap (λ k. walked read k (a + d)) is_n ∙ ap (λ k. walked read count (a + k)) is_d in
+      let steps : List (Step NeedNameNumbers) = chain_steps read count (a + fixed_field form (8, 4) b) in
+      let same : chain_steps read n (a + d) ≡ steps = ap (λ k. chain_steps read k (a + d)) is_n ∙ ap (λ k. chain_steps read count (a + k)) is_d in
       ap (λ k. made_need k names w next) is_file ∙ ap (λ k. made_need (fixed_field form (4, 4) b) names w k) is_next
       ∙ ap (λ l. made_need (fixed_field form (4, 4) b) l w (fixed_field form (12, 4) b)) (walk.all ∙ ap values_of same)
       ∙ ap (λ v. made_need (fixed_field form (4, 4) b) (values_of steps) v (fixed_field form (12, 4) b)) (walk.whole ∙ ap (is_whole_walk n) same ∙ ap (λ k. is_whole_walk k steps) is_n)
-      ∙ sym (ap (λ o. o >>= (λ c. need_by c (walked read (fixed_field form (2, 2) c) (a + fixed_field form (8, 4) c)))) here)
+      ∙ sym (ap (λ o. o >>= (λ c. need_by c (chain_steps read (fixed_field form (2, 2) c) (a + fixed_field form (8, 4) c)))) here)
 
   pub need_missing : bytes_at 16 f a ≡ None → need_at form f a ≡ None
   unfolding need_at need_by
-  need_missing here = ap (λ o. o >>= (λ c. need_by c (walked (need_name_at form f) (fixed_field form (2, 2) c) (a + fixed_field form (8, 4) c)))) here
+  need_missing here = ap (λ o. o >>= (λ c. need_by c (chain_steps (need_name_at form f) (fixed_field form (2, 2) c) (a + fixed_field form (8, 4) c)))) here
 
 -- a record that is there begins within the bytes
 pub begins_within : (n a : ℕ) (xs b : List ℕ) → 0 < n → bytes_at n (memory_of xs) a ≡ Some b → a ≤ length xs

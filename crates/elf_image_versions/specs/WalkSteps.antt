@@ -12,7 +12,7 @@ use Rattle.elf_format.specs.declared.version_id.VersionId.{VersionId}
 use Rattle.elf_format.specs.File.{Parts, section_of_type}
 use Rattle.elf_format.specs.Options.{is_none_or, is_one_of, list_at}
 use Rattle.elf_format.specs.Rules.{definition_steps, need_steps}
-use Rattle.elf_format.specs.Versions.{DefinitionNumbers, NeedNumbers, Step, is_whole_walk, values_of, walked}
+use Rattle.elf_format.specs.Versions.{DefinitionNumbers, NeedNumbers, Step, is_whole_walk, values_of, chain_steps}
 
 -- what was read, or none where it isn't there, unless memory ran out
 abbrev pub IsFound : {X : Type 0} → Result X ViewFault → Result (Option X) AllocError → Type 0
@@ -21,8 +21,8 @@ IsFound (Err fault) found = found ≡ elim fault [ faults.Absent ↦ Ok None | f
 
 -- the values of a chain as far as it can be walked, and whether that is all of it
 pub record IsWalk {A : Type 0} (read : ℕ → Option (Step A)) (count a : ℕ) (values : List A) (is_whole : Bool) : Type 0 where
-  pub all : values ≡ values_of (walked read count a)
-  pub whole : is_whole ≡ is_whole_walk count (walked read count a)
+  pub all : values ≡ values_of (chain_steps read count a)
+  pub whole : is_whole ≡ is_whole_walk count (chain_steps read count a)
 
 -- the defined versions of a file, and the needed ones, as far as their records can be walked
 abbrev pub defined_in : Parts → List DefinitionNumbers

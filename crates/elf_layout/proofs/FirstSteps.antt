@@ -18,7 +18,7 @@ use Rattle.elf_layout.specs.declared.slots.At.{At}
 use Rattle.elf_layout.specs.Inner.{IsPastField}
 use Rattle.elf_layout.specs.Slots.{IsFar, aligned, end_behind, start_of_load, with_flags}
 use Rattle.elf_layout.proofs.SlotSteps.{own_position}
-use Rattle.elf_layout.proofs.FlagSteps.{has, others}
+use Rattle.elf_layout.proofs.FlagSteps.{has, without_number}
 use Rattle.elf_layout.proofs.LoadSteps.{load_of, slots_of}
 use Rattle.elf_layout.proofs.FarSteps.{next_above, past_load_end, past_place, place_as, placed_as}
 
@@ -36,27 +36,27 @@ Distinct [] = Unit {0}
 Distinct (n ∷ ns) = (has n ns ≡ false) × Distinct ns
 
 -- what isn't there isn't among fewer
-has_fewer : (m n : ℕ) (ns : List ℕ) → has n ns ≡ false → has n (others m ns) ≡ false
+has_fewer : (m n : ℕ) (ns : List ℕ) → has n ns ≡ false → has n (without_number m ns) ≡ false
 has_fewer m n [] fails = refl
 has_fewer m n (k ∷ ns) fails =
     let parts = or_parts (k == n) (has n ns) fails in
-    let less : has n (others m ns) ≡ false = has_fewer m n ns parts.1 in
-    elim (not (k == m)) as (λ b. has n (cond b (k ∷ others m ns) (others m ns)) ≡ false) [
-      | true ↦ or_false (k == n) (has n (others m ns)) parts.0 less
+    let less : has n (without_number m ns) ≡ false = has_fewer m n ns parts.1 in
+    elim (not (k == m)) as (λ b. has n (cond b (k ∷ without_number m ns) (without_number m ns)) ≡ false) [
+      | true ↦ or_false (k == n) (has n (without_number m ns)) parts.0 less
       | false ↦ less
     ]
 
 -- what is left out isn't there
-has_no_more : (m : ℕ) (ns : List ℕ) → has m (others m ns) ≡ false
+has_no_more : (m : ℕ) (ns : List ℕ) → has m (without_number m ns) ≡ false
 has_no_more m [] = refl
 has_no_more m (k ∷ ns) = elim (cases_eq k m) [
   | inl same ↦ rw (eq-eqb k m same) (has_no_more m ns)
   | inr other ↦ rw (ne_eqb k m other) (or_false _ _ (ne_eqb k m other) (has_no_more m ns))
 ]
 
-others_distinct : (m : ℕ) (ns : List ℕ) → Distinct ns → Distinct (others m ns)
+others_distinct : (m : ℕ) (ns : List ℕ) → Distinct ns → Distinct (without_number m ns)
 others_distinct m [] d = tt
-others_distinct m (k ∷ ns) d = elim (not (k == m)) as (λ b. Distinct (cond b (k ∷ others m ns) (others m ns))) [
+others_distinct m (k ∷ ns) d = elim (not (k == m)) as (λ b. Distinct (cond b (k ∷ without_number m ns) (without_number m ns))) [
   | true ↦ (has_fewer m k ns d.0, others_distinct m ns d.1)
   | false ↦ others_distinct m ns d.1
 ]

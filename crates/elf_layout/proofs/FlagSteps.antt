@@ -9,45 +9,45 @@ use Rattle.elf_layout_plan.specs.Memory.{Resized, SizedSection, sized_sections}
 use Rattle.elf_layout_plan.specs.Rounds.{added_flags, each_once, flags_for, sections_at}
 use Rattle.elf_layout.specs.Slots.{with_flag}
 
-abbrev pub others : ℕ → List ℕ → List ℕ
-others m ns = filter (λ n. not (n == m)) ns
+abbrev pub without_number : ℕ → List ℕ → List ℕ
+without_number m ns = filter (λ n. not (n == m)) ns
 
 abbrev pub has : ℕ → List ℕ → Bool
 has n ns = list_any (λ x. x == n) ns
 
 -- another number is there as before, once a number is left out
-has_still : (m n : ℕ) (ns : List ℕ) → m ≢ n → has n (others m ns) ≡ has n ns
+has_still : (m n : ℕ) (ns : List ℕ) → m ≢ n → has n (without_number m ns) ≡ has n ns
 has_still m n [] apart = refl
 has_still m n (k ∷ ns) apart = elim (cases_eq k m) [
   | inl same ↦
-      let left_out : others m (k ∷ ns) ≡ others m ns = rw (eq-eqb k m same) refl in
+      let left_out : without_number m (k ∷ ns) ≡ without_number m ns = rw (eq-eqb k m same) refl in
       let no : (k == n) ≡ false = ne_eqb k n (λ e. apart (sym same ∙ e)) in
       ap (λ (l : List ℕ). has n l) left_out ∙ has_still m n ns apart ∙ sym (rw no refl)
   | inr other ↦
-      let kept : others m (k ∷ ns) ≡ k ∷ others m ns = rw (ne_eqb k m other) refl in
+      let kept : without_number m (k ∷ ns) ≡ k ∷ without_number m ns = rw (ne_eqb k m other) refl in
       ap (λ (l : List ℕ). has n l) kept ∙ ap (λ (b : Bool). (k == n) || b) (has_still m n ns apart)
 ]
 
 -- one number of a list
-others_one : (m n : ℕ) → m ≢ n → others m (n ∷ []) ≡ n ∷ []
+others_one : (m n : ℕ) → m ≢ n → without_number m (n ∷ []) ≡ n ∷ []
 others_one m n apart = rw (ne_eqb n m (λ e. apart (sym e))) refl
 
-others_none : (m n : ℕ) → m ≡ n → others m (n ∷ []) ≡ []
+others_none : (m n : ℕ) → m ≡ n → without_number m (n ∷ []) ≡ []
 others_none m n same = rw (eq-eqb n m (sym same)) refl
 
 -- leaving out the number that is added
-others_same : (m n : ℕ) (ns : List ℕ) (b : Bool) → m ≡ n → others m (cond b ns (ns ++ n ∷ [])) ≡ others m ns
+others_same : (m n : ℕ) (ns : List ℕ) (b : Bool) → m ≡ n → without_number m (cond b ns (ns ++ n ∷ [])) ≡ without_number m ns
 others_same m n ns true same = refl
 others_same m n ns false same =
-    filter-append (λ (k : ℕ). not (k == m)) ns (n ∷ []) ∙ ap (λ (l : List ℕ). others m ns ++ l) (others_none m n same)
-    ∙ append-nil (others m ns)
+    filter-append (λ (k : ℕ). not (k == m)) ns (n ∷ []) ∙ ap (λ (l : List ℕ). without_number m ns ++ l) (others_none m n same)
+    ∙ append-nil (without_number m ns)
 
 -- leaving out another
 others_apart : (m n : ℕ) (ns : List ℕ) (b : Bool) → m ≢ n
-    → others m (cond b ns (ns ++ n ∷ [])) ≡ cond b (others m ns) (others m ns ++ n ∷ [])
+    → without_number m (cond b ns (ns ++ n ∷ [])) ≡ cond b (without_number m ns) (without_number m ns ++ n ∷ [])
 others_apart m n ns true apart = refl
 others_apart m n ns false apart =
-    filter-append (λ (k : ℕ). not (k == m)) ns (n ∷ []) ∙ ap (λ (l : List ℕ). others m ns ++ l) (others_one m n apart)
+    filter-append (λ (k : ℕ). not (k == m)) ns (n ∷ []) ∙ ap (λ (l : List ℕ). without_number m ns ++ l) (others_one m n apart)
 
 cons_cond : (m n : ℕ) (ns : List ℕ) (b : Bool) → m ∷ cond b ns (ns ++ n ∷ []) ≡ cond b (m ∷ ns) ((m ∷ ns) ++ n ∷ [])
 cons_cond m n ns true = refl
@@ -59,19 +59,19 @@ unfolding each_once
 each_once-push [] n = refl
 each_once-push (m ∷ ns) n =
     let made : List ℕ = each_once ns in
-    let before : m ∷ others m (each_once (ns ++ n ∷ [])) ≡ m ∷ others m (cond (has n made) made (made ++ n ∷ [])) =
-    ap (λ (l : List ℕ). m ∷ others m l) (each_once-push ns n) in
+    let before : m ∷ without_number m (each_once (ns ++ n ∷ [])) ≡ m ∷ without_number m (cond (has n made) made (made ++ n ∷ [])) =
+    ap (λ (l : List ℕ). m ∷ without_number m l) (each_once-push ns n) in
     elim (cases_eq m n) [
       | inl same ↦
-          let there : has n (m ∷ others m made) ≡ true = rw (eq-eqb m n same) refl in
-          let goal : cond (has n (m ∷ others m made)) (m ∷ others m made) ((m ∷ others m made) ++ n ∷ []) ≡ m ∷ others m made =
-          ap (λ (b : Bool). cond b (m ∷ others m made) ((m ∷ others m made) ++ n ∷ [])) there in
+          let there : has n (m ∷ without_number m made) ≡ true = rw (eq-eqb m n same) refl in
+          let goal : cond (has n (m ∷ without_number m made)) (m ∷ without_number m made) ((m ∷ without_number m made) ++ n ∷ []) ≡ m ∷ without_number m made =
+          ap (λ (b : Bool). cond b (m ∷ without_number m made) ((m ∷ without_number m made) ++ n ∷ [])) there in
           before ∙ ap (λ (l : List ℕ). m ∷ l) (others_same m n made (has n made) same) ∙ sym goal
       | inr apart ↦
-          let there : has n (m ∷ others m made) ≡ has n made = ap (λ (b : Bool). b || has n (others m made)) (ne_eqb m n apart)
+          let there : has n (m ∷ without_number m made) ≡ has n made = ap (λ (b : Bool). b || has n (without_number m made)) (ne_eqb m n apart)
           ∙ has_still m n made apart in
-          before ∙ ap (λ (l : List ℕ). m ∷ l) (others_apart m n made (has n made) apart) ∙ cons_cond m n (others m made) (has n made)
-          ∙ ap (λ (b : Bool). cond b (m ∷ others m made) ((m ∷ others m made) ++ n ∷ [])) (sym there)
+          before ∙ ap (λ (l : List ℕ). m ∷ l) (others_apart m n made (has n made) apart) ∙ cons_cond m n (without_number m made) (has n made)
+          ∙ ap (λ (b : Bool). cond b (m ∷ without_number m made) ((m ∷ without_number m made) ++ n ∷ [])) (sym there)
     ]
 
 -- the flags of the sections at positions

@@ -253,7 +253,7 @@ impl<'a, 'data> Users<'a, 'data> {
     }
 
     // The texts that the image uses of that string table, but for the names of symbols.
-    fn others(&self, alloc: Global, number: usize) -> Result<Others<'a>, AllocError>
+    fn others_in_use(&self, alloc: Global, number: usize) -> Result<Others<'a>, AllocError>
         ensures { IfOk result (λ others. others ≡ others_in_use self.now number) }
     {
         let list = self.list_texts(alloc, number)?;
@@ -369,7 +369,7 @@ impl<'a, 'data> Users<'a, 'data> {
         ensures { IfOk result (λ told. IfSome told (λ is.
             is ≡ is_table_copied self.now.read self.now.image number)) }
     {
-        let at_read = read_users.others(alloc, number)?;
+        let at_read = read_users.others_in_use(alloc, number)?;
         Ok(self.is_copied_by(read_users, number, now, &at_read))
     }
 
@@ -384,7 +384,7 @@ impl<'a, 'data> Users<'a, 'data> {
         ensures { IfOk result (λ told. IfSome told (λ is.
             is ≡ is_table_copied self.now.read self.now.image number)) }
     {
-        let now = self.others(alloc, number)?;
+        let now = self.others_in_use(alloc, number)?;
         self.is_copied_with(alloc, read_users, number, &now)
     }
 

@@ -14,7 +14,7 @@ use Rattle.patch_bytes.proofs.MemoryLaws.{bytes_at-memory_of}
 use Rattle.patch_bytes.proofs.NumberLaws.{length-bytes_of, number_at-append_right, number_at-bytes_of}
 use Rattle.elf_format.specs.declared.form.Form.{Form}
 use Rattle.elf_format.specs.Form.{by_class, fixed_field}
-use Rattle.elf_format.specs.Versions.{Step, is_whole_walk, values_of, walked}
+use Rattle.elf_format.specs.Versions.{Step, is_whole_walk, values_of, chain_steps}
 use Rattle.elf_format.specs.Views.{whole_chain}
 use Rattle.elf_tables.specs.Fields.{fields, widths}
 use Rattle.elf_tables.specs.VersionRecords.{chained, next_behind}
@@ -53,18 +53,18 @@ drop-front bytes front rest a n long at = sym (drop-drop n a bytes) ∙ ap (drop
 
 -- a walk after what it met at a place
 on_step : {A : Type 0} → (ℕ → Option (Step A)) → ℕ → ℕ → Option (Step A) → List (Step A)
-on_step {A} read count a o = elim o [ None ↦ [] | Some step ↦ step ∷ (elim (step.is_whole && not (step.next == 0)) [ true ↦ walked read count (a + step.next) | _ ↦ [] ]) ]
+on_step {A} read count a o = elim o [ None ↦ [] | Some step ↦ step ∷ (elim (step.is_whole && not (step.next == 0)) [ true ↦ chain_steps read count (a + step.next) | _ ↦ [] ]) ]
 
-walked-more : {A : Type 0} → (read : ℕ → Option (Step A)) (count a : ℕ) → walked read (suc count) a ≡ on_step read count a (read a)
-unfolding walked on_step
+walked-more : {A : Type 0} → (read : ℕ → Option (Step A)) (count a : ℕ) → chain_steps read (suc count) a ≡ on_step read count a (read a)
+unfolding chain_steps on_step
 walked-more read count a = refl
 
 -- a record that has a next one
-step_on : {A : Type 0} → (read : ℕ → Option (Step A)) (count a n : ℕ) (value : A) → 0 < n → on_step read count a (Some (record { value = value; is_whole = true; next = n })) ≡ record { value = value; is_whole = true; next = n } ∷ walked read count (a + n)
+step_on : {A : Type 0} → (read : ℕ → Option (Step A)) (count a n : ℕ) (value : A) → 0 < n → on_step read count a (Some (record { value = value; is_whole = true; next = n })) ≡ record { value = value; is_whole = true; next = n } ∷ chain_steps read count (a + n)
 unfolding on_step
 step_on {A} read count a n value some =
     let on : not (n == 0) ≡ true = ap not (ne_eqb n 0 (λ none. absurd (omega arith))) in
-    ap (λ (b : Bool). record { value = value; is_whole = true; next = n } ∷ (elim b as (λ _. List (Step A)) [ true ↦ walked read count (a + n) | _ ↦ [] ])) on
+    ap (λ (b : Bool). record { value = value; is_whole = true; next = n } ∷ (elim b as (λ _. List (Step A)) [ true ↦ chain_steps read count (a + n) | _ ↦ [] ])) on
 
 step_last : {A : Type 0} → (read : ℕ → Option (Step A)) (count a : ℕ) (value : A) → on_step read count a (Some (record { value = value; is_whole = true; next = 0 })) ≡ record { value = value; is_whole = true; next = 0 } ∷ []
 unfolding on_step
@@ -100,8 +100,8 @@ module _ {A X : Type 0} (spell : X → ℕ → List ℕ) (size : X → ℕ) (val
 
   pub walked-chained : (read : ℕ → Option (Step A)) (bytes : List ℕ) (xs : List X) (a : ℕ) (rest : List ℕ)
       → ((x : X) (n : ℕ) → length (spell x n) ≡ size x) → ((x : X) → 0 < size x) → AllByRecursion (ReadsBack read bytes) xs → drop a bytes ≡ chained spell size xs ++ rest
-      → walked read (length xs) a ≡ steps_of xs
-  unfolding steps_of chained walked
+      → chain_steps read (length xs) a ≡ steps_of xs
+  unfolding steps_of chained chain_steps
   walked-chained read bytes [] a rest long positive back at = refl
   walked-chained read bytes (x ∷ []) a rest long positive back at =
       let here : read a ≡ Some (record { value = value x; is_whole = true; next = 0 }) = back.0 a 0 ([] ++ rest) (omega arith) (at ∙ append_assoc (spell x 0) [] rest) in
@@ -119,7 +119,7 @@ module _ {A X : Type 0} (spell : X → ℕ → List ℕ) (size : X → ℕ) (val
       → whole_chain read (length xs) ≡ Some (map value xs)
   unfolding whole_chain
   whole_chain-chained read bytes xs long positive back is =
-      let met : walked read (length xs) 0 ≡ steps_of xs = walked-chained read bytes xs 0 [] long positive back (is ∙ sym (append-nil (chained spell size xs))) in
+      let met : chain_steps read (length xs) 0 ≡ steps_of xs = walked-chained read bytes xs 0 [] long positive back (is ∙ sym (append-nil (chained spell size xs))) in
       ap (λ (steps : List (Step A)). cond (is_whole_walk (length xs) steps) (Some (values_of steps)) None) met
       ∙ cond-true (is_whole_walk (length xs) (steps_of xs)) (Some (values_of (steps_of xs))) None (whole_steps xs)
       ∙ ap Some (values_of-steps xs)

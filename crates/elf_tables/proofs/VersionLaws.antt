@@ -13,7 +13,7 @@ use Rattle.elf_format.specs.declared.form.Form.{Form}
 use Rattle.elf_format.specs.declared.records.NeedNameNumbers.{NeedNameNumbers}
 use Rattle.elf_format.specs.Form.{fixed_field}
 use Rattle.elf_format.specs.Options.{each}
-use Rattle.elf_format.specs.Versions.{DefinitionNumbers, NeedNumbers, Step, VersionDefinition, VersionName, VersionNeeds, definition_at, definition_name_at, is_whole_walk, need_at, need_name_at, shown_definition, shown_need, shown_need_name, values_of, walked}
+use Rattle.elf_format.specs.Versions.{DefinitionNumbers, NeedNumbers, Step, VersionDefinition, VersionName, VersionNeeds, definition_at, definition_name_at, is_whole_walk, need_at, need_name_at, shown_definition, shown_need, shown_need_name, values_of, chain_steps}
 use Rattle.elf_format.specs.Views.{whole_chain}
 use Rattle.elf_tables.specs.Strings.{PlacesStand, StandsAt, Strings, place_of}
 use Rattle.elf_tables.specs.VersionRecords.{PlacedDefinition, PlacedName, PlacedNeeds, chained, definition_size, definition_table, fields, has_definition_texts, has_needs_texts, needs_size, needs_table, place_in, placed_definition, placed_name, placed_needs, spelled_definition, spelled_definition_name, spelled_need_name, spelled_needs}
@@ -63,7 +63,7 @@ definition_head d next = (2, 1) ∷ (2, d.flags) ∷ (2, d.index) ∷ (2, length
 definition_from : Form → Memory → ℕ → List ℕ → Option (Step DefinitionNumbers)
 definition_from form memory a bytes =
     let count = fixed_field form (6, 2) bytes in
-    let names = walked (definition_name_at form memory) count (a + fixed_field form (12, 4) bytes) in
+    let names = chain_steps (definition_name_at form memory) count (a + fixed_field form (12, 4) bytes) in
     Some (record {
       value = record { index = fixed_field form (4, 2) bytes; flags = fixed_field form (2, 2) bytes; names = values_of names };
       is_whole = is_whole_walk count names;
@@ -79,7 +79,7 @@ definition-back form bytes d fits a n rest near at =
     let count_fits : length d.names < 2 ^ 16 = fits.count in
     let cut : drop a bytes ≡ head ++ (names ++ rest) = at ∙ append_assoc head names rest in
     let inner : drop (a + 20) bytes ≡ names ++ rest = drop-front bytes head (names ++ rest) a 20 (length-fields form.order (definition_head d n)) cut in
-    let met : walked (definition_name_at form memory) (length d.names) (a + 20) ≡ steps_of (spelled_definition_name form.order) (λ name. 8) (λ name. name) d.names =
+    let met : chain_steps (definition_name_at form memory) (length d.names) (a + 20) ≡ steps_of (spelled_definition_name form.order) (λ name. 8) (λ name. name) d.names =
     walked-chained (spelled_definition_name form.order) (λ name. 8) (λ name. name) (definition_name_at form memory) bytes d.names (a + 20) rest
     (λ name next. length-fields form.order ((4, name) ∷ (4, next) ∷ [])) (λ name. omega arith)
     (by_each (λ (name : ℕ). name < 2 ^ 32) (ReadsBack (spelled_definition_name form.order) (λ name. 8) (λ name. name) (definition_name_at form memory) bytes) (λ name below. definition_name-back form bytes name below) d.names fits.names)
@@ -89,8 +89,8 @@ definition-back form bytes d fits a n rest near at =
     let count : fixed_field form (6, 2) head ≡ length d.names = field_is form ((2, 1) ∷ (2, d.flags) ∷ (2, d.index) ∷ []) ((4, d.hash) ∷ (4, 20) ∷ (4, n) ∷ []) 2 (length d.names) 6 refl fits.count in
     let first : fixed_field form (12, 4) head ≡ 20 = field_is form ((2, 1) ∷ (2, d.flags) ∷ (2, d.index) ∷ (2, length d.names) ∷ (4, d.hash) ∷ []) ((4, n) ∷ []) 4 20 12 refl (omega arith) in
     let next : fixed_field form (16, 4) head ≡ n = field_is form ((2, 1) ∷ (2, d.flags) ∷ (2, d.index) ∷ (2, length d.names) ∷ (4, d.hash) ∷ (4, 20) ∷ []) [] 4 n 16 refl (omega arith) in
-    let walk : walked (definition_name_at form memory) (fixed_field form (6, 2) head) (a + fixed_field form (12, 4) head) ≡ steps_of (spelled_definition_name form.order) (λ name. 8) (λ name. name) d.names =
-    (λ i. walked (definition_name_at form memory) (count i) (a + first i)) ∙ met in
+    let walk : chain_steps (definition_name_at form memory) (fixed_field form (6, 2) head) (a + fixed_field form (12, 4) head) ≡ steps_of (spelled_definition_name form.order) (λ name. 8) (λ name. name) d.names =
+    (λ i. chain_steps (definition_name_at form memory) (count i) (a + first i)) ∙ met in
     some_bind (bytes_at 20 memory a) (definition_from form memory a) head (bytes_at-front bytes head (names ++ rest) a 20 (length-fields form.order (definition_head d n)) cut)
     ∙ (λ i. Some (record { value = record { index = index i; flags = flags i; names = values_of (walk i) }; is_whole = is_whole_walk (count i) (walk i); next = next i }))
     ∙ (λ i. Some (record {
@@ -199,7 +199,7 @@ needs_head m next = (2, 1) ∷ (2, length m.versions) ∷ (4, m.file) ∷ (4, 16
 needs_from : Form → Memory → ℕ → List ℕ → Option (Step NeedNumbers)
 needs_from form memory a bytes =
     let count = fixed_field form (2, 2) bytes in
-    let versions = walked (need_name_at form memory) count (a + fixed_field form (8, 4) bytes) in
+    let versions = chain_steps (need_name_at form memory) count (a + fixed_field form (8, 4) bytes) in
     Some (record { value = record { file = fixed_field form (4, 4) bytes; versions = values_of versions }; is_whole = is_whole_walk count versions; next = fixed_field form (12, 4) bytes })
 
 needs-back : (form : Form) (bytes : List ℕ) (m : PlacedNeeds) → NeedsFit m → ReadsBack (spelled_needs form.order) needs_size needs_value (need_at form (memory_of bytes)) bytes m
@@ -211,7 +211,7 @@ needs-back form bytes m fits a n rest near at =
     let count_fits : length m.versions < 2 ^ 16 = fits.count in
     let cut : drop a bytes ≡ head ++ (versions ++ rest) = at ∙ append_assoc head versions rest in
     let inner : drop (a + 16) bytes ≡ versions ++ rest = drop-front bytes head (versions ++ rest) a 16 (length-fields form.order (needs_head m n)) cut in
-    let met : walked (need_name_at form memory) (length m.versions) (a + 16) ≡ steps_of (spelled_need_name form.order) (λ v. 16) need_name_value m.versions =
+    let met : chain_steps (need_name_at form memory) (length m.versions) (a + 16) ≡ steps_of (spelled_need_name form.order) (λ v. 16) need_name_value m.versions =
     walked-chained (spelled_need_name form.order) (λ v. 16) need_name_value (need_name_at form memory) bytes m.versions (a + 16) rest
     (λ v next. length-fields form.order ((4, v.hash) ∷ (2, v.flags) ∷ (2, v.index) ∷ (4, v.name) ∷ (4, next) ∷ [])) (λ v. omega arith)
     (by_each NameFits (ReadsBack (spelled_need_name form.order) (λ v. 16) need_name_value (need_name_at form memory) bytes) (λ v fit. need_name-back form bytes v fit) m.versions fits.versions)
@@ -220,8 +220,8 @@ needs-back form bytes m fits a n rest near at =
     let file : fixed_field form (4, 4) head ≡ m.file = field_is form ((2, 1) ∷ (2, length m.versions) ∷ []) ((4, 16) ∷ (4, n) ∷ []) 4 m.file 4 refl fits.file in
     let first : fixed_field form (8, 4) head ≡ 16 = field_is form ((2, 1) ∷ (2, length m.versions) ∷ (4, m.file) ∷ []) ((4, n) ∷ []) 4 16 8 refl (omega arith) in
     let next : fixed_field form (12, 4) head ≡ n = field_is form ((2, 1) ∷ (2, length m.versions) ∷ (4, m.file) ∷ (4, 16) ∷ []) [] 4 n 12 refl (omega arith) in
-    let walk : walked (need_name_at form memory) (fixed_field form (2, 2) head) (a + fixed_field form (8, 4) head) ≡ steps_of (spelled_need_name form.order) (λ v. 16) need_name_value m.versions =
-    (λ i. walked (need_name_at form memory) (count i) (a + first i)) ∙ met in
+    let walk : chain_steps (need_name_at form memory) (fixed_field form (2, 2) head) (a + fixed_field form (8, 4) head) ≡ steps_of (spelled_need_name form.order) (λ v. 16) need_name_value m.versions =
+    (λ i. chain_steps (need_name_at form memory) (count i) (a + first i)) ∙ met in
     some_bind (bytes_at 16 memory a) (needs_from form memory a) head (bytes_at-front bytes head (versions ++ rest) a 16 (length-fields form.order (needs_head m n)) cut)
     ∙ (λ i. Some (record { value = record { file = file i; versions = values_of (walk i) }; is_whole = is_whole_walk (count i) (walk i); next = next i }))
     ∙ (λ i. Some (record {

@@ -15,7 +15,7 @@ use Rattle.elf_format.specs.Views.{NamedSymbol, dynamic_symbol_count, loader_vie
 use Rattle.elf_format.proofs.ForCallers.ImageShows.{images_show}
 use Rattle.elf_hashes.specs.Found.{AreNamesOf}
 use Rattle.elf_layout_plan.specs.Needs.{are_needs_gone, written_entries}
-use Rattle.elf_write_spec.specs.Look.{name_seen}
+use Rattle.elf_write_spec.specs.Look.{loader_name}
 
 -- ## The dynamic list that is written
 
@@ -62,7 +62,7 @@ entries_listed read image h = by_list image.entries h (are_needs_gone read image
 
 -- it sees each symbol by its name
 pub names_are_seen : (file : List ℕ) (again : Image) → image_of file ≡ Ok again → (es : List Entry) → again.entries ≡ Some es
-    → lists_tag DT_SYMTAB es ≡ true → AreNamesOf again.dynamic_symbols (name_seen file)
+    → lists_tag DT_SYMTAB es ≡ true → AreNamesOf again.dynamic_symbols (loader_name file)
 names_are_seen file again read es listed names i y at =
     let seen : NamedSymbol → NamedSymbol = seen_symbol (lists_tag DT_VERSYM es) in
     let name_in : List NamedSymbol → Option (List ℕ) = λ ys. slice_get ys i >>= λ z. Some z.name in

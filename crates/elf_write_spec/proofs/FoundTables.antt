@@ -29,7 +29,7 @@ use Rattle.elf_image.specs.Renumbering.{can_renumber}
 use Rattle.elf_layout_plan.specs.Plan.{resized}
 use Rattle.elf_write_spec.specs.Contents.{IsGabiContent, IsGnuContent, gabi_buckets, sizes_in}
 use Rattle.elf_write_spec.specs.Final.{final}
-use Rattle.elf_write_spec.specs.Look.{FindsByGabiHash, FindsByGnuHash, loaded_from, name_seen}
+use Rattle.elf_write_spec.specs.Look.{FindsByGabiHash, FindsByGnuHash, loaded_from, loader_name}
 use Rattle.elf_write_spec.specs.Output.{DoNumbersFit, Output, written_bytes}
 use Rattle.elf_write_spec.specs.ReadBack.{IsRewrittenImage}
 use Rattle.elf_write_spec.proofs.OrderFacts.{HasSymbols, KeepsFirst, final_bucketed, length-final}
@@ -105,7 +105,7 @@ sizes_fit image s all told =
 
 module _ (w : Output) (again : Image) (same : IsRewrittenImage w again) (all : HasSymbols (image_at_read w.image) w.image)
     (first : KeepsFirst w.image) (changed : are_names_changed (image_at_read w.image) w.image ≡ true) (fit : DoNumbersFit w)
-    (names : AreNamesOf again.dynamic_symbols (name_seen (written_bytes w))) where
+    (names : AreNamesOf again.dynamic_symbols (loader_name (written_bytes w))) where
   can : can_renumber w.image ≡ true
   can = all.complete.tables changed
 
@@ -142,7 +142,7 @@ module _ (w : Output) (again : Image) (same : IsRewrittenImage w again) (all : H
       subst (λ (l : List NamedSymbol). IsGabiTable w.image.form told.buckets (hashed_names l) bytes) (sym same.dynamic_symbols)
       (subst (λ (n : ℕ). IsGabiTable w.image.form n (hashed_names (final (image_at_read w.image) w.image).dynamic_symbols) bytes) is
       (gabi_made s bytes content)) in
-      let holds : HoldsGabiTable again.form told.buckets ys m (name_seen (written_bytes w)) = record {
+      let holds : HoldsGabiTable again.form told.buckets ys m (loader_name (written_bytes w)) = record {
         some = told.some;
         buckets_fit = word_fits w.image.form s.section.content 0 told.buckets are told.is_there;
         symbols_fit = symbols_fit;
@@ -152,9 +152,9 @@ module _ (w : Output) (again : Image) (same : IsRewrittenImage w again) (all : H
         names = names;
       } in
       record {
-        finds = gabi_tables_find.finds again.form told.buckets ys m (name_seen (written_bytes w)) holds;
-        ends = gabi_tables_find.ends again.form told.buckets ys m (name_seen (written_bytes w)) holds;
-        counts = (gabi_tables_find.counts again.form told.buckets ys m (name_seen (written_bytes w)) holds).1;
+        finds = gabi_tables_find.finds again.form told.buckets ys m (loader_name (written_bytes w)) holds;
+        ends = gabi_tables_find.ends again.form told.buckets ys m (loader_name (written_bytes w)) holds;
+        counts = (gabi_tables_find.counts again.form told.buckets ys m (loader_name (written_bytes w)) holds).1;
       }
 
   -- ## The GNU table
@@ -179,7 +179,7 @@ module _ (w : Output) (again : Image) (same : IsRewrittenImage w again) (all : H
       let made : IsGnuTable w.image.form (sizes_in told.header) (hashed_names ys) bytes =
       subst (λ (l : List NamedSymbol). IsGnuTable w.image.form (sizes_in told.header) (hashed_names l) bytes) (sym same.dynamic_symbols)
       (gnu_made s bytes content told.header told.is_there) in
-      let holds : HoldsGnuTable again.form (sizes_in told.header) ys m (name_seen (written_bytes w)) = record {
+      let holds : HoldsGnuTable again.form (sizes_in told.header) ys m (loader_name (written_bytes w)) = record {
         sized = sizes_fit w.image s are told;
         symbols_fit = symbols_fit;
         bucketed = subst (λ (l : List NamedSymbol). AreBucketed (in_buckets told.header.buckets (hashes_of gnu_hash (hashed_names l))))
@@ -192,6 +192,6 @@ module _ (w : Output) (again : Image) (same : IsRewrittenImage w again) (all : H
         names = names;
       } in
       record {
-        finds = gnu_tables_find.finds again.form (sizes_in told.header) ys m (name_seen (written_bytes w)) holds;
-        ends = gnu_tables_find.ends again.form (sizes_in told.header) ys m (name_seen (written_bytes w)) holds;
+        finds = gnu_tables_find.finds again.form (sizes_in told.header) ys m (loader_name (written_bytes w)) holds;
+        ends = gnu_tables_find.ends again.form (sizes_in told.header) ys m (loader_name (written_bytes w)) holds;
       }

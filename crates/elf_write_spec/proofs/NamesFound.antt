@@ -20,7 +20,7 @@ use Rattle.elf_image.specs.Kept.{image_at_read}
 use Rattle.elf_image.specs.Names.{are_names_changed}
 use Rattle.elf_write_spec.specs.Final.{final}
 use Rattle.elf_write_spec.specs.Laws.{WrittenFilesFindNames}
-use Rattle.elf_write_spec.specs.Look.{AreNamesFound, FindsByGabiHash, FindsByGnuHash, loaded_from, name_seen}
+use Rattle.elf_write_spec.specs.Look.{AreNamesFound, FindsByGabiHash, FindsByGnuHash, loaded_from, loader_name}
 use Rattle.elf_write_spec.specs.Output.{IsPlannedOutput, Output, written_bytes}
 use Rattle.elf_write_spec.specs.ReadBack.{IsRewrittenImage, written_parts}
 use Rattle.elf_write_spec.proofs.ContentFacts.{gnu_hash_shown, hash_shown}
@@ -48,7 +48,7 @@ unfolding final
 final_listed read image listed = entries_listed read image listed
 
 module _ (w : Output) (is : IsPlannedOutput w) (changed : are_names_changed (image_at_read w.image) w.image ≡ true) (again : Image)
-    (same : IsRewrittenImage w again) (names : AreNamesOf again.dynamic_symbols (name_seen (written_bytes w))) (f : ReadFacts w) where
+    (same : IsRewrittenImage w again) (names : AreNamesOf again.dynamic_symbols (loader_name (written_bytes w))) (f : ReadFacts w) where
   first : KeepsFirst w.image
   first = keeps_first (image_at_read w.image) w.image f
 
@@ -111,6 +111,6 @@ written_files_find_names w is changed listed again read =
     let f : ReadFacts w = read_facts w is in
     let same = read_again w is again read in
     let (es, is_list, named) = final_listed (image_at_read w.image) w.image listed in
-    let names : AreNamesOf again.dynamic_symbols (name_seen (written_bytes w)) =
+    let names : AreNamesOf again.dynamic_symbols (loader_name (written_bytes w)) =
     names_are_seen (written_bytes w) again read es (same.entries ∙ is_list) named in
     found_by_list w is changed again same names f (type_at w is f SHT_DYNAMIC refl)

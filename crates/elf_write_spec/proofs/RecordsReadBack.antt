@@ -11,7 +11,7 @@ use Rattle.elf_format.specs.File.{section_of_type}
 use Rattle.elf_format.specs.Image.{ImageSection, definitions_read, needs_read}
 use Rattle.elf_format.specs.Options.{each, is_one_of}
 use Rattle.elf_format.specs.Rules.{definition_steps, linked_texts, need_steps, text_users}
-use Rattle.elf_format.specs.Versions.{DefinitionNumbers, NeedNumbers, Step, VersionDefinition, VersionNeeds, definition_at, is_whole_walk, need_at, shown_definition, shown_need, values_of, walked}
+use Rattle.elf_format.specs.Versions.{DefinitionNumbers, NeedNumbers, Step, VersionDefinition, VersionNeeds, definition_at, is_whole_walk, need_at, shown_definition, shown_need, values_of, chain_steps}
 use Rattle.elf_format.specs.Views.{defined_versions, needed_versions, whole_chain}
 use Rattle.elf_format.proofs.ForCallers.Agreement.{each-agrees, shown_definition-keeps, shown_need-keeps}
 use Rattle.elf_image.specs.Edited.{AreSameNeeds}
@@ -34,14 +34,14 @@ use Rattle.elf_write_spec.proofs.WholeFacts.{ReadFacts, SectionAt, There, Nowher
 
 -- a chain whose records are all there, and each shown
 record IsShown {A B : Type 0} (read : ℕ → Option (Step A)) (show : A → Option B) (count : ℕ) (values : List B) : Type 0 where
-  whole : is_whole_walk count (walked read count 0) ≡ true
-  shown : each show (values_of (walked read count 0)) ≡ Some values
+  whole : is_whole_walk count (chain_steps read count 0) ≡ true
+  shown : each show (values_of (chain_steps read count 0)) ≡ Some values
 
 chain_shown : {A B : Type 0} (read : ℕ → Option (Step A)) (show : A → Option B) (count : ℕ) (values : List B)
     → (whole_chain read count >>= λ xs. each show xs) ≡ Some values → IsShown read show count values
 unfolding whole_chain
 chain_shown {A} {B} read show count values h =
-    let steps : List (Step A) = walked read count 0 in
+    let steps : List (Step A) = chain_steps read count 0 in
     let (xs, chain, made) = bind_some (cond (is_whole_walk count steps) (Some (values_of steps)) None) (λ xs. each show xs) values h in
     let (whole, same) = cond_some (is_whole_walk count steps) (values_of steps) xs chain in
     record { whole = whole; shown = ap (each show) same ∙ made }
@@ -118,9 +118,9 @@ module _ (w : Output) (is : IsPlannedOutput w) (has : HasWrittenParts w) (f : Re
       let content : AreDefinitionsIn w.image l.table.bytes at.bytes =
       subst (λ (xs : List ℕ). AreDefinitionsIn w.image xs at.bytes) l.are_strings (definitions_content w is f i at e) in
       let shown = definitions_shown w.image.form room at.bytes l.table.bytes count ds (content.read room (texts_fit w is has f i at l)) in
-      let steps : definition_steps (written_parts w) at.header ≡ walked (definition_at w.image.form (memory_of at.bytes)) count 0 =
-      ap (λ (xs : List ℕ). walked (definition_at w.image.form (memory_of xs)) at.header.sh_info 0) (bytes_are w is has f i at)
-      ∙ ap (λ (n : ℕ). walked (definition_at w.image.form (memory_of at.bytes)) n 0) (definitions_count w is f i at e) in
+      let steps : definition_steps (written_parts w) at.header ≡ chain_steps (definition_at w.image.form (memory_of at.bytes)) count 0 =
+      ap (λ (xs : List ℕ). chain_steps (definition_at w.image.form (memory_of xs)) at.header.sh_info 0) (bytes_are w is has f i at)
+      ∙ ap (λ (n : ℕ). chain_steps (definition_at w.image.form (memory_of at.bytes)) n 0) (definitions_count w is f i at e) in
       record {
         whole = ap (λ (n : ℕ). is_whole_walk n (definition_steps (written_parts w) at.header)) (definitions_count w is f i at e)
             ∙ ap (is_whole_walk count) steps ∙ shown.whole;
@@ -128,7 +128,7 @@ module _ (w : Output) (is : IsPlannedOutput w) (has : HasWrittenParts w) (f : Re
             ∙ each-agrees (shown_definition room (memory_of l.table.bytes)) (shown_definition room texts)
             (shown_definition-keeps room room (omega arith) (memory_of l.table.bytes) texts
             (texts_kept w is has f i at l (definitions_shared w is has f at.old was)))
-            (values_of (walked (definition_at w.image.form (memory_of at.bytes)) count 0)) ds shown.shown;
+            (values_of (chain_steps (definition_at w.image.form (memory_of at.bytes)) count 0)) ds shown.shown;
       }
 
   pub needs_at : at.old.sh_type ≡ SHT_GNU_VERNEED → section_of_type SHT_GNU_VERNEED f.parts.sections ≡ Some at.old → AreNeedsReadBack
@@ -141,9 +141,9 @@ module _ (w : Output) (is : IsPlannedOutput w) (has : HasWrittenParts w) (f : Re
       let content : AreNeedsIn (resized w.image) l.table.bytes at.bytes =
       subst (λ (xs : List ℕ). AreNeedsIn (resized w.image) xs at.bytes) l.are_strings (needs_content w is f i at e) in
       let shown = needs_shown w.image.form room at.bytes l.table.bytes count ns (content.read room (texts_fit w is has f i at l)) in
-      let steps : need_steps (written_parts w) at.header ≡ walked (need_at w.image.form (memory_of at.bytes)) count 0 =
-      ap (λ (xs : List ℕ). walked (need_at w.image.form (memory_of xs)) at.header.sh_info 0) (bytes_are w is has f i at)
-      ∙ ap (λ (n : ℕ). walked (need_at w.image.form (memory_of at.bytes)) n 0) (needs_count w is f i at e) in
+      let steps : need_steps (written_parts w) at.header ≡ chain_steps (need_at w.image.form (memory_of at.bytes)) count 0 =
+      ap (λ (xs : List ℕ). chain_steps (need_at w.image.form (memory_of xs)) at.header.sh_info 0) (bytes_are w is has f i at)
+      ∙ ap (λ (n : ℕ). chain_steps (need_at w.image.form (memory_of at.bytes)) n 0) (needs_count w is f i at e) in
       record {
         whole = ap (λ (n : ℕ). is_whole_walk n (need_steps (written_parts w) at.header)) (needs_count w is f i at e)
             ∙ ap (is_whole_walk count) steps ∙ shown.whole;
@@ -151,7 +151,7 @@ module _ (w : Output) (is : IsPlannedOutput w) (has : HasWrittenParts w) (f : Re
             ∙ each-agrees (shown_need room (memory_of l.table.bytes)) (shown_need room texts)
             (shown_need-keeps room room (omega arith) (memory_of l.table.bytes) texts
             (texts_kept w is has f i at l (needs_shared w is has f at.old was)))
-            (values_of (walked (need_at w.image.form (memory_of at.bytes)) count 0)) ns shown.shown;
+            (values_of (chain_steps (need_at w.image.form (memory_of at.bytes)) count 0)) ns shown.shown;
       }
 
 -- ## All of them

@@ -19,7 +19,7 @@ use Rattle.elf_format.specs.Image.{Image, definitions_read, needs_read}
 use Rattle.elf_format.specs.Options.{each, is_some_and}
 use Rattle.elf_layout_plan.specs.Needs.{do_needs_stay, is_version_dropped, lists_needs, staying_names, staying_needs, with_staying_names, written_needs}
 use Rattle.elf_format.specs.Rules.{definition_steps, file_of, linked_texts, need_steps}
-use Rattle.elf_format.specs.Versions.{DefinitionNumbers, NeedNumbers, Step, VersionDefinition, VersionName, VersionNeeds, definition_at, definition_name_at, is_whole_walk, need_at, need_name_at, shown_definition, shown_need, shown_need_name, values_of, walked}
+use Rattle.elf_format.specs.Versions.{DefinitionNumbers, NeedNumbers, Step, VersionDefinition, VersionName, VersionNeeds, definition_at, definition_name_at, is_whole_walk, need_at, need_name_at, shown_definition, shown_need, shown_need_name, values_of, chain_steps}
 use Rattle.elf_format.specs.declared.records.NeedNameNumbers.{NeedNameNumbers}
 use Rattle.elf_format.proofs.ForCallers.NumberSteps.{number_at-below}
 use Rattle.elf_image.specs.Edited.{IsEdited}
@@ -67,39 +67,39 @@ half_below form pos bytes are =
 met : {A : Type 0} → (ℕ → Option (Step A)) → ℕ → ℕ → Option (Step A) → List (Step A)
 met read count a o = elim o [
   | None ↦ []
-  | Some step ↦ step ∷ (elim (step.is_whole && not (step.next == 0)) [ true ↦ walked read count (a + step.next) | _ ↦ [] ])
+  | Some step ↦ step ∷ (elim (step.is_whole && not (step.next == 0)) [ true ↦ chain_steps read count (a + step.next) | _ ↦ [] ])
 ]
 
 met_short : {A : Type 0} (read : ℕ → Option (Step A)) (count a : ℕ) (o : Option (Step A))
-    → ((b : ℕ) → length (walked read count b) ≤ count) → length (met read count a o) ≤ suc count
+    → ((b : ℕ) → length (chain_steps read count b) ≤ count) → length (met read count a o) ≤ suc count
 unfolding met
 met_short read count a None more = omega arith
 met_short {A} read count a (Some step) more = by_test (step.is_whole && not (step.next == 0))
   where
-    by_test : (b : Bool) → length (step ∷ (elim b as (λ _. List (Step A)) [ true ↦ walked read count (a + step.next) | _ ↦ [] ])) ≤ suc count
+    by_test : (b : Bool) → length (step ∷ (elim b as (λ _. List (Step A)) [ true ↦ chain_steps read count (a + step.next) | _ ↦ [] ])) ≤ suc count
     by_test true = let short = more (a + step.next) in omega (arith, short)
     by_test false = omega arith
 
 -- a walk meets no more records than it should
-pub walk_short : {A : Type 0} (read : ℕ → Option (Step A)) (count a : ℕ) → length (walked read count a) ≤ count
-unfolding walked met
+pub walk_short : {A : Type 0} (read : ℕ → Option (Step A)) (count a : ℕ) → length (chain_steps read count a) ≤ count
+unfolding chain_steps met
 walk_short read zero a = omega arith
 walk_short read (suc count) a = met_short read count a (read a) (λ b. walk_short read count b)
 
 met_all : {A : Type 0} (P : A → Type 0) (read : ℕ → Option (Step A)) (count a : ℕ) (o : Option (Step A)) → ((s : Step A) → o ≡ Some s → P s.value)
-    → ((b : ℕ) → AllByRecursion P (values_of (walked read count b))) → AllByRecursion P (values_of (met read count a o))
+    → ((b : ℕ) → AllByRecursion P (values_of (chain_steps read count b))) → AllByRecursion P (values_of (met read count a o))
 unfolding met
 met_all P read count a None here more = tt
 met_all {A} P read count a (Some step) here more = (here step refl, by_test (step.is_whole && not (step.next == 0)))
   where
-    by_test : (b : Bool) → AllByRecursion P (values_of (elim b as (λ _. List (Step A)) [ true ↦ walked read count (a + step.next) | _ ↦ [] ]))
+    by_test : (b : Bool) → AllByRecursion P (values_of (elim b as (λ _. List (Step A)) [ true ↦ chain_steps read count (a + step.next) | _ ↦ [] ]))
     by_test true = more (a + step.next)
     by_test false = tt
 
 -- what holds of each record holds of all that a walk meets
 pub walk_all : {A : Type 0} (P : A → Type 0) (read : ℕ → Option (Step A)) → ((a : ℕ) (s : Step A) → read a ≡ Some s → P s.value)
-    → (count a : ℕ) → AllByRecursion P (values_of (walked read count a))
-unfolding walked met
+    → (count a : ℕ) → AllByRecursion P (values_of (chain_steps read count a))
+unfolding chain_steps met
 walk_all P read holds zero a = tt
 walk_all P read holds (suc count) a = met_all P read count a (read a) (λ s there. holds a s there) (λ b. walk_all P read holds count b)
 
@@ -108,7 +108,7 @@ walk_all P read holds (suc count) a = met_all P read count a (read a) (λ s ther
 definition_step : Form → Memory → ℕ → List ℕ → Step DefinitionNumbers
 definition_step form memory a bytes =
     let count = fixed_field form (6, 2) bytes in
-    let names = walked (definition_name_at form memory) count (a + fixed_field form (12, 4) bytes) in
+    let names = chain_steps (definition_name_at form memory) count (a + fixed_field form (12, 4) bytes) in
     record {
       value = record { index = fixed_field form (4, 2) bytes; flags = fixed_field form (2, 2) bytes; names = values_of names };
       is_whole = is_whole_walk count names;
@@ -123,7 +123,7 @@ unfolding definition_step
 step_short form memory a bytes are =
     let count : ℕ = fixed_field form (6, 2) bytes in
     let below : count < 2 ^ 16 = half_below form 6 bytes are in
-    let names : List (Step ℕ) = walked (definition_name_at form memory) count (a + fixed_field form (12, 4) bytes) in
+    let names : List (Step ℕ) = chain_steps (definition_name_at form memory) count (a + fixed_field form (12, 4) bytes) in
     let short : length names ≤ count = walk_short (definition_name_at form memory) count (a + fixed_field form (12, 4) bytes) in
     let same : length (values_of names) ≡ length names = length-map names (λ (s : Step ℕ). s.value) in
     omega (arith, below, short, same)
@@ -185,7 +185,7 @@ few_names image is are =
 need_step : Form → Memory → ℕ → List ℕ → Step NeedNumbers
 need_step form memory a bytes =
     let count = fixed_field form (2, 2) bytes in
-    let versions = walked (need_name_at form memory) count (a + fixed_field form (8, 4) bytes) in
+    let versions = chain_steps (need_name_at form memory) count (a + fixed_field form (8, 4) bytes) in
     record {
       value = record { file = fixed_field form (4, 4) bytes; versions = values_of versions };
       is_whole = is_whole_walk count versions;
@@ -200,7 +200,7 @@ unfolding need_step
 need_step_short form memory a bytes are =
     let count : ℕ = fixed_field form (2, 2) bytes in
     let below : count < 2 ^ 16 = half_below form 2 bytes are in
-    let versions : List (Step NeedNameNumbers) = walked (need_name_at form memory) count (a + fixed_field form (8, 4) bytes) in
+    let versions : List (Step NeedNameNumbers) = chain_steps (need_name_at form memory) count (a + fixed_field form (8, 4) bytes) in
     let short : length versions ≤ count = walk_short (need_name_at form memory) count (a + fixed_field form (8, 4) bytes) in
     let same : length (values_of versions) ≡ length versions = length-map versions (λ (s : Step NeedNameNumbers). s.value) in
     omega (arith, below, short, same)

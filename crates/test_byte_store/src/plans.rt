@@ -126,7 +126,7 @@ fn done(alloc: Global, store: &mut TrialStore, old: &[u8], task: Task<'_>) -> &'
 }
 
 // The same. A call that was refused memory leaves the store as it was, and is made again.
-fn settled(rt: &impl Runtime, store: &mut TrialStore, old: &[u8], task: Task<'_>) -> &'static str {
+fn retried(rt: &impl Runtime, store: &mut TrialStore, old: &[u8], task: Task<'_>) -> &'static str {
     let word = done(rt.alloc(), store, old, task);
     if word != MEMORY {
         return word;
@@ -145,7 +145,7 @@ pub(crate) fn follow(
     row: &Row<'_>,
 ) {
     let mut store = TrialStore::new(rt, old, row.0, stays_closed);
-    let word = settled(rt, &mut store, old, task);
+    let word = retried(rt, &mut store, old, task);
     expect(rt, &store, word, row);
 }
 

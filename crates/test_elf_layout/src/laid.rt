@@ -49,7 +49,7 @@ fn read(alloc: Global, bytes: &[u8], has_more: bool) -> Result<Found, ElfFault> 
 }
 
 // The same, read once more where memory was refused.
-fn found(alloc: Global, bytes: &[u8], has_more: bool) -> Option<Found> {
+fn read_again(alloc: Global, bytes: &[u8], has_more: bool) -> Option<Found> {
     match read(alloc, bytes, has_more) {
         Ok(found) => Some(found),
         Err(_) => read(alloc, bytes, has_more).ok(),
@@ -59,7 +59,7 @@ fn found(alloc: Global, bytes: &[u8], has_more: bool) -> Option<Found> {
 // Compares what is found of a file, with one more program header or none.
 fn expect(rt: &impl Runtime, counts: &Counts, has_more: bool, want: Found) {
     let bytes = file(rt, counts);
-    let found = found(rt.alloc(), &bytes, has_more);
+    let found = read_again(rt.alloc(), &bytes, has_more);
     same(rt, "counts", &found, &Some(want));
 }
 

@@ -397,7 +397,7 @@ fn found_in(commands: &[LoadCommand], index: usize) -> [Option<(usize, u32)>; 3]
 }
 
 // The same for a file.
-fn found(alloc: Global, index: usize) -> Result<[Option<(usize, u32)>; 3], MachFault> {
+fn found_in_file(alloc: Global, index: usize) -> Result<[Option<(usize, u32)>; 3], MachFault> {
     Ok(found_in(MachO::parse(alloc, WITH_RPATH)?.load_commands(), index))
 }
 
@@ -411,7 +411,7 @@ fn finds_commands(rt: HostRuntime) {
         same(
             &rt,
             "commands",
-            &again!(&rt; found(rt.alloc(), index)),
+            &again!(&rt; found_in_file(rt.alloc(), index)),
             &Ok(want),
         );
     }

@@ -215,7 +215,7 @@ fn strays(alloc: Global, blocks: &[Block]) -> Result<Vec<bool>, AllocError> {
 }
 
 /// Marks the block that moves of two, and tells which one stays, the last one or the next one.
-fn meet(blocks: &[Block], last: usize, next: usize, moves: &mut [bool]) -> usize {
+fn mark_overlap(blocks: &[Block], last: usize, next: usize, moves: &mut [bool]) -> usize {
     let (Some(a), Some(b)) = (blocks.get(last), blocks.get(next)) else {
         return next;
     };
@@ -245,7 +245,7 @@ fn mark_moving(blocks: &[Block], moves: &mut [bool], done: &mut [bool]) {
         if let Some(next) = earliest(blocks, done) {
             last = match last {
                 None => Some(next),
-                Some(last) => Some(meet(blocks, last, next, moves)),
+                Some(last) => Some(mark_overlap(blocks, last, next, moves)),
             };
             mark(done, next);
         }

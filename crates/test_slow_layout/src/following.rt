@@ -76,16 +76,6 @@ fn section_or<'a>(part: Option<&'a Part>, other: Anchor<'a>) -> Anchor<'a> {
     }
 }
 
-/// The first section of a type.
-fn first_of_type(plain: &Plain, sh_type: u32) -> Option<&Part> {
-    for part in &plain.parts {
-        if part.sh_type == sh_type {
-            return Some(part);
-        }
-    }
-    None
-}
-
 fn interpreter(plain: &Plain) -> Option<&Part> {
     for part in &plain.parts {
         if matches!(plain.facts.interpreter, Some(it) if it == part.number) {
@@ -97,10 +87,11 @@ fn interpreter(plain: &Plain) -> Option<&Part> {
 
 /// What a program header goes by.
 pub(crate) fn anchor_of<'a>(plain: &'a Plain, piece: &Piece) -> Anchor<'a> {
+    let dynamic = plain.parts.iter().find(|part| part.sh_type == SHT_DYNAMIC);
     match piece.p_type {
         PT_LOAD => Anchor::Itself,
         PT_PHDR => section_or(section_under(plain, piece), Anchor::HeaderTable),
-        PT_DYNAMIC => section_or(first_of_type(plain, SHT_DYNAMIC), Anchor::Itself),
+        PT_DYNAMIC => section_or(dynamic, Anchor::Itself),
         PT_INTERP => section_or(interpreter(plain), Anchor::Itself),
         PT_GNU_RELRO if plain.facts.moves_dynamic => Anchor::Itself,
         _ if piece.in_file == 0 => Anchor::Itself,

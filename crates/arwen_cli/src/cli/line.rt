@@ -9,7 +9,7 @@ ghost use Rattle.macho_commands.specs.Meaning.{macho_command_model};
 ghost use Rattle.arwen_cli.specs.Meaning.{shown};
 ghost use Rattle.arwen_cli.specs.Line.{has_option, meaning_of};
 ghost use Rattle.arwen_cli.specs.Moving.{MeansMoving, takes_leave as takes_the_leave};
-ghost use Rattle.arwen_cli_show.specs.Args.{ShowMeaning, args_meant, args_model};
+ghost use Rattle.arwen_cli_show.specs.Args.{ShowMeaning, meaning_of_args, args_model};
 ghost use Rattle.arwen_cli.specs.Parser.{MayRefuse, MayRefuseReading, MayRefuseTaken, MeansBy, MeansTaken};
 
 use crate::cli::parser::{First, parse_values};
@@ -261,9 +261,9 @@ fn parse_elf(alloc: Global, words: &[&str]) -> Result<ElfCommand, ArwenError>
 /// What a line asks for whose first word is `show`, by the words behind it.
 fn parse_show(alloc: Global, words: &[&str]) -> Result<Args, ArwenError>
     ensures means { IfOk result (λ args.
-        args_meant (map (λ w. w.now) words.now) ≡ Some (args_model args)) }
+        meaning_of_args (map (λ w. w.now) words.now) ≡ Some (args_model args)) }
     ensures refused { IfErr result (λ error. (meaning : ShowMeaning)
-        → args_meant (map (λ w. w.now) words.now) ≡ Some meaning → error ≡ ArwenError.Memory) }
+        → meaning_of_args (map (λ w. w.now) words.now) ≡ Some meaning → error ≡ ArwenError.Memory) }
     ensures err { IfErr result (λ error. IsOfLine error) }
 {
     match parse_args(alloc, words) {

@@ -5,7 +5,7 @@ use Rattle.std.specs.declared.alloc.Global.{Global}
 use Rattle.std.specs.declared.vec.Vec.{Vec}
 use Rattle.std.proofs.lemmas.Result.{IfErr-weaker}
 use Rattle.command_words.specs.Rows.{Text}
-use Rattle.arwen_cli_patchelf.specs.Made.{prefixes_meant}
+use Rattle.arwen_cli_patchelf.specs.Made.{prefixes_model}
 use Rattle.arwen_cli_patchelf.specs.Patched.{FailsPatch}
 use Rattle.arwen_cli_patchelf.specs.Steps.{FailsApplied}
 use Rattle.arwen_cli_patchelf.proofs.StepLaws.{applied_fails}
@@ -18,6 +18,6 @@ returns-in-None-clause-left g c =
     let new = g.S.Store.contents c.apply_if.new.store in
     let words : List Text = map string_bytes c.args.plan.now.words.items in
     let At : List (String Global) → Type 0 = λ ws. IfErr c.apply_if.result (FailsApplied (map string_bytes ws) old new) in
-    let Of : Option (Vec (String Global) Global) → Type 0 = λ o. IfErr c.apply_if.result (FailsPatch finds (record { shrinks = prefixes_meant o; words = words }) old new) in
+    let Of : Option (Vec (String Global) Global) → Type 0 = λ o. IfErr c.apply_if.result (FailsPatch finds (record { shrinks = prefixes_model o; words = words }) old new) in
     subst Of (sym c.in-None.is)
     (IfErr-weaker c.apply_if.result _ _ (λ e fails. applied_fails finds words old new e fails) (subst At c.as_slice.ensures.value c.apply_if.ensures.left))

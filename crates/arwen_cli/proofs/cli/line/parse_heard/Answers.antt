@@ -1,7 +1,7 @@
 -- The parser's clauses give what its words say.
 use Rattle.std.proofs.Common.{◌≡◌, ◌∙◌, ◌≤◌, ◌-◌, Bor, List, Option, Some, ap, arith, codes, drop, length, length-drop, rules, sym, take}
 use Rattle.std.proofs.lemmas.List.{take_all}
-use Rattle.arwen_cli_show.specs.Args.{ShowMeaning, args_meant, args_model}
+use Rattle.arwen_cli_show.specs.Args.{ShowMeaning, meaning_of_args, args_model}
 use Rattle.std.specs.Prelude.{slice_get}
 use Rattle.std.proofs.lemmas.Result.{err_from_is_err_and}
 use Rattle.clap.specs.Lexer.{usize_max}
@@ -25,7 +25,7 @@ behind_first : (words : List (Bor Text)) → take (length words - 1) (drop 1 wor
 behind_first words = take_all (length words - 1) (drop 1 words) (omega (arith, length-drop 1 words))
 
 abbrev asked : List (Bor Text) → Option ShowMeaning
-asked words = args_meant (texts words)
+asked words = meaning_of_args (texts words)
 
 pub returns-in_err-parse_macho-in-macho-clause-refused :
     goal.returns-in_err-parse_macho-in-macho-clause-refused
