@@ -5,7 +5,7 @@ use Rattle.byte_store.specs.declared.reading.ReadError.{ReadError}
 use Rattle.byte_store.specs.declared.reading.ReadError.TheVariants as read
 use Rattle.elf_commands.specs.ElfErrors.{answer_to_read}
 use Rattle.command_words.specs.Loading.{IsNotLoaded}
-use Rattle.elf_commands.specs.Failures.{HasReadCause, HasReadCauseAt}
+use Rattle.elf_commands.specs.Failures.{HasReadCause}
 use Rattle.elf_commands.specs.ElfCommandError.{ElfCommandError}
 use Rattle.elf_commands.specs.ElfCommandError.TheVariants.{Edits, Elf, ElfBatch, Io, Memory}
 use Rattle.elf_commands.specs.Shrinking.{Finding}
@@ -43,12 +43,11 @@ unread_cause reads known a b read.Memory why = tt
 unread_cause reads known a b (read.Io e) why = why
 
 -- the store was opened at a path
-opened_cause : (opens reads : Error → Type 0) (known old : Option (List ℕ)) (a b : ℕ) (e : ElfCommandError) → old ≡ known → a ≡ 0 → HasReadCause reads old a b e → HasReadCauseAt opens reads known e
-opened_cause opens reads known old a b (Io e) same fresh why =
-    let Of : Option (List ℕ) → Type 0 = λ o. IsNotLoaded reads o a b (read.Io e) in
-    let From : ℕ → Type 0 = λ n. IsNotLoaded reads known n b (read.Io e) in
-    inr (b, subst From fresh (subst Of same why))
-opened_cause opens reads known old a b e same fresh why = tt
+pub opened_cause : (reads : Error → Type 0) (known old : Option (List ℕ)) (a b : ℕ) (e : ElfCommandError) → old ≡ known → a ≡ 0 → HasReadCause reads old a b e → HasReadCause reads known 0 b e
+opened_cause reads known old a b e same fresh why =
+    let Of : Option (List ℕ) → Type 0 = λ o. HasReadCause reads o a b e in
+    let From : ℕ → Type 0 = λ n. HasReadCause reads known n b e in
+    subst From fresh (subst Of same why)
 
 -- ## A new file
 
@@ -79,16 +78,16 @@ cut_off_cause {W} {X} unread creates is_new contents inner failed finds plan kno
     (made, is, subst Of same cut)
 
 -- of a store that was opened at a path
-pub output_cause_at : {W X : Type 0} (opens reads creates : Error → Type 0) (is_new : Option (List ℕ) → Type 0) (contents : W → Option (List ℕ)) (inner : X → W) (failed : X → ℕ) (finds : Finding) (plan : PlanMeant)
+pub output_cause_at : {W X : Type 0} (reads creates : Error → Type 0) (is_new : Option (List ℕ) → Type 0) (contents : W → Option (List ℕ)) (inner : X → W) (failed : X → ℕ) (finds : Finding) (plan : PlanMeant)
     (known old : Option (List ℕ)) (a b : ℕ) (e : ElfCommandError) (file : Option X) → old ≡ known → a ≡ 0
     → HasOutputCause (HasReadCause reads old a b) creates is_new contents inner failed finds plan old e file
-    → HasOutputCause (HasReadCauseAt opens reads known) creates is_new contents inner failed finds plan known e file
-output_cause_at {W} {X} opens reads creates is_new contents inner failed finds plan known old a b e None same fresh (inl why) =
-    inl (opened_cause opens reads known old a b e same fresh why)
-output_cause_at {W} {X} opens reads creates is_new contents inner failed finds plan known old a b e None same fresh (inr cut) =
+    → HasOutputCause (HasReadCause reads known 0 b) creates is_new contents inner failed finds plan known e file
+output_cause_at {W} {X} reads creates is_new contents inner failed finds plan known old a b e None same fresh (inl why) =
+    inl (opened_cause reads known old a b e same fresh why)
+output_cause_at {W} {X} reads creates is_new contents inner failed finds plan known old a b e None same fresh (inr cut) =
     let none : Option X = None in
     let Of : Option (List ℕ) → Type 0 = λ o. IsMadeAndCutOff creates is_new contents inner failed finds plan o e none in
     inr (subst Of same cut)
-output_cause_at {W} {X} opens reads creates is_new contents inner failed finds plan known old a b e (Some file) same fresh cut =
+output_cause_at {W} {X} reads creates is_new contents inner failed finds plan known old a b e (Some file) same fresh cut =
     let Of : Option (List ℕ) → Type 0 = λ o. IsMadeAndCutOff creates is_new contents inner failed finds plan o e (Some file) in
     subst Of same cut

@@ -1,17 +1,25 @@
 -- Prints, one behind the other.
-use Rattle.std.proofs.Common.{◌≡◌, [], ◌∷◌, ◌==◌, false, ℕ, List, Option, inl, inr, length, refl, subst}
+use Rattle.std.proofs.Common.{◌≡◌, ◌≤◌, [], ◌∷◌, ◌==◌, arith, false, ℕ, List, Option, inl, inr, length, refl, subst}
 use Rattle.std.specs.declared.io.Error.{Error}
 use Rattle.elf_commands.specs.ElfCommandError.{ElfCommandError}
 use Rattle.elf_commands.specs.ElfCommandError.TheVariants.{Edits, Elf, ElfBatch, Io, Memory}
+use Rattle.byte_store.specs.declared.reading.ReadError.TheVariants as read
+use Rattle.command_words.specs.Loading.{IsNotLoaded}
 use Rattle.elf_commands.specs.ElfStores.{IsUnopened}
+use Rattle.elf_commands.specs.Failures.{HasReadCause}
 use Rattle.arwen_cli_patchelf.specs.declared.printing.Print.{Print}
-use Rattle.arwen_cli_patchelf.specs.Printing.{HasPrintCause, HasPrintCauseAt, TellsPrints}
+use Rattle.arwen_cli_patchelf.specs.Printing.{TellsPrints}
 
--- the store at a path
-pub print_cause_at : (opens reads : Error → Type 0) (known old : Option (List ℕ)) (e : ElfCommandError) → old ≡ known → HasPrintCause reads old e → HasPrintCauseAt opens reads known e
-print_cause_at opens reads known old (Io e) same why =
-    let P : Option (List ℕ) → Type 0 = λ o. HasPrintCause reads o (Io e) in inr (subst P same why)
-print_cause_at opens reads known old e same why = tt
+-- a read that fails later
+pub read_later : (reads : Error → Type 0) (known mid : Option (List ℕ)) (a b c : ℕ) (e : ElfCommandError) → mid ≡ known → a ≤ b → HasReadCause reads mid b c e → HasReadCause reads known a c e
+read_later reads known mid a b c (Io e) same grows why =
+    let Of : Option (List ℕ) → Type 0 = λ o. IsNotLoaded reads o b c (read.Io e) in
+    elim (subst Of same why) [
+      | inl (may, rises) ↦ inl (may, (omega (arith, grows, rises.0), λ below. omega (arith, grows, rises.1 below)))
+      | inr (inl (other, fails)) ↦ inr (inl (other, λ all knows. let (rises, some) = fails all knows in ((omega (arith, grows, rises.0), λ below. omega (arith, grows, rises.1 below)), some)))
+      | inr (inr long) ↦ inr (inr long)
+    ]
+read_later reads known mid a b c e same grows why = tt
 
 -- an opening that failed
 pub unopened : {W S : Type 0} (contents : W → Option (List ℕ)) (failed : W → ℕ) (prints : List Print) (known : Option (List ℕ)) (w : W) (opens : Error → Type 0) (e : ElfCommandError) (store : Option S)

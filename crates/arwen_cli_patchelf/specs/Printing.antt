@@ -1,14 +1,11 @@
 -- What lines of patchelf print of a file, and in which order.
-use Rattle.std.specs.Prelude.{ℕ, ◌≡◌, ◌⊎◌, List, [], ◌∷◌, Option, Some, None, Result, Ok, Err, codes, if◌then◌else◌, ⊤}
+use Rattle.std.specs.Prelude.{ℕ, ◌≡◌, ◌⊎◌, List, [], ◌∷◌, Option, Some, None, Result, Ok, Err, codes, if◌then◌else◌}
 use Rattle.std.specs.Io.KnownBytes.{Appends}
-use Rattle.std.specs.declared.io.Error.{Error}
 use Rattle.byte_store.specs.Known.{Stays}
-use Rattle.byte_store.specs.declared.reading.ReadError.TheVariants as read
 use Rattle.elf_apply.specs.declared.error.ElfError.{ElfError}
 use Rattle.elf_apply.specs.declared.error.ElfError.TheVariants as elf
 use Rattle.elf_image.specs.Image.{Image, image_of, shown}
 use Rattle.elf_format.specs.declared.fault.ElfFault.{ElfFault}
-use Rattle.command_words.specs.Loading.{IsNotLoaded}
 use Rattle.elf_commands.specs.Prints.{StopsWriting}
 use Rattle.elf_commands.specs.ElfCommandError.{ElfCommandError}
 use Rattle.elf_commands.specs.ElfCommandError.TheVariants.{Elf, Io, Memory}
@@ -91,13 +88,3 @@ abbrev pub TellsPrints : {W : Type 0} → (W → Option (List ℕ)) → (W → �
 TellsPrints contents failed [] known old new e = ⊥
 TellsPrints {W} contents failed (print ∷ rest) known old new e = TellsPrint contents failed print known old new e
     ⊎ ((mid : W) × IsPrinted print known (contents old) (contents mid) × TellsPrints contents failed rest known mid new e)
-
--- an error of reading is one of a store of these bytes, since some count of its failures
-abbrev pub HasPrintCause : (Error → Type 0) → Option (List ℕ) → ElfCommandError → Type 0
-HasPrintCause reads known (Io e) = (old : ℕ) × (new : ℕ) × IsNotLoaded reads known old new (read.Io e)
-HasPrintCause reads known e = ⊤
-
--- at a path: or the opening answered it
-abbrev pub HasPrintCauseAt : (Error → Type 0) → (Error → Type 0) → Option (List ℕ) → ElfCommandError → Type 0
-HasPrintCauseAt opens reads known (Io e) = opens e ⊎ HasPrintCause reads known (Io e)
-HasPrintCauseAt opens reads known e = ⊤

@@ -1,12 +1,13 @@
 //! Prints of files, as lines ask for them.
-ghost use Rattle.std.specs.Prelude.{◌≡◌, None, IfErr, IfOk, IsOkAnd, OnOk, length, map};
+ghost use Rattle.std.specs.Prelude.{◌≡◌, ◌≤◌, None, IfErr, IfOk, IsOkAnd, OnOk, length, map};
 ghost use Rattle.std.specs.Io.KnownBytes.{Appends};
 ghost use Rattle.byte_store.specs.Known.{Stays};
 ghost use Rattle.elf_image.specs.Image.{image_of};
 ghost use Rattle.elf_commands.specs.ElfStores.{IsKeptAt};
+ghost use Rattle.elf_commands.specs.Failures.{HasReadCause, HasReadCauseAt};
 ghost use Rattle.elf_commands.specs.Prints.{PrintMayFail, StopsWriting};
 ghost use Rattle.arwen_cli_peers.specs.EditWords.{asked_model};
-ghost use Rattle.arwen_cli_patchelf.specs.Printing.{HasPrintCause, HasPrintCauseAt, IsPrinted, IsPrintedOf, IsReadFor, PrintsAll, TellsPrint, TellsPrintOf, TellsPrints, option_for, prints_among, prints_asked as prints_meant};
+ghost use Rattle.arwen_cli_patchelf.specs.Printing.{IsPrinted, IsPrintedOf, IsReadFor, PrintsAll, TellsPrint, TellsPrintOf, TellsPrints, option_for, prints_among, prints_asked as prints_meant};
 
 use crate::print_texts::print_text;
 use arwen_cli_peers::AskedOption;
@@ -106,8 +107,9 @@ pub fn print_path<'p, O: OpensOnce<'p> + Drop, W: CountedWrite>(
         (O.contents files path.now) out.old out.new refused.error) }
     ensures left { IfErr result (λ refused. IsKeptAt (O.may_fail files path.now)
         O.Opened.contents (O.contents files path.now) refused.error refused.store) }
-    ensures cause { IfErr result (λ refused. HasPrintCauseAt (O.may_fail files path.now)
-        O.Opened.may_fail_read (O.contents files path.now) refused.error) }
+    ensures cause { IfErr result (λ refused. HasReadCauseAt (O.may_fail files path.now)
+        O.Opened.may_fail_read O.Opened.failed (O.contents files path.now)
+        refused.error refused.store) }
 {
     if prints.is_empty() {
         return Ok(None);
@@ -135,7 +137,9 @@ fn print_each<S: Store, W: CountedWrite>(
     ensures tells { IfErr result (TellsPrints W.contents W.failed prints.now
         (S.contents store.old) out.old out.new) }
     ensures kept { Stays (S.contents store.old) (S.contents store.new) }
-    ensures cause { IfErr result (HasPrintCause S.may_fail_read (S.contents store.old)) }
+    ensures grows { S.failed store.old ≤ S.failed store.new }
+    ensures cause { IfErr result (HasReadCause S.may_fail_read (S.contents store.old)
+        (S.failed store.old) (S.failed store.new)) }
 {
     let Some((first, rest)) = prints.split_first() else {
         return Ok(());
@@ -157,7 +161,9 @@ fn print_one<S: Store, W: CountedWrite>(
     ensures tells { IfErr result (TellsPrint W.contents W.failed print
         (S.contents store.old) out.old out.new) }
     ensures kept { Stays (S.contents store.old) (S.contents store.new) }
-    ensures cause { IfErr result (HasPrintCause S.may_fail_read (S.contents store.old)) }
+    ensures grows { S.failed store.old ≤ S.failed store.new }
+    ensures cause { IfErr result (HasReadCause S.may_fail_read (S.contents store.old)
+        (S.failed store.old) (S.failed store.new)) }
 {
     let bytes = load(alloc, store)?;
     print_loaded(alloc, bytes.as_slice(), print, out)

@@ -53,8 +53,9 @@ pub fn write_path<'p, O: OpensOnce<'p>, C: Creates<'p>, P: Probe>(
         (plan_model plan.now) (O.contents source path.now) refused.error.error) }
     ensures left { IfErr result (λ refused. IsKeptAt (O.may_fail source path.now)
         O.Opened.contents (O.contents source path.now) refused.error.error refused.store) }
-    ensures cause { IfErr result (λ refused. HasOutputCause (HasReadCauseAt
-        (O.may_fail source path.now) O.Opened.may_fail_read (O.contents source path.now))
+    ensures cause { IfErr result (λ refused. HasOutputCause (λ e. HasReadCauseAt
+        (O.may_fail source path.now) O.Opened.may_fail_read O.Opened.failed
+        (O.contents source path.now) e refused.store)
         (C.may_fail files.now output.now) C.is_new C.Created.contents
         sink_inner sink_failures (P.may_find probe.now) (plan_model plan.now)
         (O.contents source path.now) refused.error.error refused.error.file) }

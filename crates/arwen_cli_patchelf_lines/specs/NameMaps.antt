@@ -1,9 +1,9 @@
 -- Maps of names: texts with a pair of names on each line, an old one and a new one.
-use Rattle.std.specs.Prelude.{ℕ, ◌≡◌, ◌+◌, ◌==◌, ◌||◌, Bool, List, [], ◌∷◌, ◌++◌, map, Option, Some, None, Result, Ok, Err, if◌then◌else◌, length, nat_lt, ⊤}
+use Rattle.std.specs.Prelude.{ℕ, ◌≡◌, ◌+◌, ◌==◌, ◌||◌, Bool, List, [], ◌∷◌, ◌++◌, map, Option, Some, None, Result, Ok, Err, if◌then◌else◌, ⊤}
 use Rattle.std.specs.List.{list_any, slice_split}
 use Rattle.std.specs.Str.{bytes_eq}
 use Rattle.std.specs.Str.Lines.{lines}
-use Rattle.std.specs.Borrow.{Bor}
+use Rattle.command_words.specs.Parts.{without_empty}
 use Rattle.arwen_cli_peers.specs.Options.{Text}
 use Rattle.arwen_cli_patchelf_lines.specs.declared.name_maps.MapFault.{MapFault}
 use Rattle.arwen_cli_patchelf_lines.specs.declared.name_maps.MapFault.TheVariants as fault
@@ -20,9 +20,6 @@ abbrev pub pair_told : Result NamePair MapWrong → Result (Text × Text) MapWro
 pair_told (Ok pair) = Ok (lent_pair pair)
 pair_told (Err wrong) = Err wrong
 
-abbrev pub texts_lent : List (Bor Text) → List Text
-texts_lent texts = map (λ text. text.now) texts
-
 -- ## A line
 
 -- tabs count as spaces
@@ -31,11 +28,6 @@ spaced byte = if byte == 9 then 32 else byte
 
 abbrev pub spaced_all : List ℕ → List ℕ
 spaced_all bytes = map spaced bytes
-
--- texts that have a byte
-abbrev pub without_empty : List Text → List Text
-without_empty [] = []
-without_empty (text ∷ texts) = if nat_lt 0 (length text) then text ∷ without_empty texts else without_empty texts
 
 -- the names between the spaces of a line
 abbrev pub names_of : Text → List Text

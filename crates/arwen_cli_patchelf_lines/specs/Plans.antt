@@ -3,7 +3,7 @@ use Rattle.std.specs.Prelude.{◌==◌, List, [], map, Option, Some, None, codes
 use Rattle.std.specs.List.{slice_split}
 use Rattle.arwen_cli_peers.specs.EditWords.{edit_words, is_given, last_of}
 use Rattle.arwen_cli_peers.specs.Options.{Asked, Text}
-use Rattle.arwen_cli_patchelf_lines.specs.NameMaps.{without_empty}
+use Rattle.command_words.specs.Parts.{without_empty}
 use Rattle.arwen_cli_patchelf_lines.specs.declared.plans.Plan.{Plan}
 
 -- first that run paths shrink, with the prefixes that are allowed, and then the edits that words of `apply` name

@@ -4,7 +4,6 @@
 
 mod line;
 mod name_maps;
-mod parts;
 mod plans;
 mod refusals;
 mod values;

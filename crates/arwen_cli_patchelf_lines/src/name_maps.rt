@@ -1,9 +1,10 @@
 //! Maps of names: texts with a pair of names on each line, an old one and a new one.
 ghost use Rattle.std.specs.Prelude.{◌≡◌, [], Ok, IfErr, IfOk, OnOk, map, option_map};
 ghost use Rattle.std.specs.Str.Lines.{lines};
-ghost use Rattle.arwen_cli_patchelf_lines.specs.NameMaps.{TellsMap, checked as checked_pair, has_version as names_version, is_old as is_old_name, lent_pair, names_of, pair_of, pair_told, pairs_from, pairs_of, spaced as space_for, spaced_all, texts_lent};
+ghost use Rattle.arwen_cli_patchelf_lines.specs.NameMaps.{TellsMap, checked as checked_pair, has_version as names_version, is_old as is_old_name, lent_pair, names_of, pair_of, pair_told, pairs_from, pairs_of, spaced as space_for, spaced_all};
+ghost use Rattle.command_words.specs.Parts.{texts_lent};
 
-use crate::parts::filled_parts;
+use command_words::filled_parts;
 use std::alloc::{AllocError, AllocFailed, Global};
 
 /// A pair of names.

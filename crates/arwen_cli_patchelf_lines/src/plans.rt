@@ -1,13 +1,12 @@
 //! What a line asks of the bytes of each of its files.
 ghost use Rattle.std.specs.Prelude.{◌≡◌, IfOk, map, option_map, string_bytes};
 ghost use Rattle.arwen_cli_peers.specs.EditWords.{asked_model};
-ghost use Rattle.arwen_cli_patchelf_lines.specs.Plans.{plan_of_options, plan_model, prefixes_asked, prefixes_in as prefixes_named, shrinks_of_options};
+ghost use Rattle.arwen_cli_patchelf_lines.specs.Plans.{plan_model, plan_of_options, prefixes_asked, prefixes_in as prefixes_named, shrinks_of_options};
 
-use crate::parts::filled_parts;
 use arwen_cli_peers::AskedOption;
 use arwen_cli_peers::asked::{is_given, last_of};
 use arwen_cli_peers::edit_words::edit_words;
-use command_words::copies;
+use command_words::{copies, filled_parts};
 use std::alloc::{AllocError, Global};
 
 /// What a line asks of the bytes of each of its files: first that the run paths shrink, and then edits.

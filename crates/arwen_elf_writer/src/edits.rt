@@ -69,7 +69,8 @@ impl<'data> Writer<'data> {
     }
 
     /// Gives leave that the dynamic section moves where it has grown into what follows it, as `Builder::allow_dynamic_move` tells
-    /// (gABI, Dynamic Section). Takes no memory.
+    /// (gABI, Dynamic Section). Tables that move go into the same loaded segment, all of which may be written to; notes don't.
+    /// Takes no memory.
     pub fn allow_dynamic_move(&mut self)
         ensures { self.new ≡ with_dynamic_move self.old }
     {

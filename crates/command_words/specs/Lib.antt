@@ -1,5 +1,6 @@
 pub mod Groups
 pub mod KeyValue
 pub mod Loading
+pub mod Parts
 pub mod Rows
 pub mod WordValues

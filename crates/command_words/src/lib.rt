@@ -10,6 +10,7 @@ mod loading;
 mod not_done;
 mod noting;
 mod opens_once;
+mod parts;
 mod rows;
 mod word_values;
 
@@ -23,5 +24,6 @@ pub use loading::{FileBytes, RegularBytes, load, load_path};
 pub use not_done::NotDone;
 pub use noting::Notes;
 pub use opens_once::OpensOnce;
+pub use parts::filled_parts;
 pub use rows::{Row, Value, ValueForm, ValueOption, Values, find_row};
 pub use word_values::{ValueError, number_of, pairs_of};

@@ -48,10 +48,11 @@ HasCauseAt opens reads writes takes_none failed known (Io e) None = opens e
 HasCauseAt opens reads writes takes_none failed known e None = ⊥
 HasCauseAt opens reads writes takes_none failed known e (Some store) = HasCause reads writes takes_none known 0 (failed store) e
 
--- the opening answered the error, or it is one of the store that was opened
-abbrev pub HasReadCauseAt : (Error → Type 0) → (Error → Type 0) → Option (List ℕ) → ElfCommandError → Type 0
-HasReadCauseAt opens reads known (Io e) = opens e ⊎ ((failed : ℕ) × IsNotLoaded reads known 0 failed (read.Io e))
-HasReadCauseAt opens reads known e = ⊤
+-- the same of an error where nothing is written
+abbrev pub HasReadCauseAt : {S : Type 0} → (Error → Type 0) → (Error → Type 0) → (S → ℕ) → Option (List ℕ) → ElfCommandError → Option S → Type 0
+HasReadCauseAt opens reads failed known (Io e) None = opens e
+HasReadCauseAt opens reads failed known e None = ⊥
+HasReadCauseAt opens reads failed known e (Some store) = HasReadCause reads known 0 (failed store) e
 
 -- where nothing was opened, the opening answered the error; else it is one of the store, or what lines are told to failed
 abbrev pub HasShrinkCauseAt : {S : Type 0} → (Error → Type 0) → (Error → Type 0) → (Error → Type 0) → Type 0 → (S → ℕ) → Option (List ℕ) → ℕ → ℕ → ElfCommandError → Option S → Type 0

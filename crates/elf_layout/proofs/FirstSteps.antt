@@ -83,48 +83,48 @@ none_once f (n ∷ ns) fails =
     let parts = or_parts (n == f) (has f ns) fails in
     or_false _ _ parts.0 (has_fewer n f (each_once ns) (none_once f ns parts.1))
 
-none_has : (f : ℕ) (ss : List SizedSection) → filter (λ s. flags_for s.kept.section == f) ss ≡ []
-    → has f (map (λ s. flags_for s.kept.section) ss) ≡ false
-none_has f [] none = refl
-none_has f (s ∷ ss) none = elim (cases_eq (flags_for s.kept.section) f) [
+none_has : (leave : Bool) (f : ℕ) (ss : List SizedSection) → filter (λ s. flags_for leave s.kept.section == f) ss ≡ []
+    → has f (map (λ s. flags_for leave s.kept.section) ss) ≡ false
+none_has leave f [] none = refl
+none_has leave f (s ∷ ss) none = elim (cases_eq (flags_for leave s.kept.section) f) [
   | inl same ↦
-      let kept : s ∷ filter (λ s. flags_for s.kept.section == f) ss ≡ [] = rw (eq-eqb (flags_for s.kept.section) f same) at none in
+      let kept : s ∷ filter (λ s. flags_for leave s.kept.section == f) ss ≡ [] = rw (eq-eqb (flags_for leave s.kept.section) f same) at none in
       let no : ⊥ = cc kept in absurd no
   | inr other ↦
-      let left : filter (λ s. flags_for s.kept.section == f) ss ≡ [] = rw (ne_eqb (flags_for s.kept.section) f other) at none in
-      or_false _ _ (ne_eqb (flags_for s.kept.section) f other) (none_has f ss left)
+      let left : filter (λ s. flags_for leave s.kept.section == f) ss ≡ [] = rw (ne_eqb (flags_for leave s.kept.section) f other) at none in
+      or_false _ _ (ne_eqb (flags_for leave s.kept.section) f other) (none_has leave f ss left)
 ]
 
 -- ## What stands at a position
 
-abbrev flags_found : Option SizedSection → ℕ
-flags_found None = 0
-flags_found (Some s) = flags_for s.kept.section
+abbrev flags_found : Bool → Option SizedSection → ℕ
+flags_found leave None = 0
+flags_found leave (Some s) = flags_for leave s.kept.section
 
 -- the flags that the section at a position needs
 abbrev flags_at : Resized → ℕ → ℕ
-flags_at r p = flags_found (slice_get (sized_sections r) p)
+flags_at r p = flags_found r.image.moves_dynamic (slice_get (sized_sections r) p)
 
 -- the section stands at its position, and needs the flags
 record IsOf (r : Resized) (f : ℕ) (s : SizedSection) : Type 0 where
   own : slice_get (sized_sections r) s.kept.position ≡ Some s
-  flags : flags_for s.kept.section ≡ f
+  flags : flags_for r.image.moves_dynamic s.kept.section ≡ f
 
 abbrev SectionsOf : Resized → ℕ → List SizedSection → Type 0
 SectionsOf r f [] = Unit {0}
 SectionsOf r f (s ∷ ss) = IsOf r f s × SectionsOf r f ss
 
 sections_tested : (r : Resized) (f p : ℕ) (rest : List SizedSection) (o : Option SizedSection) → slice_get (sized_sections r) p ≡ o
-    → SectionsOf r f (filter (λ s. flags_for s.kept.section == f) rest)
-    → SectionsOf r f (filter (λ s. flags_for s.kept.section == f) (cons_option o rest))
+    → SectionsOf r f (filter (λ s. flags_for r.image.moves_dynamic s.kept.section == f) rest)
+    → SectionsOf r f (filter (λ s. flags_for r.image.moves_dynamic s.kept.section == f) (cons_option o rest))
 sections_tested r f p rest None there are = are
-sections_tested r f p rest (Some s) there are = elim (cases_eq (flags_for s.kept.section) f) [
+sections_tested r f p rest (Some s) there are = elim (cases_eq (flags_for r.image.moves_dynamic s.kept.section) f) [
   | inl same ↦
       let own : slice_get (sized_sections r) s.kept.position ≡ Some s =
       ap (λ (q : ℕ). slice_get (sized_sections r) q) (own_position r p s there) ∙ there in
       let is : IsOf r f s = record { own = own; flags = same } in
-      rw (eq-eqb (flags_for s.kept.section) f same) (is, are)
-  | inr other ↦ rw (ne_eqb (flags_for s.kept.section) f other) are
+      rw (eq-eqb (flags_for r.image.moves_dynamic s.kept.section) f same) (is, are)
+  | inr other ↦ rw (ne_eqb (flags_for r.image.moves_dynamic s.kept.section) f other) are
 ]
 
 sections_of : (r : Resized) (f : ℕ) (positions : List ℕ) → SectionsOf r f (with_flags r f positions)
@@ -139,7 +139,7 @@ slots_are_of : (r : Resized) (f : ℕ) (at : At) (ss : List SizedSection) → Se
     → SlotsOf r f (slots_from at.offset at.address ss)
 unfolding slots_from
 slots_are_of r f at [] are = tt
-slots_are_of r f at (s ∷ ss) are = (ap flags_found are.0.own ∙ are.0.flags, slots_are_of r f (end_behind at s) ss are.1)
+slots_are_of r f at (s ∷ ss) are = (ap (flags_found r.image.moves_dynamic) are.0.own ∙ are.0.flags, slots_are_of r f (end_behind at s) ss are.1)
 
 abbrev flags_of_load : AddedLoad → ℕ
 flags_of_load load = load.header.p_flags
@@ -149,7 +149,7 @@ LoadsOf r [] = Unit {0}
 LoadsOf r (l ∷ ls) = SlotsOf r (flags_of_load l) l.slots × LoadsOf r ls
 
 loads_are_of : (r : Resized) (moved : List ℕ) (align : ℕ) (sets : List ℕ) (end memory : ℕ)
-    → LoadsOf r (loads_from align end memory sets (sections_at r moved))
+    → LoadsOf r (loads_from r.image.moves_dynamic align end memory sets (sections_at r moved))
 unfolding loads_from
 loads_are_of r moved align [] end memory = tt
 loads_are_of r moved align (f ∷ sets) end memory = (
@@ -159,7 +159,7 @@ loads_are_of r moved align (f ∷ sets) end memory = (
 
 -- one segment for each set
 sets_of_loads : (r : Resized) (moved : List ℕ) (align : ℕ) (sets : List ℕ) (end memory : ℕ)
-    → map flags_of_load (loads_from align end memory sets (sections_at r moved)) ≡ sets
+    → map flags_of_load (loads_from r.image.moves_dynamic align end memory sets (sections_at r moved)) ≡ sets
 unfolding loads_from
 sets_of_loads r moved align [] end memory = refl
 sets_of_loads r moved align (f ∷ sets) end memory = ap (λ (l : List ℕ). f ∷ l) (sets_of_loads r moved align sets _ _)
@@ -232,13 +232,13 @@ module _ (r : Resized) (moved : List ℕ) (at : At) (f : ℕ) (before after : Li
   some_needs : with_flags r f moved ≢ []
   some_needs none =
       let nowhere : has f (added_flags r moved) ≡ false =
-      none_once f (map (λ s. flags_for s.kept.section) (sections_at r moved)) (none_has f (sections_at r moved) none) in
+      none_once f (map (λ s. flags_for r.image.moves_dynamic s.kept.section) (sections_at r moved)) (none_has r.image.moves_dynamic f (sections_at r moved) none) in
       has_middle f (map flags_of_load before) f (map flags_of_load after) (subst (λ (l : List ℕ). has f l ≡ false) sets nowhere) refl
 
   -- no segment before has a section with the flags
   none_before : has f (map flags_of_load before) ≡ false
   none_before = distinct_before (map flags_of_load before) f (map flags_of_load after)
-      (subst Distinct sets (once_distinct (map (λ s. flags_for s.kept.section) (sections_at r moved))))
+      (subst Distinct sets (once_distinct (map (λ s. flags_for r.image.moves_dynamic s.kept.section) (sections_at r moved))))
 
   far_at : (ss : List SizedSection) → with_flags r f moved ≡ ss → 2 ^ 64 ≤ (load_of r moved at f).header.p_vaddr → IsPastField r moved
   far_at [] is far = absurd (some_needs is)
@@ -248,7 +248,7 @@ module _ (r : Resized) (moved : List ℕ) (at : At) (f : ℕ) (before after : Li
       let x : Slot = first.0 in
       let p : ℕ = s.kept.position in
       let are : SectionsOf r f (s ∷ ss) = subst (SectionsOf r f) is (sections_of r f moved) in
-      let needs : flags_at r p ≡ f = ap flags_found are.0.own ∙ are.0.flags in
+      let needs : flags_at r p ≡ f = ap (flags_found r.image.moves_dynamic) are.0.own ∙ are.0.flags in
       let rest : List Slot = first.1.0 ++ flat_map slots_of after in
       let here : (load_of r moved at f).slots ++ flat_map slots_of after ≡ x ∷ rest =
       ap (λ (l : List SizedSection). slots_from start.offset start.address l ++ flat_map slots_of after) is

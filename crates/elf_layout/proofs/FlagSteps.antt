@@ -76,26 +76,26 @@ each_once-push (m ∷ ns) n =
 
 -- the flags of the sections at positions
 abbrev pub flags_of_all : Resized → List ℕ → List ℕ
-flags_of_all r positions = map (λ s. flags_for s.kept.section) (sections_at r positions)
+flags_of_all r positions = map (λ s. flags_for r.image.moves_dynamic s.kept.section) (sections_at r positions)
 
-push_found : (ns : List ℕ) (o : Option SizedSection)
-    → each_once (ns ++ map (λ s. flags_for s.kept.section) (cons_option o []))
-    ≡ with_flag (each_once ns) (option_map (λ s. flags_for s.kept.section) o)
-push_found ns None = ap each_once (append-nil ns)
-push_found ns (Some s) = each_once-push ns (flags_for s.kept.section)
+push_found : (leave : Bool) (ns : List ℕ) (o : Option SizedSection)
+    → each_once (ns ++ map (λ s. flags_for leave s.kept.section) (cons_option o []))
+    ≡ with_flag (each_once ns) (option_map (λ s. flags_for leave s.kept.section) o)
+push_found leave ns None = ap each_once (append-nil ns)
+push_found leave ns (Some s) = each_once-push ns (flags_for leave s.kept.section)
 
 -- one more position
 pub flags_more : (r : Resized) (moved : List ℕ) (i : ℕ) → i < length moved
     → each_once (flags_of_all r (take (i + 1) moved))
     ≡ with_flag (each_once (flags_of_all r (take i moved)))
-    (option_map (λ s. flags_for s.kept.section) (slice_get (sized_sections r) (get_or moved i 0)))
+    (option_map (λ s. flags_for r.image.moves_dynamic s.kept.section) (slice_get (sized_sections r) (get_or moved i 0)))
 flags_more r moved i within =
     ap (λ (l : List ℕ). each_once (flags_of_all r l)) (take_more moved i 0 within)
-    ∙ ap (λ (l : List SizedSection). each_once (map (λ s. flags_for s.kept.section) l))
+    ∙ ap (λ (l : List SizedSection). each_once (map (λ s. flags_for r.image.moves_dynamic s.kept.section) l))
     (filter_map-append (λ position. slice_get (sized_sections r) position) (take i moved) (get_or moved i 0 ∷ []))
-    ∙ ap each_once (map-append (λ (s : SizedSection). flags_for s.kept.section) (sections_at r (take i moved))
+    ∙ ap each_once (map-append (λ (s : SizedSection). flags_for r.image.moves_dynamic s.kept.section) (sections_at r (take i moved))
     (sections_at r (get_or moved i 0 ∷ [])))
-    ∙ push_found (flags_of_all r (take i moved)) (slice_get (sized_sections r) (get_or moved i 0))
+    ∙ push_found r.image.moves_dynamic (flags_of_all r (take i moved)) (slice_get (sized_sections r) (get_or moved i 0))
 
 pub flags_end : (r : Resized) (moved : List ℕ) (i : ℕ) → length moved ≤ i → each_once (flags_of_all r (take i moved)) ≡ added_flags r moved
 flags_end r moved i all = ap (λ (l : List ℕ). each_once (flags_of_all r l)) (take_all i moved all)

@@ -26,32 +26,32 @@ found_some (Some s) n e = (s, refl, cc e)
 
 -- ## The sections with flags among one position
 
-abbrev tested : ℕ → Option SizedSection → List SizedSection
-tested flags o = filter (λ s. flags_for s.kept.section == flags) (cons_option o [])
+abbrev tested : Bool → ℕ → Option SizedSection → List SizedSection
+tested leave flags o = filter (λ s. flags_for leave s.kept.section == flags) (cons_option o [])
 
 pub one_missing : (r : Resized) (flags position : ℕ) → slice_get (sized_sections r) position ≡ None
     → with_flags r flags (position ∷ []) ≡ []
-one_missing r flags position none = ap (λ (o : Option SizedSection). tested flags o) none
+one_missing r flags position none = ap (λ (o : Option SizedSection). tested r.image.moves_dynamic flags o) none
 
 abbrev chosen : Bool → SizedSection → List SizedSection
 chosen true s = s ∷ []
 chosen false s = []
 
-tested_as : (flags : ℕ) (s : SizedSection) (b : Bool) → (flags_for s.kept.section == flags) ≡ b → tested flags (Some s) ≡ chosen b s
-tested_as flags s true e = rw e refl
-tested_as flags s false e = rw e refl
+tested_as : (leave : Bool) (flags : ℕ) (s : SizedSection) (b : Bool) → (flags_for leave s.kept.section == flags) ≡ b → tested leave flags (Some s) ≡ chosen b s
+tested_as leave flags s true e = rw e refl
+tested_as leave flags s false e = rw e refl
 
 pub one_other : (r : Resized) (flags position : ℕ) (s : SizedSection) → slice_get (sized_sections r) position ≡ Some s
-    → flags_for s.kept.section ≢ flags
+    → flags_for r.image.moves_dynamic s.kept.section ≢ flags
     → with_flags r flags (position ∷ []) ≡ []
-one_other r flags position s there other = ap (λ (o : Option SizedSection). tested flags o) there
-    ∙ tested_as flags s false (ne_eqb _ _ other)
+one_other r flags position s there other = ap (λ (o : Option SizedSection). tested r.image.moves_dynamic flags o) there
+    ∙ tested_as r.image.moves_dynamic flags s false (ne_eqb _ _ other)
 
 pub one_there : (r : Resized) (flags position : ℕ) (s : SizedSection) → slice_get (sized_sections r) position ≡ Some s
-    → flags_for s.kept.section ≡ flags
+    → flags_for r.image.moves_dynamic s.kept.section ≡ flags
     → with_flags r flags (position ∷ []) ≡ s ∷ []
-one_there r flags position s there same = ap (λ (o : Option SizedSection). tested flags o) there
-    ∙ tested_as flags s true (eq-eqb (flags_for s.kept.section) flags same)
+one_there r flags position s there same = ap (λ (o : Option SizedSection). tested r.image.moves_dynamic flags o) there
+    ∙ tested_as r.image.moves_dynamic flags s true (eq-eqb (flags_for r.image.moves_dynamic s.kept.section) flags same)
 
 -- a section stands at its position
 pub own_position : (r : Resized) (position : ℕ) (s : SizedSection) → slice_get (sized_sections r) position ≡ Some s
@@ -88,9 +88,9 @@ slots_one kept at xs s position one own =
 pub with_flags_more : (r : Resized) (flags p : ℕ) (ps : List ℕ)
     → with_flags r flags (p ∷ ps) ≡ with_flags r flags (p ∷ []) ++ with_flags r flags ps
 with_flags_more r flags p ps =
-    ap (λ (l : List SizedSection). filter (λ s. flags_for s.kept.section == flags) l)
+    ap (λ (l : List SizedSection). filter (λ s. flags_for r.image.moves_dynamic s.kept.section == flags) l)
     (filter_map-append (λ position. slice_get (sized_sections r) position) (p ∷ []) ps)
-    ∙ filter-append (λ (s : SizedSection). flags_for s.kept.section == flags) (sections_at r (p ∷ [])) (sections_at r ps)
+    ∙ filter-append (λ (s : SizedSection). flags_for r.image.moves_dynamic s.kept.section == flags) (sections_at r (p ∷ [])) (sections_at r ps)
 
 pub behind-append : (at : At) (xs ys : List SizedSection) → behind_slots at (xs ++ ys) ≡ behind_slots (behind_slots at xs) ys
 unfolding behind_slots

@@ -48,7 +48,7 @@ behind_slots at (s ∷ ss) = behind_slots (end_behind at s) ss
 
 -- the sections at these positions that need the flags
 abbrev pub with_flags : Resized → ℕ → List ℕ → List SizedSection
-with_flags r flags positions = filter (λ s. flags_for s.kept.section == flags) (sections_at r positions)
+with_flags r flags positions = filter (λ s. flags_for r.image.moves_dynamic s.kept.section == flags) (sections_at r positions)
 
 -- nothing is kept for any section
 abbrev pub none_yet : Resized → List (Option At)

@@ -12,10 +12,11 @@ use std::alloc::{AllocError, Global};
 // The flags that the section at a position needs.
 fn flags_at(r: &Resizing<'_, '_>, position: usize) -> Option<u32>
     ensures { result
-        ≡ option_map (λ s. flags_of s.kept.section) (slice_get (sized_sections r.now) position) }
+        ≡ option_map (λ s. flags_of r.now.image.moves_dynamic s.kept.section)
+        (slice_get (sized_sections r.now) position) }
 {
     let section = sized_at(r, position)?;
-    Some(flags_for(section))
+    Some(flags_for(r, section))
 }
 
 // Adds flags that aren't there yet.

@@ -40,14 +40,15 @@ pub(crate) fn round_up(n: u128, unit: u64) -> u128
     }
 }
 
-// What a loaded segment lets a program do with a section.
-pub(crate) fn flags_for(section: SectionNumbers) -> u32
-    ensures { (s : SizedSection) → section ≡ numbers_of s → result ≡ flags_of s.kept.section }
+// What a loaded segment lets a program do with a section, by whether the dynamic section may move.
+pub(crate) fn flags_for(r: &Resizing<'_, '_>, section: SectionNumbers) -> u32
+    ensures { (s : SizedSection) → section ≡ numbers_of s
+        → result ≡ flags_of r.now.image.moves_dynamic s.kept.section }
 {
     if section.sh_type == SHT_NOTE {
         return PF_R;
     }
-    let write = if section.sh_flags & SHF_WRITE != 0 {
+    let write = if r.image.may_dynamic_move() || section.sh_flags & SHF_WRITE != 0 {
         PF_W
     } else {
         0
@@ -122,7 +123,7 @@ fn place_section(
     let Some(section) = sized_at(r, position) else {
         return Some(at);
     };
-    if flags_for(section) != flags {
+    if flags_for(r, section) != flags {
         return Some(at);
     }
     let Some(found) = stand_behind(at, section) else {

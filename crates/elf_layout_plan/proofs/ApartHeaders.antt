@@ -135,7 +135,7 @@ module _ (r : Resized) (facts : AreFacts r) (moved : List ℕ) where
   unfolding added_loads
   added_low =
       each-map (λ p. kept_end r moved ≤ p.p_offset) (λ (load : AddedLoad). load.header) (added_loads r moved)
-      (loads_from-headers (load_alignment r) (kept_end r moved) (memory_end r) (added_flags r moved) (sections_at r moved))
+      (loads_from-headers r.image.moves_dynamic (load_alignment r) (kept_end r moved) (memory_end r) (added_flags r moved) (sections_at r moved))
 
   segments_end-low : kept_end r moved ≤ segments_end r moved
   unfolding segments_end

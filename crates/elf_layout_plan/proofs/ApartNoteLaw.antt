@@ -87,10 +87,10 @@ module _ (r : Resized) (facts : AreFacts r) (moved : List ℕ) where
         let address : (planned k).sh_addr ≡ s.sh_addr = ap (λ (x : Place). x.sh_addr) (still stays) in
         (in_memory, omega (arith, distance, offset, address))
 
-    only_read : flags_for k.section ≡ PF_R
+    only_read : flags_for r.image.moves_dynamic k.section ≡ PF_R
     only_read =
         let s = k.section in
-        ap (λ b. if b then PF_R else PF_R + (if is_set SHF_WRITE s.sh_flags then PF_W else 0) + (if is_set SHF_EXECINSTR s.sh_flags then PF_X else 0)) (eq-eqb s.sh_type SHT_NOTE note.type)
+        ap (λ b. if b then PF_R else PF_R + (if r.image.moves_dynamic || is_set SHF_WRITE s.sh_flags then PF_W else 0) + (if is_set SHF_EXECINSTR s.sh_flags then PF_X else 0)) (eq-eqb s.sh_type SHT_NOTE note.type)
 
     -- where it moves, it stands at the distance of all notes that do
     pub moved_at : is_one_of moved k.position ≡ true → IsAt (distance_of r facts.sized moved PF_R).0 (distance_of r facts.sized moved PF_R).1 (planned k)

@@ -37,29 +37,29 @@ IsAtDistance offset address o a = o + address ≡ offset + a
 module _ (r : Resized) (sized : sized_sections r ≡ map (sized_of r) (kept_sections r.image)) where
   -- the slot of a section that needs these flags
   abbrev pub HasFlags : ℕ → Slot → Type 0
-  HasFlags flags x = (t : SizedSection) × (slice_get (sized_sections r) x.position ≡ Some t) × (flags_for t.kept.section ≡ flags)
+  HasFlags flags x = (t : SizedSection) × (slice_get (sized_sections r) x.position ≡ Some t) × (flags_for r.image.moves_dynamic t.kept.section ≡ flags)
 
   same_flags : (f g : ℕ) (x : Slot) → HasFlags f x → HasFlags g x → f ≡ g
-  same_flags f g x (t, at_t, is_f) (u, at_u, is_g) = sym is_f ∙ ap (λ (s : SizedSection). flags_for s.kept.section) (same_Some t u (sym at_t ∙ at_u)) ∙ is_g
+  same_flags f g x (t, at_t, is_f) (u, at_u, is_g) = sym is_f ∙ ap (λ (s : SizedSection). flags_for r.image.moves_dynamic s.kept.section) (same_Some t u (sym at_t ∙ at_u)) ∙ is_g
 
   -- a section that is at its position
   abbrev IsPlaced : SizedSection → Type 0
   IsPlaced t = slice_get (sized_sections r) t.kept.position ≡ Some t
 
-  load_flagged : (align f end memory : ℕ) (ss : List SizedSection) → Each IsPlaced ss → Each (HasFlags f) (first_load align f end memory ss).slots
+  load_flagged : (align f end memory : ℕ) (ss : List SizedSection) → Each IsPlaced ss → Each (HasFlags f) (first_load r.image.moves_dynamic align f end memory ss).slots
   load_flagged align f end memory ss placed =
-      let load = first_load align f end memory ss in
-      slots-each (HasFlags f) end load.header.p_vaddr (with_flags f ss)
-      (each-more (λ t. ((flags_for t.kept.section == f) ≡ true) × IsPlaced t) (λ t. (o a : ℕ) → HasFlags f (slot_at t o a)) (λ t h o a. (t, h.1, eqb-true (flags_for t.kept.section) f h.0)) (with_flags f ss)
-      (each-filter IsPlaced (λ t. flags_for t.kept.section == f) ss placed))
+      let load = first_load r.image.moves_dynamic align f end memory ss in
+      slots-each (HasFlags f) end load.header.p_vaddr (with_flags r.image.moves_dynamic f ss)
+      (each-more (λ t. ((flags_for r.image.moves_dynamic t.kept.section == f) ≡ true) × IsPlaced t) (λ t. (o a : ℕ) → HasFlags f (slot_at t o a)) (λ t h o a. (t, h.1, eqb-true (flags_for r.image.moves_dynamic t.kept.section) f h.0)) (with_flags r.image.moves_dynamic f ss)
+      (each-filter IsPlaced (λ t. flags_for r.image.moves_dynamic t.kept.section == f) ss placed))
 
   loads_flagged : (align end memory : ℕ) (flags : List ℕ) (ss : List SizedSection) → Each IsPlaced ss
-      → Each (λ x. (f : ℕ) × (k : ℕ) × (slice_get flags k ≡ Some f) × HasFlags f x) (all_slots (loads_from align end memory flags ss))
+      → Each (λ x. (f : ℕ) × (k : ℕ) × (slice_get flags k ≡ Some f) × HasFlags f x) (all_slots (loads_from r.image.moves_dynamic align end memory flags ss))
   unfolding loads_from
   loads_flagged align end memory [] ss placed = tt
   loads_flagged align end memory (f ∷ more) ss placed =
-      let load = first_load align f end memory ss in
-      let others = all_slots (loads_from align (file_behind load) (memory_behind load) more ss) in
+      let load = first_load r.image.moves_dynamic align f end memory ss in
+      let others = all_slots (loads_from r.image.moves_dynamic align (file_behind load) (memory_behind load) more ss) in
       each-append (λ x. (g : ℕ) × (k : ℕ) × (slice_get (f ∷ more) k ≡ Some g) × HasFlags g x) load.slots others
       (each-more (HasFlags f) (λ x. (g : ℕ) × (k : ℕ) × (slice_get (f ∷ more) k ≡ Some g) × HasFlags g x) (λ x h. (f, 0, refl, h)) load.slots (load_flagged align f end memory ss placed))
       (each-more (λ x. (g : ℕ) × (k : ℕ) × (slice_get more k ≡ Some g) × HasFlags g x) (λ x. (g : ℕ) × (k : ℕ) × (slice_get (f ∷ more) k ≡ Some g) × HasFlags g x)
@@ -67,12 +67,12 @@ module _ (r : Resized) (sized : sized_sections r ≡ map (sized_of r) (kept_sect
 
   -- the slots of sections with the same flags stand at one distance
   distance_from : (flags : ℕ) (align end memory : ℕ) (all : List ℕ) (ss : List SizedSection) → Each IsPlaced ss → Pairs (λ m n. m ≡ n → ⊥) all
-      → (offset : ℕ) × (address : ℕ) × Each (λ x. HasFlags flags x → IsAtDistance offset address x.offset x.address) (all_slots (loads_from align end memory all ss))
+      → (offset : ℕ) × (address : ℕ) × Each (λ x. HasFlags flags x → IsAtDistance offset address x.offset x.address) (all_slots (loads_from r.image.moves_dynamic align end memory all ss))
   unfolding loads_from
   distance_from flags align end memory [] ss placed once = (0, 0, tt)
   distance_from flags align end memory (f ∷ more) ss placed once =
-      let load = first_load align f end memory ss in
-      let others = all_slots (loads_from align (file_behind load) (memory_behind load) more ss) in
+      let load = first_load r.image.moves_dynamic align f end memory ss in
+      let others = all_slots (loads_from r.image.moves_dynamic align (file_behind load) (memory_behind load) more ss) in
       let flagged = load_flagged align f end memory ss placed in
       elim (cases_eq f flags) [
         | inl same ↦ (
@@ -80,7 +80,7 @@ module _ (r : Resized) (sized : sized_sections r ≡ map (sized_of r) (kept_sect
           load.header.p_vaddr,
           each-append (λ x. HasFlags flags x → IsAtDistance end load.header.p_vaddr x.offset x.address) load.slots others
               (each-more (λ x. (x.offset + load.header.p_vaddr ≡ end + x.address) × (end ≤ x.offset)) (λ x. HasFlags flags x → IsAtDistance end load.header.p_vaddr x.offset x.address) (λ x h _. h.0) load.slots
-              (slots_from-distance end load.header.p_vaddr (with_flags f ss)))
+              (slots_from-distance end load.header.p_vaddr (with_flags r.image.moves_dynamic f ss)))
               (each-more (λ x. (g : ℕ) × (k : ℕ) × (slice_get more k ≡ Some g) × HasFlags g x) (λ x. HasFlags flags x → IsAtDistance end load.header.p_vaddr x.offset x.address)
               (λ x (g, k, at, has) has_flags. absurd (each-at (λ m. f ≡ m → ⊥) more once.0 k g at (same ∙ same_flags flags g x has_flags has))) others
               (loads_flagged align (file_behind load) (memory_behind load) more ss placed)),
@@ -99,7 +99,7 @@ module _ (r : Resized) (sized : sized_sections r ≡ map (sized_of r) (kept_sect
     unfolding added_loads
     distance_of flags =
         distance_from flags (load_alignment r) (kept_end r moved) (memory_end r) (added_flags r moved) (sections_at r moved)
-        (each-more (IsMoved r sized moved) IsPlaced (λ t h. h.1) (sections_at r moved) (sections_move r sized moved)) (each_once-pairs (map (λ s. flags_for s.kept.section) (sections_at r moved)))
+        (each-more (IsMoved r sized moved) IsPlaced (λ t h. h.1) (sections_at r moved) (sections_move r sized moved)) (each_once-pairs (map (λ s. flags_for r.image.moves_dynamic s.kept.section) (sections_at r moved)))
 
     -- ## A section's slot, by whether it moves
 

@@ -66,11 +66,11 @@ module _ (r : Resized) (facts : AreFacts r) (looked : ℕ) (moved : List ℕ) (m
 
   slots_high : Each (λ x. memory_end r ≤ x.address) slots
   unfolding added_loads slots
-  slots_high = loads_from-low (load_alignment r) (kept_end r moved) (memory_end r) (added_flags r moved) (sections_at r moved)
+  slots_high = loads_from-low r.image.moves_dynamic (load_alignment r) (kept_end r moved) (memory_end r) (added_flags r moved) (sections_at r moved)
 
   slots_behind : Pairs IsBehind slots
   unfolding added_loads slots
-  slots_behind = loads_from-pairs (load_alignment r) (kept_end r moved) (memory_end r) (added_flags r moved) (sections_at r moved)
+  slots_behind = loads_from-pairs r.image.moves_dynamic (load_alignment r) (kept_end r moved) (memory_end r) (added_flags r moved) (sections_at r moved)
 
   -- ## Where each section is
 

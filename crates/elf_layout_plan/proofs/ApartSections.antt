@@ -53,12 +53,12 @@ abbrev pub all_slots : List AddedLoad → List Slot
 all_slots loads = flat_map (λ load. load.slots) loads
 
 -- the sections that need these flags
-abbrev pub with_flags : ℕ → List SizedSection → List SizedSection
-with_flags flags ss = filter (λ s. flags_for s.kept.section == flags) ss
+abbrev pub with_flags : Bool → ℕ → List SizedSection → List SizedSection
+with_flags leave flags ss = filter (λ s. flags_for leave s.kept.section == flags) ss
 
 -- the first of the loaded segments that are added, and where the next one may begin
-abbrev pub first_load : ℕ → ℕ → ℕ → ℕ → List SizedSection → AddedLoad
-first_load align flags end memory ss = load_at align flags end (next_multiple_of memory align + end % align) (with_flags flags ss)
+abbrev pub first_load : Bool → ℕ → ℕ → ℕ → ℕ → List SizedSection → AddedLoad
+first_load leave align flags end memory ss = load_at align flags end (next_multiple_of memory align + end % align) (with_flags leave flags ss)
 
 abbrev pub file_behind : AddedLoad → ℕ
 file_behind load = end_of (file_part load.header)
@@ -66,16 +66,16 @@ file_behind load = end_of (file_part load.header)
 abbrev pub memory_behind : AddedLoad → ℕ
 memory_behind load = end_of (memory_part load.header)
 
-pub loads-each : (P : Slot → Type 0) (align end memory : ℕ) (flags : List ℕ) (ss : List SizedSection) → Each (λ s. (o a : ℕ) → P (slot_at s o a)) ss
-    → Each P (all_slots (loads_from align end memory flags ss))
+pub loads-each : (P : Slot → Type 0) (leave : Bool) (align end memory : ℕ) (flags : List ℕ) (ss : List SizedSection) → Each (λ s. (o a : ℕ) → P (slot_at s o a)) ss
+    → Each P (all_slots (loads_from leave align end memory flags ss))
 unfolding loads_from
-loads-each P align end memory [] ss h = tt
-loads-each P align end memory (f ∷ more) ss h =
-    let load = first_load align f end memory ss in
-    each-append P load.slots (all_slots (loads_from align (file_behind load) (memory_behind load) more ss))
-    (slots-each P end load.header.p_vaddr (with_flags f ss) (each-more (λ s. ((flags_for s.kept.section == f) ≡ true) × ((o a : ℕ) → P (slot_at s o a))) (λ s. (o a : ℕ) → P (slot_at s o a)) (λ s k. k.1) (with_flags f ss)
-    (each-filter (λ s. (o a : ℕ) → P (slot_at s o a)) (λ s. flags_for s.kept.section == f) ss h)))
-    (loads-each P align (file_behind load) (memory_behind load) more ss h)
+loads-each P leave align end memory [] ss h = tt
+loads-each P leave align end memory (f ∷ more) ss h =
+    let load = first_load leave align f end memory ss in
+    each-append P load.slots (all_slots (loads_from leave align (file_behind load) (memory_behind load) more ss))
+    (slots-each P end load.header.p_vaddr (with_flags leave f ss) (each-more (λ s. ((flags_for leave s.kept.section == f) ≡ true) × ((o a : ℕ) → P (slot_at s o a))) (λ s. (o a : ℕ) → P (slot_at s o a)) (λ s k. k.1) (with_flags leave f ss)
+    (each-filter (λ s. (o a : ℕ) → P (slot_at s o a)) (λ s. flags_for leave s.kept.section == f) ss h)))
+    (loads-each P leave align (file_behind load) (memory_behind load) more ss h)
 
 -- a section among those that get slots has one
 slots-any : (n o a : ℕ) (ss : List SizedSection) (i : ℕ) (t : SizedSection) → slice_get ss i ≡ Some t → t.kept.position ≡ n → list_any (λ x. x.position == n) (slots_from o a ss) ≡ true
@@ -92,19 +92,19 @@ slots-any n o a (s ∷ ss) (suc i) t at e =
     or_true true c h = refl
     or_true false c h = h
 
-loads-any : (n : ℕ) (align end memory : ℕ) (flags : List ℕ) (ss : List SizedSection) (i : ℕ) (t : SizedSection) → slice_get ss i ≡ Some t → t.kept.position ≡ n
-    → list_any (λ f. f == flags_for t.kept.section) flags ≡ true → list_any (λ x. x.position == n) (all_slots (loads_from align end memory flags ss)) ≡ true
+loads-any : (n : ℕ) (leave : Bool) (align end memory : ℕ) (flags : List ℕ) (ss : List SizedSection) (i : ℕ) (t : SizedSection) → slice_get ss i ≡ Some t → t.kept.position ≡ n
+    → list_any (λ f. f == flags_for leave t.kept.section) flags ≡ true → list_any (λ x. x.position == n) (all_slots (loads_from leave align end memory flags ss)) ≡ true
 unfolding loads_from
-loads-any n align end memory [] ss i t at e among = absurd (false≢true among)
-loads-any n align end memory (f ∷ more) ss i t at e among =
-    let load = first_load align f end memory ss in
-    let others = all_slots (loads_from align (file_behind load) (memory_behind load) more ss) in
+loads-any n leave align end memory [] ss i t at e among = absurd (false≢true among)
+loads-any n leave align end memory (f ∷ more) ss i t at e among =
+    let load = first_load leave align f end memory ss in
+    let others = all_slots (loads_from leave align (file_behind load) (memory_behind load) more ss) in
     list_any-append (λ x. x.position == n) load.slots others
-    ∙ either (list_any (λ x. x.position == n) load.slots) (list_any (λ x. x.position == n) others) (elim (or_cases (f == flags_for t.kept.section) (list_any (λ g. g == flags_for t.kept.section) more) among) [
+    ∙ either (list_any (λ x. x.position == n) load.slots) (list_any (λ x. x.position == n) others) (elim (or_cases (f == flags_for leave t.kept.section) (list_any (λ g. g == flags_for leave t.kept.section) more) among) [
       | inl here ↦
-          let kept : (j : ℕ) × (slice_get (with_flags f ss) j ≡ Some t) = at-filter (λ s. flags_for s.kept.section == f) ss i t at (eq-eqb (flags_for t.kept.section) f (sym (eqb-true f (flags_for t.kept.section) here))) in
-          inl (slots-any n end load.header.p_vaddr (with_flags f ss) kept.0 t kept.1 e)
-      | inr behind ↦ inr (loads-any n align (file_behind load) (memory_behind load) more ss i t at e behind)
+          let kept : (j : ℕ) × (slice_get (with_flags leave f ss) j ≡ Some t) = at-filter (λ s. flags_for leave s.kept.section == f) ss i t at (eq-eqb (flags_for leave t.kept.section) f (sym (eqb-true f (flags_for leave t.kept.section) here))) in
+          inl (slots-any n end load.header.p_vaddr (with_flags leave f ss) kept.0 t kept.1 e)
+      | inr behind ↦ inr (loads-any n leave align (file_behind load) (memory_behind load) more ss i t at e behind)
     ])
   where
     either : (b c : Bool) → (b ≡ true) ⊎ (c ≡ true) → (b || c) ≡ true
@@ -166,7 +166,7 @@ module _ (r : Resized) (sized : sized_sections r ≡ map (sized_of r) (kept_sect
     pub slots_move : Each IsSlot (all_slots (added_loads r moved))
     unfolding added_loads
     slots_move =
-        loads-each IsSlot (load_alignment r) (kept_end r moved) (memory_end r) (added_flags r moved) (sections_at r moved)
+        loads-each IsSlot r.image.moves_dynamic (load_alignment r) (kept_end r moved) (memory_end r) (added_flags r moved) (sections_at r moved)
         (each-more IsMoved (λ s. (o a : ℕ) → IsSlot (slot_at s o a)) (λ t h o a. (h.0, (t, h.1, refl))) (sections_at r moved) sections_move)
 
     -- each section that moves has a slot
@@ -177,5 +177,5 @@ module _ (r : Resized) (sized : sized_sections r ≡ map (sized_of r) (kept_sect
         let (i, n, at_i, same) = any-at (λ x. x == t.kept.position) moved among in
         let at_n : slice_get (sized_sections r) n ≡ Some t = subst (λ (m : ℕ). slice_get (sized_sections r) m ≡ Some t) (sym (eqb-true n t.kept.position same)) at in
         let picked : (j : ℕ) × (slice_get (sections_at r moved) j ≡ Some t) = at-filter_map (λ position. slice_get (sized_sections r) position) moved i n t at_i at_n in
-        loads-any t.kept.position (load_alignment r) (kept_end r moved) (memory_end r) (added_flags r moved) (sections_at r moved) picked.0 t picked.1 refl
-        (once-any (flags_for t.kept.section) (map (λ s. flags_for s.kept.section) (sections_at r moved)) picked.0 (at-map (λ s. flags_for s.kept.section) (sections_at r moved) picked.0 t picked.1))
+        loads-any t.kept.position r.image.moves_dynamic (load_alignment r) (kept_end r moved) (memory_end r) (added_flags r moved) (sections_at r moved) picked.0 t picked.1 refl
+        (once-any (flags_for r.image.moves_dynamic t.kept.section) (map (λ s. flags_for r.image.moves_dynamic s.kept.section) (sections_at r moved)) picked.0 (at-map (λ s. flags_for r.image.moves_dynamic s.kept.section) (sections_at r moved) picked.0 t picked.1))

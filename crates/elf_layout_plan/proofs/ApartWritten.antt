@@ -133,18 +133,18 @@ loads_behind adds (p ∷ ps) all = by_tests (is_loaded p) refl (list_any is_load
 abbrev pub added_headers : Resized → List ℕ → List SegmentHeader
 added_headers r moved = map (λ load. load.header) (added_loads r moved)
 
-added_are_loaded : (align end memory : ℕ) (flags : List ℕ) (ss : List SizedSection) → Each (λ load. is_loaded load.header ≡ true) (loads_from align end memory flags ss)
+added_are_loaded : (leave : Bool) (align end memory : ℕ) (flags : List ℕ) (ss : List SizedSection) → Each (λ load. is_loaded load.header ≡ true) (loads_from leave align end memory flags ss)
 unfolding loads_from
-added_are_loaded align end memory [] ss = tt
-added_are_loaded align end memory (f ∷ more) ss =
-    let load = first_load align f end memory ss in
-    (refl, added_are_loaded align (file_behind load) (memory_behind load) more ss)
+added_are_loaded leave align end memory [] ss = tt
+added_are_loaded leave align end memory (f ∷ more) ss =
+    let load = first_load leave align f end memory ss in
+    (refl, added_are_loaded leave align (file_behind load) (memory_behind load) more ss)
 
 pub all_added_are_loaded : (r : Resized) (moved : List ℕ) → Each (λ p. is_loaded p ≡ true) (added_headers r moved)
 unfolding added_loads
 all_added_are_loaded r moved =
     each-map (λ p. is_loaded p ≡ true) (λ (load : AddedLoad). load.header) (added_loads r moved)
-    (added_are_loaded (load_alignment r) (kept_end r moved) (memory_end r) (added_flags r moved) (sections_at r moved))
+    (added_are_loaded r.image.moves_dynamic (load_alignment r) (kept_end r moved) (memory_end r) (added_flags r moved) (sections_at r moved))
 
 -- the loaded program headers of a plan: those of the image, perhaps with those that are added behind them
 pub plan_loads : (r : Resized) (moved : List ℕ)
@@ -260,10 +260,10 @@ length-behind adds (p ∷ ps) = by_test (is_loaded p && not (list_any is_loaded 
     by_test true h = omega (arith, length-append adds ps)
     by_test false h = omega (arith, h)
 
-length-loads_from : (align end memory : ℕ) (flags : List ℕ) (ss : List SizedSection) → length (loads_from align end memory flags ss) ≡ length flags
+length-loads_from : (leave : Bool) (align end memory : ℕ) (flags : List ℕ) (ss : List SizedSection) → length (loads_from leave align end memory flags ss) ≡ length flags
 unfolding loads_from
-length-loads_from align end memory [] ss = refl
-length-loads_from align end memory (f ∷ more) ss = let load = first_load align f end memory ss in ap suc (length-loads_from align (file_behind load) (memory_behind load) more ss)
+length-loads_from leave align end memory [] ss = refl
+length-loads_from leave align end memory (f ∷ more) ss = let load = first_load leave align f end memory ss in ap suc (length-loads_from leave align (file_behind load) (memory_behind load) more ss)
 
 pub length-plan : (r : Resized) (moved : List ℕ) → length (written_segments r moved) ≤ header_count r moved
 unfolding written_segments headers_needed added_loads
@@ -273,7 +273,7 @@ length-plan r moved =
       length-behind (added_headers r moved) (flat_map (written_from r moved) r.image.segments),
       length-all_written r moved r.image.segments,
       length-map (λ (load : AddedLoad). load.header) (added_loads r moved),
-      length-loads_from (load_alignment r) (kept_end r moved) (memory_end r) (added_flags r moved) (sections_at r moved),
+      length-loads_from r.image.moves_dynamic (load_alignment r) (kept_end r moved) (memory_end r) (added_flags r moved) (sections_at r moved),
     )
 
 -- ## A program header for notes

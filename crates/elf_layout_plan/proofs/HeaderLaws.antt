@@ -1,5 +1,5 @@
 -- How many program headers sections that move can need.
-use Rattle.std.proofs.Common.{◌≡◌, ℕ, ◌+◌, ◌≤◌, Bool, true, false, not, ◌&&◌, ◌⊎◌, List, [], ◌∷◌, map, length, refl, sym, ap, subst, inl, inr, arith, cond}
+use Rattle.std.proofs.Common.{◌≡◌, ℕ, ◌+◌, ◌≤◌, Bool, true, false, not, ◌&&◌, ◌||◌, ◌⊎◌, List, [], ◌∷◌, map, length, refl, sym, ap, subst, inl, inr, arith, cond}
 use Rattle.std.specs.Prelude.{count_by, filter, ◌==◌, if◌then◌else◌}
 use Rattle.std.proofs.lemmas.Bool.{true≢false}
 use Rattle.std.proofs.lemmas.List.Sums.{length-filter}
@@ -45,9 +45,9 @@ split_isnt_loaded r moved p h = by_type (p.p_type == PT_LOAD) _ h
 IsFlags : ℕ → Type 0
 IsFlags n = (n ≡ 4) ⊎ ((n ≡ 5) ⊎ ((n ≡ 6) ⊎ (n ≡ 7)))
 
-flags_are : (s : ImageSection) → IsFlags (flags_for s)
+flags_are : (leave : Bool) (s : ImageSection) → IsFlags (flags_for leave s)
 unfolding IsFlags
-flags_are s = by_tests (s.sh_type == SHT_NOTE) (is_set SHF_WRITE s.sh_flags) (is_set SHF_EXECINSTR s.sh_flags)
+flags_are leave s = by_tests (s.sh_type == SHT_NOTE) (leave || is_set SHF_WRITE s.sh_flags) (is_set SHF_EXECINSTR s.sh_flags)
   where
     by_tests : (note writes runs : Bool) → IsFlags (if note then PF_R else PF_R + (if writes then PF_W else 0) + (if runs then PF_X else 0))
     by_tests true writes runs = inl refl
@@ -89,10 +89,10 @@ module _ (p : ℕ → Bool) (ns : List ℕ) (others : (q : ℕ → Bool) → len
   fits n (inr (inr (inl e))) = subst Fits (sym e) (add-le 6 _ (p 6) _ (passing p) (rest-le 6) (omega arith))
   fits n (inr (inr (inr e))) = subst Fits (sym e) (add-le 7 _ (p 7) _ (passing p) (rest-le 7) (omega arith))
 
-each_once-le : (sections : List SizedSection) (p : ℕ → Bool) → length (filter p (each_once (map (λ s. flags_for s.kept.section) sections))) ≤ passing p
+each_once-le : (leave : Bool) (sections : List SizedSection) (p : ℕ → Bool) → length (filter p (each_once (map (λ s. flags_for leave s.kept.section) sections))) ≤ passing p
 unfolding each_once passing Fits
-each_once-le [] p = omega arith
-each_once-le (s ∷ ss) p = fits p (each_once (map (λ t. flags_for t.kept.section) ss)) (each_once-le ss) (flags_for s.kept.section) (flags_are s.kept.section)
+each_once-le leave [] p = omega arith
+each_once-le leave (s ∷ ss) p = fits p (each_once (map (λ t. flags_for leave t.kept.section) ss)) (each_once-le leave ss) (flags_for leave s.kept.section) (flags_are leave s.kept.section)
 
 filter-all : (ns : List ℕ) → filter (λ _. true) ns ≡ ns
 filter-all [] = refl
@@ -101,7 +101,7 @@ filter-all (n ∷ ns) = ap (λ ms. n ∷ ms) (filter-all ns)
 flags-le : (r : Resized) (moved : List ℕ) → length (added_flags r moved) ≤ 4
 unfolding passing
 flags-le r moved = let P : List ℕ → Type 0 = λ ns. length ns ≤ 4 in
-    subst P (filter-all (added_flags r moved)) (each_once-le (sections_at r moved) (λ _. true))
+    subst P (filter-all (added_flags r moved)) (each_once-le r.image.moves_dynamic (sections_at r moved) (λ _. true))
 
 -- ## Both
 

@@ -1,5 +1,5 @@
 -- Where added segments stand, and the sections in them.
-use Rattle.std.proofs.Common.{◌≡◌, ◌≤◌, ◌⊎◌, ℕ, suc, ◌+◌, ◌-◌, ◌%◌, false, List, [], ◌∷◌, map, length, refl, sym, ap, ◌∙◌, subst, inl, inr, Some, None, arith}
+use Rattle.std.proofs.Common.{◌≡◌, ◌≤◌, ◌⊎◌, ℕ, suc, ◌+◌, ◌-◌, ◌%◌, Bool, false, List, [], ◌∷◌, map, length, refl, sym, ap, ◌∙◌, subst, inl, inr, Some, None, arith}
 use Rattle.std.specs.Prelude.{not, ◌==◌, filter}
 use Rattle.std.specs.Int.{next_multiple_of}
 use Rattle.std.specs.List.{flat_map, slice_get}
@@ -145,16 +145,16 @@ pub record IsAdded (end memory : ℕ) (sections : List SizedSection) (load : Add
   pub slots_apart : Pairs EndsBefore load.slots
   pub sources : (t : Slot) → Has t load.slots → SlotSource sections t
 
-abbrev sections_with : ℕ → List SizedSection → List SizedSection
-sections_with flags sections = filter (λ s. flags_for s.kept.section == flags) sections
+abbrev sections_with : Bool → ℕ → List SizedSection → List SizedSection
+sections_with leave flags sections = filter (λ s. flags_for leave s.kept.section == flags) sections
 
-abbrev first_load : ℕ → ℕ → ℕ → ℕ → List SizedSection → AddedLoad
-first_load align end memory flags sections = load_at align flags end (next_multiple_of memory align + end % align) (sections_with flags sections)
+abbrev first_load : Bool → ℕ → ℕ → ℕ → ℕ → List SizedSection → AddedLoad
+first_load leave align end memory flags sections = load_at align flags end (next_multiple_of memory align + end % align) (sections_with leave flags sections)
 
-first_added : (align end memory flags : ℕ) (sections : List SizedSection) → IsAdded end memory sections (first_load align end memory flags sections)
-first_added align end memory flags sections =
+first_added : (leave : Bool) (align end memory flags : ℕ) (sections : List SizedSection) → IsAdded end memory sections (first_load leave align end memory flags sections)
+first_added leave align end memory flags sections =
     let address : ℕ = next_multiple_of memory align + end % align in
-    let chosen : List SizedSection = sections_with flags sections in
+    let chosen : List SizedSection = sections_with leave flags sections in
     let slots : List Slot = slots_from end address chosen in
     let ends : List ℕ = map (λ s. s.offset + s.size) slots in
     record {
@@ -173,7 +173,7 @@ first_added align end memory flags sections =
           let from = slot_source end address chosen t here in
           record {
             section = from.section;
-            here = (filter-at (λ s. flags_for s.kept.section == flags) sections from.section from.here).0;
+            here = (filter-at (λ s. flags_for leave s.kept.section == flags) sections from.section from.here).0;
             position = from.position;
             size = from.size;
           };
@@ -182,20 +182,20 @@ first_added align end memory flags sections =
     within : (low high n : ℕ) → low ≤ high → n ≤ high → n ≤ low + (high - low)
     within low high n l h = omega arith
 
-abbrev later_loads : ℕ → ℕ → ℕ → ℕ → List ℕ → List SizedSection → List AddedLoad
-later_loads align end memory flags more sections =
-    let load = first_load align end memory flags sections in
-    loads_from align (end_of (file_part load.header)) (end_of (memory_part load.header)) more sections
+abbrev later_loads : Bool → ℕ → ℕ → ℕ → ℕ → List ℕ → List SizedSection → List AddedLoad
+later_loads leave align end memory flags more sections =
+    let load = first_load leave align end memory flags sections in
+    loads_from leave align (end_of (file_part load.header)) (end_of (memory_part load.header)) more sections
 
-loads-step : (align end memory flags : ℕ) (more : List ℕ) (sections : List SizedSection)
-    → loads_from align end memory (flags ∷ more) sections ≡ first_load align end memory flags sections ∷ later_loads align end memory flags
+loads-step : (leave : Bool) (align end memory flags : ℕ) (more : List ℕ) (sections : List SizedSection)
+    → loads_from leave align end memory (flags ∷ more) sections ≡ first_load leave align end memory flags sections ∷ later_loads leave align end memory flags
     more sections
 unfolding loads_from
-loads-step align end memory flags more sections = refl
+loads-step leave align end memory flags more sections = refl
 
-loads-none : (align end memory : ℕ) (sections : List SizedSection) → loads_from align end memory [] sections ≡ []
+loads-none : (leave : Bool) (align end memory : ℕ) (sections : List SizedSection) → loads_from leave align end memory [] sections ≡ []
 unfolding loads_from
-loads-none align end memory sections = refl
+loads-none leave align end memory sections = refl
 
 weaker : (low end mid memory : ℕ) (sections : List SizedSection) (load : AddedLoad) → low ≤ end → mid ≤ memory
     → IsAdded end memory sections load → IsAdded low mid sections load
@@ -209,20 +209,20 @@ weaker low end mid memory sections load l m h = record {
   sources = h.sources;
 }
 
-added_at : (align end memory : ℕ) (flags : List ℕ) (sections : List SizedSection) (load : AddedLoad)
-    → Has load (loads_from align end memory flags sections)
+added_at : (leave : Bool) (align end memory : ℕ) (flags : List ℕ) (sections : List SizedSection) (load : AddedLoad)
+    → Has load (loads_from leave align end memory flags sections)
     → IsAdded end memory sections load
-added_at align end memory [] sections load h = absurd
-    (has_none load (subst (λ (l : List AddedLoad). Has load l) (loads-none align end memory sections) h))
-added_at align end memory (n ∷ ns) sections load h =
-    let first : AddedLoad = first_load align end memory n sections in
-    let is = first_added align end memory n sections in
-    elim (has_cases load first (later_loads align end memory n ns sections)
-    (subst (λ (l : List AddedLoad). Has load l) (loads-step align end memory n ns sections) h)) [
+added_at leave align end memory [] sections load h = absurd
+    (has_none load (subst (λ (l : List AddedLoad). Has load l) (loads-none leave align end memory sections) h))
+added_at leave align end memory (n ∷ ns) sections load h =
+    let first : AddedLoad = first_load leave align end memory n sections in
+    let is = first_added leave align end memory n sections in
+    elim (has_cases load first (later_loads leave align end memory n ns sections)
+    (subst (λ (l : List AddedLoad). Has load l) (loads-step leave align end memory n ns sections) h)) [
       | inl same ↦ subst (λ (x : AddedLoad). IsAdded end memory sections x) same is
       | inr later ↦
           weaker end (end_of (file_part first.header)) memory (end_of (memory_part first.header)) sections load (omega arith) (omega arith)
-          (added_at align (end_of (file_part first.header)) (end_of (memory_part first.header)) ns sections load later)
+          (added_at leave align (end_of (file_part first.header)) (end_of (memory_part first.header)) ns sections load later)
     ]
 
 -- each stands behind the one before it
@@ -230,47 +230,47 @@ pub record StandsBefore (l m : AddedLoad) : Type 0 where
   pub in_file : end_of (file_part l.header) ≤ m.header.p_offset
   pub in_memory : end_of (memory_part l.header) ≤ m.header.p_vaddr
 
-added_pairs : (align end memory : ℕ) (flags : List ℕ) (sections : List SizedSection)
-    → Pairs StandsBefore (loads_from align end memory flags sections)
-added_pairs align end memory [] sections = subst (λ (l : List AddedLoad). Pairs StandsBefore l) (sym (loads-none align end memory sections))
+added_pairs : (leave : Bool) (align end memory : ℕ) (flags : List ℕ) (sections : List SizedSection)
+    → Pairs StandsBefore (loads_from leave align end memory flags sections)
+added_pairs leave align end memory [] sections = subst (λ (l : List AddedLoad). Pairs StandsBefore l) (sym (loads-none leave align end memory sections))
     (pairs-none StandsBefore)
-added_pairs align end memory (n ∷ ns) sections =
-    let first : AddedLoad = first_load align end memory n sections in
-    subst (λ (l : List AddedLoad). Pairs StandsBefore l) (sym (loads-step align end memory n ns sections))
-    (pairs-more StandsBefore first (later_loads align end memory n ns sections)
+added_pairs leave align end memory (n ∷ ns) sections =
+    let first : AddedLoad = first_load leave align end memory n sections in
+    subst (λ (l : List AddedLoad). Pairs StandsBefore l) (sym (loads-step leave align end memory n ns sections))
+    (pairs-more StandsBefore first (later_loads leave align end memory n ns sections)
     (λ m here.
-    let is = added_at align (end_of (file_part first.header)) (end_of (memory_part first.header)) ns sections m here in
+    let is = added_at leave align (end_of (file_part first.header)) (end_of (memory_part first.header)) ns sections m here in
     record { in_file = is.in_file; in_memory = is.in_memory })
-    (added_pairs align (end_of (file_part first.header)) (end_of (memory_part first.header)) ns sections))
+    (added_pairs leave align (end_of (file_part first.header)) (end_of (memory_part first.header)) ns sections))
 
-pub length-loads : (align end memory : ℕ) (flags : List ℕ) (sections : List SizedSection)
-    → length (loads_from align end memory flags sections) ≡ length flags
+pub length-loads : (leave : Bool) (align end memory : ℕ) (flags : List ℕ) (sections : List SizedSection)
+    → length (loads_from leave align end memory flags sections) ≡ length flags
 unfolding loads_from
-length-loads align end memory [] sections = refl
-length-loads align end memory (n ∷ ns) sections =
-    let first : AddedLoad = first_load align end memory n sections in
-    ap suc (length-loads align (end_of (file_part first.header)) (end_of (memory_part first.header)) ns sections)
+length-loads leave align end memory [] sections = refl
+length-loads leave align end memory (n ∷ ns) sections =
+    let first : AddedLoad = first_load leave align end memory n sections in
+    ap suc (length-loads leave align (end_of (file_part first.header)) (end_of (memory_part first.header)) ns sections)
 
 abbrev all_slots : List AddedLoad → List Slot
 all_slots loads = flat_map (λ load. load.slots) loads
 
 -- a section has a slot in the segment with its flags
-slot_added : (align end memory : ℕ) (flags : List ℕ) (sections : List SizedSection) (x : SizedSection) → Has x sections
-    → Has (flags_for x.kept.section) flags
-    → SlotThere (all_slots (loads_from align end memory flags sections)) x.kept.position
-slot_added align end memory [] sections x here among = absurd (has_none (flags_for x.kept.section) among)
-slot_added align end memory (n ∷ ns) sections x here among =
-    let first : AddedLoad = first_load align end memory n sections in
+slot_added : (leave : Bool) (align end memory : ℕ) (flags : List ℕ) (sections : List SizedSection) (x : SizedSection) → Has x sections
+    → Has (flags_for leave x.kept.section) flags
+    → SlotThere (all_slots (loads_from leave align end memory flags sections)) x.kept.position
+slot_added leave align end memory [] sections x here among = absurd (has_none (flags_for leave x.kept.section) among)
+slot_added leave align end memory (n ∷ ns) sections x here among =
+    let first : AddedLoad = first_load leave align end memory n sections in
     let address : ℕ = next_multiple_of memory align + end % align in
-    let rest : List AddedLoad = later_loads align end memory n ns sections in
-    subst (λ (l : List AddedLoad). SlotThere (all_slots l) x.kept.position) (sym (loads-step align end memory n ns sections))
-    (elim (has_cases (flags_for x.kept.section) n ns among) [
+    let rest : List AddedLoad = later_loads leave align end memory n ns sections in
+    subst (λ (l : List AddedLoad). SlotThere (all_slots l) x.kept.position) (sym (loads-step leave align end memory n ns sections))
+    (elim (has_cases (flags_for leave x.kept.section) n ns among) [
       | inl same ↦
-          let chosen = filter-from (λ s. flags_for s.kept.section == n) sections x here (eq-eqb (flags_for x.kept.section) n (sym same)) in
-          let there = slot_there end address (sections_with n sections) x chosen in
+          let chosen = filter-from (λ s. flags_for leave s.kept.section == n) sections x here (eq-eqb (flags_for leave x.kept.section) n (sym same)) in
+          let there = slot_there end address (sections_with leave n sections) x chosen in
           record { slot = there.slot; here = append-left first.slots (all_slots rest) there.slot there.here; same = there.same }
       | inr later ↦
-          let more = slot_added align (end_of (file_part first.header)) (end_of (memory_part first.header)) ns sections x here later in
+          let more = slot_added leave align (end_of (file_part first.header)) (end_of (memory_part first.header)) ns sections x here later in
           record { slot = more.slot; here = append-right first.slots (all_slots rest) more.slot more.here; same = more.same }
     ])
 
@@ -293,21 +293,21 @@ once (m ∷ ms) n h = elim (has_cases n m ms h) [
 module _ (r : Resized) (moved : List ℕ) where
   pub is_added : (load : AddedLoad) → Has load (added_loads r moved) → IsAdded (kept_end r moved) (memory_end r) (sections_at r moved) load
   unfolding added_loads
-  is_added load h = added_at (load_alignment r) (kept_end r moved) (memory_end r) (added_flags r moved) (sections_at r moved) load h
+  is_added load h = added_at r.image.moves_dynamic (load_alignment r) (kept_end r moved) (memory_end r) (added_flags r moved) (sections_at r moved) load h
 
   pub added_apart : Pairs StandsBefore (added_loads r moved)
   unfolding added_loads
-  added_apart = added_pairs (load_alignment r) (kept_end r moved) (memory_end r) (added_flags r moved) (sections_at r moved)
+  added_apart = added_pairs r.image.moves_dynamic (load_alignment r) (kept_end r moved) (memory_end r) (added_flags r moved) (sections_at r moved)
 
   pub length-added : length (added_loads r moved) ≡ length (added_flags r moved)
   unfolding added_loads
-  length-added = length-loads (load_alignment r) (kept_end r moved) (memory_end r) (added_flags r moved) (sections_at r moved)
+  length-added = length-loads r.image.moves_dynamic (load_alignment r) (kept_end r moved) (memory_end r) (added_flags r moved) (sections_at r moved)
 
   slot_exists : (s : SizedSection) → Has s (sections_at r moved) → SlotThere (all_slots (added_loads r moved)) s.kept.position
   unfolding added_loads
-  slot_exists s h = slot_added (load_alignment r) (kept_end r moved) (memory_end r) (added_flags r moved) (sections_at r moved) s h
-      (once (map (λ x. flags_for x.kept.section) (sections_at r moved)) (flags_for s.kept.section)
-      (map-from (λ x. flags_for x.kept.section) (sections_at r moved) s h))
+  slot_exists s h = slot_added r.image.moves_dynamic (load_alignment r) (kept_end r moved) (memory_end r) (added_flags r moved) (sections_at r moved) s h
+      (once (map (λ x. flags_for r.image.moves_dynamic x.kept.section) (sections_at r moved)) (flags_for r.image.moves_dynamic s.kept.section)
+      (map-from (λ x. flags_for r.image.moves_dynamic x.kept.section) (sections_at r moved) s h))
 
   -- where a section moves
   pub record IsMovedTo (s : SizedSection) (slot : Slot) : Type 0 where

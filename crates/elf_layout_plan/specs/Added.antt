@@ -114,12 +114,12 @@ load_at align flags offset address sections =
 
 -- one segment for each set of flags, with the sections that need it: behind the end of the file and of memory so far, at an address
 -- that leaves the same rest as the offset when it is divided by the alignment
-unfoldable pub loads_from : ℕ → ℕ → ℕ → List ℕ → List SizedSection → List AddedLoad
-loads_from align end memory [] sections = []
-loads_from align end memory (flags ∷ more) sections =
-    let load = load_at align flags end (next_multiple_of memory align + end % align) (filter (λ s. flags_for s.kept.section == flags) sections) in
-    load ∷ loads_from align (end_of (file_part load.header)) (end_of (memory_part load.header)) more sections
+unfoldable pub loads_from : Bool → ℕ → ℕ → ℕ → List ℕ → List SizedSection → List AddedLoad
+loads_from leave align end memory [] sections = []
+loads_from leave align end memory (flags ∷ more) sections =
+    let load = load_at align flags end (next_multiple_of memory align + end % align) (filter (λ s. flags_for leave s.kept.section == flags) sections) in
+    load ∷ loads_from leave align (end_of (file_part load.header)) (end_of (memory_part load.header)) more sections
 
 -- The loaded segments that are added.
 unfoldable pub added_loads : Resized → List ℕ → List AddedLoad
-added_loads r moved = loads_from (load_alignment r) (kept_end r moved) (memory_end r) (added_flags r moved) (sections_at r moved)
+added_loads r moved = loads_from r.image.moves_dynamic (load_alignment r) (kept_end r moved) (memory_end r) (added_flags r moved) (sections_at r moved)

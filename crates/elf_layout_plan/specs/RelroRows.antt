@@ -40,8 +40,26 @@ relro_plan header = record {
   looked = 1;
 }
 
+-- with a longer name, and with leave: strings and list move, into one segment
+abbrev pub relro_renamed : Resized
+relro_renamed =
+    let library = relro_library PT_GNU_RELRO in
+    after_edit library (record library { entries = Some (small_entries ++ Text 14 (codes "xyz") ∷ []); moves_dynamic = true })
+
+abbrev pub renamed_plan : Layout
+renamed_plan = record {
+  places = no_place ∷ place 3 2 4480 384 18 ∷ place 6 3 4504 408 96 ∷ place 3 0 0 504 28 ∷ [];
+  segments = relro_load ∷ segment 1 6 384 4480 120 4096 ∷ segment 2 6 408 4504 96 8 ∷ header_over_list PT_GNU_RELRO ∷ [];
+  e_phoff = 64;
+  e_shoff = 536;
+  rounds = 2;
+  looked = 1;
+}
+
 pub record RelroRows : Type 0 where
   -- a PT_GNU_RELRO keeps its range
   pub relro_stays : IsPlan (relro_named PT_GNU_RELRO) (relro_plan (header_over_list PT_GNU_RELRO))
   -- one of another type goes with the list
   pub other_goes : IsPlan (relro_named PT_TLS) (relro_plan (record (segment PT_TLS 4 384 4480 96 1) { p_memsz = 3792 }))
+  -- strings that move stand before the list, in the segment that may be written
+  pub strings_go_along : IsPlan relro_renamed renamed_plan

@@ -46,11 +46,12 @@ is_stuck_with r added = is_stuck (blocks_with r added)
 
 -- ## How many program headers more they need
 
--- what a loaded segment lets a program do with a section: notes are only read (gABI, Program Header, Segment Permissions)
-abbrev pub flags_for : ImageSection → ℕ
-flags_for s =
+-- what a loaded segment lets a program do with a section: notes are only read (gABI, Program Header, Segment Permissions). Where the
+-- dynamic section may move, all others may be written, so that one segment has all of them.
+abbrev pub flags_for : Bool → ImageSection → ℕ
+flags_for leave s =
     if s.sh_type == SHT_NOTE then PF_R
-    else PF_R + (if is_set SHF_WRITE s.sh_flags then PF_W else 0) + (if is_set SHF_EXECINSTR s.sh_flags then PF_X else 0)
+    else PF_R + (if leave || is_set SHF_WRITE s.sh_flags then PF_W else 0) + (if is_set SHF_EXECINSTR s.sh_flags then PF_X else 0)
 
 -- each number once, where it comes first
 unfoldable pub each_once : List ℕ → List ℕ
@@ -60,7 +61,7 @@ each_once (n ∷ ns) = n ∷ filter (λ m. not (m == n)) (each_once ns)
 -- the sets of flags of loaded segments that are added: one for each that a moved section needs, in the order of their first
 -- sections
 abbrev pub added_flags : Resized → List ℕ → List ℕ
-added_flags r moved = each_once (map (λ s. flags_for s.kept.section) (sections_at r moved))
+added_flags r moved = each_once (map (λ s. flags_for r.image.moves_dynamic s.kept.section) (sections_at r moved))
 
 -- one program header for each of these, and one for each that is split
 unfoldable pub headers_needed : Resized → List ℕ → ℕ

@@ -29,7 +29,7 @@ pub fn again_rows()
     ensures { AgainRows }
 {}
 
-/// A library whose dynamic section moves, and whose PT_GNU_RELRO stays.
+/// A library whose dynamic section moves, alone or with its strings, and whose PT_GNU_RELRO stays.
 pub fn relro_rows()
     ensures { RelroRows }
 {}

@@ -93,9 +93,9 @@ once f (n ∷ ns) = elim (cases_eq n f) [
 IsFlags : ℕ → Type 0
 IsFlags n = (4 ≤ n) × (n ≤ 7)
 
-flags_are : (s : ImageSection) → IsFlags (flags_for s)
+flags_are : (leave : Bool) (s : ImageSection) → IsFlags (flags_for leave s)
 unfolding IsFlags
-flags_are s = by_tests (s.sh_type == SHT_NOTE) (is_set SHF_WRITE s.sh_flags) (is_set SHF_EXECINSTR s.sh_flags)
+flags_are leave s = by_tests (s.sh_type == SHT_NOTE) (leave || is_set SHF_WRITE s.sh_flags) (is_set SHF_EXECINSTR s.sh_flags)
   where
     by_tests : (a b c : Bool) → (4 ≤ (if a then 4 else 4 + (if b then 2 else 0) + (if c then 1 else 0))) × ((if a then 4 else 4 + (if b then 2 else 0) + (if c then 1 else 0)) ≤ 7)
     by_tests true b c = (omega arith, omega arith)
@@ -137,9 +137,9 @@ each_once-each P [] all = tt
 each_once-each P (n ∷ ns) (here, all) =
     (here, each-more (λ m. (not (m == n) ≡ true) × P m) P (λ m h. h.1) (filter (λ m. not (m == n)) (each_once ns)) (each-filter P (λ m. not (m == n)) (each_once ns) (each_once-each P ns all)))
 
-all_flags : (ss : List SizedSection) → Each IsFlags (map (λ (s : SizedSection). flags_for s.kept.section) ss)
-all_flags [] = tt
-all_flags (s ∷ ss) = (flags_are s.kept.section, all_flags ss)
+all_flags : (leave : Bool) (ss : List SizedSection) → Each IsFlags (map (λ (s : SizedSection). flags_for leave s.kept.section) ss)
+all_flags leave [] = tt
+all_flags leave (s ∷ ss) = (flags_are leave s.kept.section, all_flags leave ss)
 
 -- ## Sections that move
 
@@ -147,15 +147,15 @@ module _ (r : Resized) (are : AreSized r) (limits moved : List ℕ) (end : ℕ)
     (tells : (position : ℕ) → position < length r.image.sections → is_one_of moved position ≡ nat_le (limit_at limits position) end) where
   abbrev has_flags : ℕ → Option SizedSection → Bool
   has_flags f None = false
-  has_flags f (Some s) = flags_for s.kept.section == f
+  has_flags f (Some s) = flags_for r.image.moves_dynamic s.kept.section == f
 
-  needs_at : (f q : ℕ) → has_flags f (slice_get (sized_sections r) q) ≡ needs_flags r.image.sections f q
+  needs_at : (f q : ℕ) → has_flags f (slice_get (sized_sections r) q) ≡ needs_flags r.image.moves_dynamic r.image.sections f q
   unfolding needs_flags
   needs_at f q = elim (slice_get_cases r.image.sections q).1 [
     | inl (s, within, at, same) ↦
-        ap (has_flags f) (sized-there r are q s at) ∙ sym (ap (λ (o : Option ImageSection). elim o [ Some t ↦ flags_for t == f | None ↦ false ]) at)
+        ap (has_flags f) (sized-there r are q s at) ∙ sym (ap (λ (o : Option ImageSection). elim o [ Some t ↦ flags_for r.image.moves_dynamic t == f | None ↦ false ]) at)
     | inr (past, none) ↦ ap (has_flags f) (slice_get_past (sized_sections r) q (omega (arith, past, length-sized r are)))
-        ∙ sym (ap (λ (o : Option ImageSection). elim o [ Some t ↦ flags_for t == f | None ↦ false ]) none)
+        ∙ sym (ap (λ (o : Option ImageSection). elim o [ Some t ↦ flags_for r.image.moves_dynamic t == f | None ↦ false ]) none)
   ]
     where
       slice_get_past : {X : Type 0} (xs : List X) (k : ℕ) → length xs ≤ k → slice_get xs k ≡ None
@@ -163,48 +163,48 @@ module _ (r : Resized) (are : AreSized r) (limits moved : List ℕ) (end : ℕ)
       slice_get_past (x ∷ xs) zero past = absurd (omega (arith, past))
       slice_get_past (x ∷ xs) (suc k) past = slice_get_past xs k (omega (arith, past))
 
-  among_flags : (f : ℕ) (ms : List ℕ) → is_one_of (map (λ (s : SizedSection). flags_for s.kept.section) (sections_at r ms)) f ≡ list_any (needs_flags r.image.sections f) ms
+  among_flags : (f : ℕ) (ms : List ℕ) → is_one_of (map (λ (s : SizedSection). flags_for r.image.moves_dynamic s.kept.section) (sections_at r ms)) f ≡ list_any (needs_flags r.image.moves_dynamic r.image.sections f) ms
   among_flags f [] = refl
-  among_flags f (q ∷ ms) = by_section (slice_get (sized_sections r) q) ∙ ap (λ (t : Bool). t || is_one_of (map (λ (s : SizedSection). flags_for s.kept.section) (sections_at r ms)) f) (needs_at f q)
-      ∙ ap (λ (t : Bool). needs_flags r.image.sections f q || t) (among_flags f ms)
+  among_flags f (q ∷ ms) = by_section (slice_get (sized_sections r) q) ∙ ap (λ (t : Bool). t || is_one_of (map (λ (s : SizedSection). flags_for r.image.moves_dynamic s.kept.section) (sections_at r ms)) f) (needs_at f q)
+      ∙ ap (λ (t : Bool). needs_flags r.image.moves_dynamic r.image.sections f q || t) (among_flags f ms)
     where
-      by_section : (o : Option SizedSection) → is_one_of (map (λ (s : SizedSection). flags_for s.kept.section) (cons_option o (sections_at r ms))) f
-          ≡ (has_flags f o || is_one_of (map (λ (s : SizedSection). flags_for s.kept.section) (sections_at r ms)) f)
+      by_section : (o : Option SizedSection) → is_one_of (map (λ (s : SizedSection). flags_for r.image.moves_dynamic s.kept.section) (cons_option o (sections_at r ms))) f
+          ≡ (has_flags f o || is_one_of (map (λ (s : SizedSection). flags_for r.image.moves_dynamic s.kept.section) (sections_at r ms)) f)
       by_section (Some s) = refl
       by_section None = refl
 
-  needed_there : (f q : ℕ) → needs_flags r.image.sections f q ≡ true → q < length r.image.sections
+  needed_there : (f q : ℕ) → needs_flags r.image.moves_dynamic r.image.sections f q ≡ true → q < length r.image.sections
   unfolding needs_flags
   needed_there f q is = elim (slice_get_cases r.image.sections q).1 [
     | inl (s, within, at, same) ↦ slice_get_within r.image.sections q s at
-    | inr (past, none) ↦ absurd (false≢true (sym (ap (λ (o : Option ImageSection). elim o [ Some t ↦ flags_for t == f | None ↦ false ]) none) ∙ is))
+    | inr (past, none) ↦ absurd (false≢true (sym (ap (λ (o : Option ImageSection). elim o [ Some t ↦ flags_for r.image.moves_dynamic t == f | None ↦ false ]) none) ∙ is))
   ]
 
   counted_at : (n q : ℕ) → q < n → slice_get (counted n) q ≡ Some q
   counted_at n q within =
       slice_get-get_or (counted n) q 0 (omega (arith, length-counted n, within)) ∙ ap Some (slice_index-counted n q within)
 
-  flagged : (f : ℕ) → list_any (needs_flags r.image.sections f) moved ≡ does_flagged_move limits r.image.sections end f
+  flagged : (f : ℕ) → list_any (needs_flags r.image.moves_dynamic r.image.sections f) moved ≡ does_flagged_move r.image.moves_dynamic limits r.image.sections end f
   flagged f =
       let n : ℕ = length r.image.sections in
-      let both : ℕ → Bool = λ position. needs_flags r.image.sections f position && nat_le (limit_at limits position) end in
-      same_if_both (list_any (needs_flags r.image.sections f) moved) (list_any both (counted n))
+      let both : ℕ → Bool = λ position. needs_flags r.image.moves_dynamic r.image.sections f position && nat_le (limit_at limits position) end in
+      same_if_both (list_any (needs_flags r.image.moves_dynamic r.image.sections f) moved) (list_any both (counted n))
       (λ some.
-      let (i, q, at, needs) = any-at (needs_flags r.image.sections f) moved some in
+      let (i, q, at, needs) = any-at (needs_flags r.image.moves_dynamic r.image.sections f) moved some in
       let within = needed_there f q needs in
       let is : is_one_of moved q ≡ true = any-from (λ x. x == q) moved i q at (eq-eqb q q refl) in
-      any-from both (counted n) q q (counted_at n q within) (and_from (needs_flags r.image.sections f q) (nat_le (limit_at limits q) end) needs (sym (tells q within) ∙ is)))
+      any-from both (counted n) q q (counted_at n q within) (and_from (needs_flags r.image.moves_dynamic r.image.sections f q) (nat_le (limit_at limits q) end) needs (sym (tells q within) ∙ is)))
       (λ some.
       let (i, q, at, passes) = any-at both (counted n) some in
-      let parts = and_parts (needs_flags r.image.sections f q) (nat_le (limit_at limits q) end) passes in
+      let parts = and_parts (needs_flags r.image.moves_dynamic r.image.sections f q) (nat_le (limit_at limits q) end) passes in
       let (j, m, at_m, same) = any-at (λ x. x == q) moved (tells q (needed_there f q parts.0) ∙ parts.1) in
-      any-from (needs_flags r.image.sections f) moved j m at_m (ap (needs_flags r.image.sections f) (eqb-true m q same) ∙ parts.0))
+      any-from (needs_flags r.image.moves_dynamic r.image.sections f) moved j m at_m (ap (needs_flags r.image.moves_dynamic r.image.sections f) (eqb-true m q same) ∙ parts.0))
 
-  pub flags_told : length (added_flags r moved) ≡ count_by (does_flagged_move limits r.image.sections end) (4 ∷ 5 ∷ 6 ∷ 7 ∷ [])
+  pub flags_told : length (added_flags r moved) ≡ count_by (does_flagged_move r.image.moves_dynamic limits r.image.sections end) (4 ∷ 5 ∷ 6 ∷ 7 ∷ [])
   flags_told =
-      let ns : List ℕ = map (λ (s : SizedSection). flags_for s.kept.section) (sections_at r moved) in
-      let d : ℕ → Bool = does_flagged_move limits r.image.sections end in
-      let all = four (each_once ns) (each_once-each IsFlags ns (all_flags (sections_at r moved))) in
+      let ns : List ℕ = map (λ (s : SizedSection). flags_for r.image.moves_dynamic s.kept.section) (sections_at r moved) in
+      let d : ℕ → Bool = does_flagged_move r.image.moves_dynamic limits r.image.sections end in
+      let all = four (each_once ns) (each_once-each IsFlags ns (all_flags r.image.moves_dynamic (sections_at r moved))) in
       let a = once 4 ns ∙ ap (λ (b : Bool). cond b 1 0) (among_flags 4 moved ∙ flagged 4) in
       let b = once 5 ns ∙ ap (λ (b : Bool). cond b 1 0) (among_flags 5 moved ∙ flagged 5) in
       let c = once 6 ns ∙ ap (λ (b : Bool). cond b 1 0) (among_flags 6 moved ∙ flagged 6) in
@@ -218,11 +218,11 @@ module _ (r : Resized) (are : AreSized r) (limits moved : List ℕ) (end : ℕ)
 
 -- ## The limits of flags
 
-pub flags_limits_are : (limits : List ℕ) (sections : List ImageSection) (a b c e : ℕ) → IsFlagsLimit limits sections 4 a → IsFlagsLimit limits sections 5 b → IsFlagsLimit limits sections 6 c → IsFlagsLimit limits sections 7 e
-    → AreFlagsLimits limits sections (a ∷ b ∷ c ∷ e ∷ [])
-flags_limits_are limits sections a b c e p q s t = record {
+pub flags_limits_are : (leave : Bool) (limits : List ℕ) (sections : List ImageSection) (a b c e : ℕ) → IsFlagsLimit leave limits sections 4 a → IsFlagsLimit leave limits sections 5 b → IsFlagsLimit leave limits sections 6 c → IsFlagsLimit leave limits sections 7 e
+    → AreFlagsLimits leave limits sections (a ∷ b ∷ c ∷ e ∷ [])
+flags_limits_are leave limits sections a b c e p q s t = record {
   tells = λ end near.
-      let d : ℕ → Bool = does_flagged_move limits sections end in
+      let d : ℕ → Bool = does_flagged_move leave limits sections end in
       let test : ℕ → Bool = λ n. nat_lt n (end + 1) in
       let i = count-cons test a (b ∷ c ∷ e ∷ []) ∙ ap (λ (x : Bool). cond x 1 0 + count_by test (b ∷ c ∷ e ∷ [])) (up_to a end ∙ p.tells end near) in
       let j = count-cons test b (c ∷ e ∷ []) ∙ ap (λ (x : Bool). cond x 1 0 + count_by test (c ∷ e ∷ [])) (up_to b end ∙ q.tells end near) in
@@ -253,41 +253,41 @@ min_le a b end = elim (cases_lt end a) [
 ]
 
 -- the least limit so far
-pub record IsFlagsLimitBelow (limits : List ℕ) (sections : List ImageSection) (flags place least : ℕ) : Type 0 where
-  pub tells : (end : ℕ) → end < NEVER → nat_le least end ≡ list_any (λ position. needs_flags sections flags position && nat_le (limit_at limits position) end) (counted place)
+pub record IsFlagsLimitBelow (leave : Bool) (limits : List ℕ) (sections : List ImageSection) (flags place least : ℕ) : Type 0 where
+  pub tells : (end : ℕ) → end < NEVER → nat_le least end ≡ list_any (λ position. needs_flags leave sections flags position && nat_le (limit_at limits position) end) (counted place)
 
-pub none_flagged : (limits : List ℕ) (sections : List ImageSection) (flags : ℕ) → IsFlagsLimitBelow limits sections flags 0 NEVER
+pub none_flagged : (leave : Bool) (limits : List ℕ) (sections : List ImageSection) (flags : ℕ) → IsFlagsLimitBelow leave limits sections flags 0 NEVER
 unfolding counted
-none_flagged limits sections flags = record { tells = λ end near. lt-leb NEVER end near }
+none_flagged leave limits sections flags = record { tells = λ end near. lt-leb NEVER end near }
 
-one_more : (limits : List ℕ) (sections : List ImageSection) (flags place end : ℕ) → list_any (λ position. needs_flags sections flags position && nat_le (limit_at limits position) end) (counted (place + 1))
-    ≡ (list_any (λ position. needs_flags sections flags position && nat_le (limit_at limits position) end) (counted place) || (needs_flags sections flags place && nat_le (limit_at limits place) end))
+one_more : (leave : Bool) (limits : List ℕ) (sections : List ImageSection) (flags place end : ℕ) → list_any (λ position. needs_flags leave sections flags position && nat_le (limit_at limits position) end) (counted (place + 1))
+    ≡ (list_any (λ position. needs_flags leave sections flags position && nat_le (limit_at limits position) end) (counted place) || (needs_flags leave sections flags place && nat_le (limit_at limits place) end))
 unfolding counted
-one_more limits sections flags place end =
-    let test : ℕ → Bool = λ position. needs_flags sections flags position && nat_le (limit_at limits position) end in
+one_more leave limits sections flags place end =
+    let test : ℕ → Bool = λ position. needs_flags leave sections flags position && nat_le (limit_at limits position) end in
     let next : place + 1 ≡ suc place = omega arith in
     ap (λ (n : ℕ). list_any test (counted n)) next ∙ list_any-append test (counted place) (place ∷ []) ∙ ap (λ (t : Bool). list_any test (counted place) || t) (or_false (test place))
 
-pub flagged_next : (limits : List ℕ) (sections : List ImageSection) (flags place least : ℕ) → needs_flags sections flags place ≡ true → IsFlagsLimitBelow limits sections flags place least
-    → IsFlagsLimitBelow limits sections flags (place + 1) (min least (limit_at limits place))
-flagged_next limits sections flags place least needs is = record {
+pub flagged_next : (leave : Bool) (limits : List ℕ) (sections : List ImageSection) (flags place least : ℕ) → needs_flags leave sections flags place ≡ true → IsFlagsLimitBelow leave limits sections flags place least
+    → IsFlagsLimitBelow leave limits sections flags (place + 1) (min least (limit_at limits place))
+flagged_next leave limits sections flags place least needs is = record {
   tells = λ end near. min_le least (limit_at limits place) end ∙ ap (λ (t : Bool). t || nat_le (limit_at limits place) end) (is.tells end near)
-      ∙ ap (λ (t : Bool). list_any (λ position. needs_flags sections flags position && nat_le (limit_at limits position) end) (counted place) || (t && nat_le (limit_at limits place) end)) (sym needs)
-      ∙ sym (one_more limits sections flags place end);
+      ∙ ap (λ (t : Bool). list_any (λ position. needs_flags leave sections flags position && nat_le (limit_at limits position) end) (counted place) || (t && nat_le (limit_at limits place) end)) (sym needs)
+      ∙ sym (one_more leave limits sections flags place end);
 }
 
-pub flagged_passed : (limits : List ℕ) (sections : List ImageSection) (flags place least : ℕ) → needs_flags sections flags place ≡ false → IsFlagsLimitBelow limits sections flags place least
-    → IsFlagsLimitBelow limits sections flags (place + 1) least
-flagged_passed limits sections flags place least isnt is = record {
+pub flagged_passed : (leave : Bool) (limits : List ℕ) (sections : List ImageSection) (flags place least : ℕ) → needs_flags leave sections flags place ≡ false → IsFlagsLimitBelow leave limits sections flags place least
+    → IsFlagsLimitBelow leave limits sections flags (place + 1) least
+flagged_passed leave limits sections flags place least isnt is = record {
   tells = λ end near. is.tells end near
-      ∙ sym (or_false (list_any (λ position. needs_flags sections flags position && nat_le (limit_at limits position) end) (counted place)))
-      ∙ ap (λ (t : Bool). list_any (λ position. needs_flags sections flags position && nat_le (limit_at limits position) end) (counted place) || (t && nat_le (limit_at limits place) end)) (sym isnt)
-      ∙ sym (one_more limits sections flags place end);
+      ∙ sym (or_false (list_any (λ position. needs_flags leave sections flags position && nat_le (limit_at limits position) end) (counted place)))
+      ∙ ap (λ (t : Bool). list_any (λ position. needs_flags leave sections flags position && nat_le (limit_at limits position) end) (counted place) || (t && nat_le (limit_at limits place) end)) (sym isnt)
+      ∙ sym (one_more leave limits sections flags place end);
 }
 
-pub needs_here : (sections : List ImageSection) (flags place : ℕ) (s : ImageSection) → slice_get sections place ≡ Some s → needs_flags sections flags place ≡ (flags_for s == flags)
+pub needs_here : (leave : Bool) (sections : List ImageSection) (flags place : ℕ) (s : ImageSection) → slice_get sections place ≡ Some s → needs_flags leave sections flags place ≡ (flags_for leave s == flags)
 unfolding needs_flags
-needs_here sections flags place s at = ap (λ (o : Option ImageSection). elim o [ Some t ↦ flags_for t == flags | None ↦ false ]) at
+needs_here leave sections flags place s at = ap (λ (o : Option ImageSection). elim o [ Some t ↦ flags_for leave t == flags | None ↦ false ]) at
 
-pub all_flagged : (limits : List ℕ) (sections : List ImageSection) (flags place least : ℕ) → place ≡ length sections → IsFlagsLimitBelow limits sections flags place least → IsFlagsLimit limits sections flags least
-all_flagged limits sections flags place least all is = record { tells = λ end near. is.tells end near ∙ ap (λ (n : ℕ). list_any (λ position. needs_flags sections flags position && nat_le (limit_at limits position) end) (counted n)) all }
+pub all_flagged : (leave : Bool) (limits : List ℕ) (sections : List ImageSection) (flags place least : ℕ) → place ≡ length sections → IsFlagsLimitBelow leave limits sections flags place least → IsFlagsLimit leave limits sections flags least
+all_flagged leave limits sections flags place least all is = record { tells = λ end near. is.tells end near ∙ ap (λ (n : ℕ). list_any (λ position. needs_flags leave sections flags position && nat_le (limit_at limits position) end) (counted n)) all }

@@ -119,22 +119,22 @@ each_once-push (n ∷ ns) y =
     by_tests l false false false same is isnt =
         ap (λ m. n ∷ m) (without-push n y l ∙ ap (λ t. without n l ++ cond (not t) (y ∷ []) []) (isnt refl))
 
-abbrev flags_needed : SizedSection → ℕ
-flags_needed s = flags_for s.kept.section
+abbrev flags_needed : Bool → SizedSection → ℕ
+flags_needed leave s = flags_for leave s.kept.section
 
 -- one more section's flags
-flags-push : (r : Resized) → AreSized r → (before : List ℕ) (position : ℕ) → added_flags r (before ++ position ∷ []) ≡ with_flags r.image.sections (added_flags r before) position
+flags-push : (r : Resized) → AreSized r → (before : List ℕ) (position : ℕ) → added_flags r (before ++ position ∷ []) ≡ with_flags r.image.moves_dynamic r.image.sections (added_flags r before) position
 unfolding with_flags
 flags-push r are before position =
-    ap (λ l. each_once (map flags_needed l)) (filter_map-append (λ i. slice_get (sized_sections r) i) before (position ∷ []))
+    ap (λ l. each_once (map (flags_needed r.image.moves_dynamic) l)) (filter_map-append (λ i. slice_get (sized_sections r) i) before (position ∷ []))
     ∙ by_section (slice_get r.image.sections position) refl
   where
     by_section : (o : Option ImageSection) → slice_get r.image.sections position ≡ o
-        → each_once (map flags_needed (sections_at r before ++ cons_option (slice_get (sized_sections r) position) []))
-        ≡ (elim o as (λ _. List ℕ) [ Some s ↦ with_once (added_flags r before) (flags_for s) | None ↦ added_flags r before ])
+        → each_once (map (flags_needed r.image.moves_dynamic) (sections_at r before ++ cons_option (slice_get (sized_sections r) position) []))
+        ≡ (elim o as (λ _. List ℕ) [ Some s ↦ with_once (added_flags r before) (flags_for r.image.moves_dynamic s) | None ↦ added_flags r before ])
     by_section None e =
-        ap (λ x. each_once (map flags_needed (sections_at r before ++ cons_option x []))) (slice_get_past (sized_sections r) position (subst (λ n. n ≤ position) (sym (length-sized r are)) (past r.image.sections position e)))
-        ∙ ap (λ l. each_once (map flags_needed l)) (append-nil (sections_at r before))
+        ap (λ x. each_once (map (flags_needed r.image.moves_dynamic) (sections_at r before ++ cons_option x []))) (slice_get_past (sized_sections r) position (subst (λ n. n ≤ position) (sym (length-sized r are)) (past r.image.sections position e)))
+        ∙ ap (λ l. each_once (map (flags_needed r.image.moves_dynamic) l)) (append-nil (sections_at r before))
       where
         past : (xs : List ImageSection) (i : ℕ) → slice_get xs i ≡ None → length xs ≤ i
         past xs i h = elim (cases_lt i (length xs)) [
@@ -142,12 +142,12 @@ flags-push r are before position =
           | inr over ↦ over
         ]
     by_section (Some s) e =
-        ap (λ x. each_once (map flags_needed (sections_at r before ++ cons_option x []))) (sized-there r are position s e)
-        ∙ ap each_once (map-append flags_needed (sections_at r before) (record { kept = section_placed r position s; size = slice_index r.sizes position } ∷ []))
-        ∙ each_once-push (map flags_needed (sections_at r before)) (flags_for s)
+        ap (λ x. each_once (map (flags_needed r.image.moves_dynamic) (sections_at r before ++ cons_option x []))) (sized-there r are position s e)
+        ∙ ap each_once (map-append (flags_needed r.image.moves_dynamic) (sections_at r before) (record { kept = section_placed r position s; size = slice_index r.sizes position } ∷ []))
+        ∙ each_once-push (map (flags_needed r.image.moves_dynamic) (sections_at r before)) (flags_for r.image.moves_dynamic s)
 
 pub flags-more : (r : Resized) → AreSized r → (moved : List ℕ) (i : ℕ) → i < length moved
-    → added_flags r (take (i + 1) moved) ≡ with_flags r.image.sections (added_flags r (take i moved)) (get_or moved i 0)
+    → added_flags r (take (i + 1) moved) ≡ with_flags r.image.moves_dynamic r.image.sections (added_flags r (take i moved)) (get_or moved i 0)
 flags-more r are moved i h = ap (added_flags r) (take_more moved i 0 h) ∙ flags-push r are (take i moved) (get_or moved i 0)
 
 pub flags-none : (r : Resized) → added_flags r [] ≡ []

@@ -53,20 +53,20 @@ pub record IsForecast (r : Resized) (f : Forecast) : Type 0 where
 -- ## Steps
 
 -- the section at a position needs these flags
-unfoldable pub needs_flags : List ImageSection → ℕ → ℕ → Bool
-needs_flags sections flags position = elim (slice_get sections position) [ Some s ↦ flags_for s == flags | None ↦ false ]
+unfoldable pub needs_flags : Bool → List ImageSection → ℕ → ℕ → Bool
+needs_flags leave sections flags position = elim (slice_get sections position) [ Some s ↦ flags_for leave s == flags | None ↦ false ]
 
 -- a section that needs these flags moves with a table that ends there
-abbrev pub does_flagged_move : List ℕ → List ImageSection → ℕ → ℕ → Bool
-does_flagged_move limits sections end flags = list_any (λ position. needs_flags sections flags position && nat_le (limit_at limits position) end) (counted (length sections))
+abbrev pub does_flagged_move : Bool → List ℕ → List ImageSection → ℕ → ℕ → Bool
+does_flagged_move leave limits sections end flags = list_any (λ position. needs_flags leave sections flags position && nat_le (limit_at limits position) end) (counted (length sections))
 
 -- the least limit of sections that need these flags
-pub record IsFlagsLimit (limits : List ℕ) (sections : List ImageSection) (flags least : ℕ) : Type 0 where
-  pub tells : (end : ℕ) → end < NEVER → nat_le least end ≡ does_flagged_move limits sections end flags
+pub record IsFlagsLimit (leave : Bool) (limits : List ℕ) (sections : List ImageSection) (flags least : ℕ) : Type 0 where
+  pub tells : (end : ℕ) → end < NEVER → nat_le least end ≡ does_flagged_move leave limits sections end flags
 
 -- the same of each set of flags
-pub record AreFlagsLimits (limits : List ℕ) (sections : List ImageSection) (found : List ℕ) : Type 0 where
-  pub tells : (end : ℕ) → end < NEVER → count_up_to found end ≡ count_by (does_flagged_move limits sections end) (4 ∷ 5 ∷ 6 ∷ 7 ∷ [])
+pub record AreFlagsLimits (leave : Bool) (limits : List ℕ) (sections : List ImageSection) (found : List ℕ) : Type 0 where
+  pub tells : (end : ℕ) → end < NEVER → count_up_to found end ≡ count_by (does_flagged_move leave limits sections end) (4 ∷ 5 ∷ 6 ∷ 7 ∷ [])
 
 -- a stretch has those that begin in a range
 pub record IsStretchIn (begins : List Limited) (part : Range) (s : Stretch) : Type 0 where

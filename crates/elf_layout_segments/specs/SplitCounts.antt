@@ -63,8 +63,8 @@ abbrev pub with_once : List ℕ → ℕ → List ℕ
 with_once ns n = if is_one_of ns n then ns else ns ++ n ∷ []
 
 -- the flags that the section at a position needs
-unfoldable pub with_flags : List ImageSection → List ℕ → ℕ → List ℕ
-with_flags sections flags position = elim (slice_get sections position) [ Some s ↦ with_once flags (flags_for s) | None ↦ flags ]
+unfoldable pub with_flags : Bool → List ImageSection → List ℕ → ℕ → List ℕ
+with_flags leave sections flags position = elim (slice_get sections position) [ Some s ↦ with_once flags (flags_for leave s) | None ↦ flags ]
 
 -- ## Ranges that are kept
 

@@ -126,12 +126,12 @@ fn all_move(alloc: Global, firsts: &[u128], mirrored: &[u128]) -> Result<Vec<u12
 }
 
 // The least limit of a section that needs these flags.
-fn flags_limit(sections: &[Section<'_>], limits: &[u128], flags: u32) -> u128
-    ensures { IsFlagsLimit limits.now (map section_model sections.now) flags result }
+fn flags_limit(leave: bool, sections: &[Section<'_>], limits: &[u128], flags: u32) -> u128
+    ensures { IsFlagsLimit leave limits.now (map section_model sections.now) flags result }
 {
     let mut least = NEVER;
     for position in 0..sections.len() {
-        if flags_for(&sections[position]) == flags {
+        if flags_for(leave, &sections[position]) == flags {
             least = least.min(limit_at(limits, position));
         }
     }
@@ -141,16 +141,17 @@ fn flags_limit(sections: &[Section<'_>], limits: &[u128], flags: u32) -> u128
 // The same of each set of flags.
 fn flags_limits(
     alloc: Global,
+    leave: bool,
     sections: &[Section<'_>],
     limits: &[u128],
 ) -> Result<Vec<u128>, AllocError>
     ensures { IfOk result (λ found.
-        AreFlagsLimits limits.now (map section_model sections.now) found.items) }
+        AreFlagsLimits leave limits.now (map section_model sections.now) found.items) }
 {
-    let read = flags_limit(sections, limits, PF_R);
-    let run = flags_limit(sections, limits, PF_R + PF_X);
-    let write = flags_limit(sections, limits, PF_R + PF_W);
-    let all = flags_limit(sections, limits, PF_R + PF_W + PF_X);
+    let read = flags_limit(leave, sections, limits, PF_R);
+    let run = flags_limit(leave, sections, limits, PF_R + PF_X);
+    let write = flags_limit(leave, sections, limits, PF_R + PF_W);
+    let all = flags_limit(leave, sections, limits, PF_R + PF_W + PF_X);
     let mut found = Vec::with_capacity(alloc, 4)?;
     found.push(read)?;
     found.push(run)?;
@@ -219,7 +220,12 @@ pub fn forecast_from(
     let found = limits_from(alloc, r, added)?;
     let sections = sections_of(alloc, r.image)?;
     let split = split_limits(alloc, &sections, &found.limits, anchors)?;
-    let flags = flags_limits(alloc, r.image.sections(), &found.limits)?;
+    let flags = flags_limits(
+        alloc,
+        r.image.may_dynamic_move(),
+        r.image.sections(),
+        &found.limits,
+    )?;
     Ok(Forecast {
         from: added,
         bound: found.bound,

@@ -40,14 +40,14 @@ pub(crate) fn count_split(starts: &Starts, anchors: &[AnchorAt]) -> usize
     count
 }
 
-// What a loaded segment lets a program do with a section.
-pub(crate) fn flags_for(section: &Section<'_>) -> u32
-    ensures { result ≡ needed_flags (section_model section.now) }
+// What a loaded segment lets a program do with a section, by whether the dynamic section may move.
+pub(crate) fn flags_for(leave: bool, section: &Section<'_>) -> u32
+    ensures { result ≡ needed_flags leave (section_model section.now) }
 {
     if section.sh_type == SHT_NOTE {
         return PF_R;
     }
-    let write = if section.sh_flags & SHF_WRITE != 0 {
+    let write = if leave || section.sh_flags & SHF_WRITE != 0 {
         PF_W
     } else {
         0
@@ -74,14 +74,15 @@ fn add_once(flags: &mut Vec<u32>, needed: u32) -> Result<(), AllocError>
 #[tactic(auto, unfolding(crate::specs::SplitCounts::with_flags))]
 fn add_flags(
     flags: &mut Vec<u32>,
+    leave: bool,
     sections: &[Section<'_>],
     position: usize,
 ) -> Result<(), AllocError>
     ensures { OnOk result (flags.new.items
-        ≡ with_flags (map section_model sections.now) flags.old.items position) }
+        ≡ with_flags leave (map section_model sections.now) flags.old.items position) }
 {
     if position < sections.len() {
-        add_once(flags, flags_for(&sections[position]))?;
+        add_once(flags, flags_for(leave, &sections[position]))?;
     }
     Ok(())
 }
@@ -93,9 +94,14 @@ fn add_flags_at(
     position: usize,
 ) -> Result<(), AllocError>
     ensures { OnOk result (flags.new.items
-        ≡ with_flags r.now.image.sections flags.old.items position) }
+        ≡ with_flags r.now.image.moves_dynamic r.now.image.sections flags.old.items position) }
 {
-    add_flags(flags, r.image.sections(), position)
+    add_flags(
+        flags,
+        r.image.may_dynamic_move(),
+        r.image.sections(),
+        position,
+    )
 }
 
 // The sets of flags that sections need, each once.

@@ -99,12 +99,12 @@ record IsLoadAt (align : ℕ) (sets : List ℕ) (q : SegmentHeader) : Type 0 whe
   aligned : q.p_align ≡ align
   congruent : 0 < q.p_align → q.p_offset % q.p_align ≡ q.p_vaddr % q.p_align
 
-loads_at : (align : ℕ) (sets : List ℕ) (end memory : ℕ) (flags : List ℕ) (ss : List SizedSection) → ((n : ℕ) → Has n flags → Has n sets)
-    → AllByRecursion (IsLoadAt align sets) (map (λ load. load.header) (loads_from align end memory flags ss))
+loads_at : (leave : Bool) (align : ℕ) (sets : List ℕ) (end memory : ℕ) (flags : List ℕ) (ss : List SizedSection) → ((n : ℕ) → Has n flags → Has n sets)
+    → AllByRecursion (IsLoadAt align sets) (map (λ load. load.header) (loads_from leave align end memory flags ss))
 unfolding loads_from
-loads_at align sets end memory [] ss among = tt
-loads_at align sets end memory (f ∷ more) ss among =
-    let load = first_load align f end memory ss in (
+loads_at leave align sets end memory [] ss among = tt
+loads_at leave align sets end memory (f ∷ more) ss among =
+    let load = first_load leave align f end memory ss in (
       record {
         type = refl;
         flags = among f (has_here f more);
@@ -113,16 +113,16 @@ loads_at align sets end memory (f ∷ more) ss among =
         aligned = refl;
         congruent = same_rest align end memory;
       },
-      loads_at align sets (file_behind load) (memory_behind load) more ss (λ n h. among n (has_there n f more h)),
+      loads_at leave align sets (file_behind load) (memory_behind load) more ss (λ n h. among n (has_there n f more h)),
     )
 
-loads_ordered : (align end memory : ℕ) (flags : List ℕ) (ss : List SizedSection)
-    → AreBehind memory (map (λ load. load.header) (loads_from align end memory flags ss))
+loads_ordered : (leave : Bool) (align end memory : ℕ) (flags : List ℕ) (ss : List SizedSection)
+    → AreBehind memory (map (λ load. load.header) (loads_from leave align end memory flags ss))
 unfolding loads_from
-loads_ordered align end memory [] ss = tt
-loads_ordered align end memory (f ∷ more) ss =
-    let load = first_load align f end memory ss in
-    (omega arith, loads_ordered align (file_behind load) (memory_behind load) more ss)
+loads_ordered leave align end memory [] ss = tt
+loads_ordered leave align end memory (f ∷ more) ss =
+    let load = first_load leave align f end memory ss in
+    (omega arith, loads_ordered leave align (file_behind load) (memory_behind load) more ss)
 
 all_weaker : {A : Type 0} (P Q : A → Type 0) → ((x : A) → P x → Q x) → (xs : List A) → AllByRecursion P xs → AllByRecursion Q xs
 all_weaker P Q more [] h = tt
@@ -136,11 +136,11 @@ module _ (r : Resized) (moved : List ℕ) where
   added_at : AllByRecursion (IsLoadAt (load_alignment r) (added_flags r moved)) (headers_added r moved)
   unfolding added_loads
   added_at =
-      loads_at (load_alignment r) (added_flags r moved) (kept_end r moved) (memory_end r) (added_flags r moved) (sections_at r moved) (λ n h. h)
+      loads_at r.image.moves_dynamic (load_alignment r) (added_flags r moved) (kept_end r moved) (memory_end r) (added_flags r moved) (sections_at r moved) (λ n h. h)
 
   added_behind : AreBehind (memory_end r) (headers_added r moved)
   unfolding added_loads
-  added_behind = loads_ordered (load_alignment r) (kept_end r moved) (memory_end r) (added_flags r moved) (sections_at r moved)
+  added_behind = loads_ordered r.image.moves_dynamic (load_alignment r) (kept_end r moved) (memory_end r) (added_flags r moved) (sections_at r moved)
 
   loads_before : loads_end r.image.segments ≤ memory_end r
   unfolding memory_end
@@ -164,8 +164,8 @@ module _ (image : Image) (sized : sized_sections (resized image) ≡ map (sized_
   load_is : (q : SegmentHeader) → IsLoadAt (load_alignment (resized image)) (added_flags (resized image) moved) q → IsAddedLoad image q
   load_is q h =
       let r : Resized = resized image in
-      let need = map-at (λ (s : SizedSection). flags_for s.kept.section) (sections_at r moved) q.p_flags
-      (once_back (map (λ s. flags_for s.kept.section) (sections_at r moved)) q.p_flags h.flags) in
+      let need = map-at (λ (s : SizedSection). flags_for r.image.moves_dynamic s.kept.section) (sections_at r moved) q.p_flags
+      (once_back (map (λ s. flags_for r.image.moves_dynamic s.kept.section) (sections_at r moved)) q.p_flags h.flags) in
       let given = filter_map-at (λ (position : ℕ). slice_get (sized_sections r) position) moved need.source need.here in
       record {
         type = h.type;
@@ -190,11 +190,11 @@ module _ (image : Image) (sized : sized_sections (resized image) ≡ map (sized_
 module _ (r : Resized) (sized : sized_sections r ≡ map (sized_of r) (kept_sections r.image)) where
   -- the slot is that of a section that needs these flags, at a multiple of its alignment
   abbrev pub IsSlotFor : ℕ → Slot → Type 0
-  IsSlotFor flags x = (t : SizedSection) × (slice_get (sized_sections r) x.position ≡ Some t) × (flags_for t.kept.section ≡ flags)
+  IsSlotFor flags x = (t : SizedSection) × (slice_get (sized_sections r) x.position ≡ Some t) × (flags_for r.image.moves_dynamic t.kept.section ≡ flags)
       × (x.address % alignment_of t ≡ 0)
 
   abbrev Needs : ℕ → SizedSection → Type 0
-  Needs flags t = (slice_get (sized_sections r) t.kept.position ≡ Some t) × (flags_for t.kept.section ≡ flags)
+  Needs flags t = (slice_get (sized_sections r) t.kept.position ≡ Some t) × (flags_for r.image.moves_dynamic t.kept.section ≡ flags)
 
   slots_for : (flags offset address : ℕ) (ss : List SizedSection) → Each (Needs flags) ss → Each (IsSlotFor flags) (slots_from offset address ss)
   unfolding slots_from
@@ -209,15 +209,15 @@ module _ (r : Resized) (sized : sized_sections r ≡ map (sized_of r) (kept_sect
   IsPlaced t = slice_get (sized_sections r) t.kept.position ≡ Some t
 
   loads_for : (align end memory : ℕ) (flags : List ℕ) (ss : List SizedSection) → Each IsPlaced ss
-      → Each (λ (load : AddedLoad). Each (IsSlotFor load.header.p_flags) load.slots) (loads_from align end memory flags ss)
+      → Each (λ (load : AddedLoad). Each (IsSlotFor load.header.p_flags) load.slots) (loads_from r.image.moves_dynamic align end memory flags ss)
   unfolding loads_from
   loads_for align end memory [] ss placed = tt
   loads_for align end memory (f ∷ more) ss placed =
-      let load = first_load align f end memory ss in (
-        slots_for f end load.header.p_vaddr (with_flags f ss)
-            (each-more (λ t. ((flags_for t.kept.section == f) ≡ true) × IsPlaced t) (Needs f)
-            (λ t h. (h.1, eqb-true (flags_for t.kept.section) f h.0)) (with_flags f ss)
-            (each-filter IsPlaced (λ t. flags_for t.kept.section == f) ss placed)),
+      let load = first_load r.image.moves_dynamic align f end memory ss in (
+        slots_for f end load.header.p_vaddr (with_flags r.image.moves_dynamic f ss)
+            (each-more (λ t. ((flags_for r.image.moves_dynamic t.kept.section == f) ≡ true) × IsPlaced t) (Needs f)
+            (λ t h. (h.1, eqb-true (flags_for r.image.moves_dynamic t.kept.section) f h.0)) (with_flags r.image.moves_dynamic f ss)
+            (each-filter IsPlaced (λ t. flags_for r.image.moves_dynamic t.kept.section == f) ss placed)),
         loads_for align (file_behind load) (memory_behind load) more ss placed,
       )
 

@@ -236,7 +236,7 @@ module _ (image again : Image) (plan : Layout) (edited : IsEdited image) (planne
     is_put : put_in.added ≡ headers_added r moved
     is_put = all_added i (place_in r moved s) its_place (same_memory r moved s here ∙ loaded)
 
-    in_load : (t : Slot) → (to : IsMovedTo r moved s t) → place_in r moved s ≡ stands_at s t.offset t.address → IsInAdded put_in.added k now
+    in_load : (t : Slot) → (to : IsMovedTo r moved s t) → place_in r moved s ≡ stands_at s t.offset t.address → IsInAdded image put_in.added k now
     in_load t to place =
         let sized = (edited_facts image edited).sized in
         let load : AddedLoad = to.load in
@@ -253,7 +253,7 @@ module _ (image again : Image) (plan : Layout) (edited : IsEdited image) (planne
           is_load =
               ap (λ (l : List SegmentHeader). slice_get l j) is_put
               ∙ at-map (λ (l : AddedLoad). l.header) (added_loads r moved) j load load_at;
-          flags = sym flags ∙ ap (λ (x : SizedSection). flags_for x.kept.section) same;
+          flags = sym flags ∙ ap (λ (x : SizedSection). flags_for image.moves_dynamic x.kept.section) same;
           has =
               ap (holds load.header) (stands_so ∙ place)
               ∙ holds_slot load t s ((is_added r moved load to.here).slots t to.among) to.size;
@@ -262,7 +262,7 @@ module _ (image again : Image) (plan : Layout) (edited : IsEdited image) (planne
               ∙ ap (λ (x : SizedSection). t.address % alignment_of x) (sym same) ∙ aligned;
         }
 
-    moved_in : (now.sh_addr ≢ k.section.sh_addr) → IsInAdded put_in.added k now
+    moved_in : (now.sh_addr ≢ k.section.sh_addr) → IsInAdded image put_in.added k now
     moved_in away = elim (stands r moved s here) [
       | inl added ↦ in_load added.slot added.is_moved added.place
       | inr (inl unloaded) ↦ absurd (both_ways (is_loaded_section k.section) (unloaded_parts s unloaded.unloaded).1 loaded)

@@ -93,7 +93,7 @@ pub record IsAddedLoad (image : Image) (q : SegmentHeader) : Type 0 where
   pub index : ℕ
   pub section : KeptSection
   pub is_section : slice_get (kept_sections image) index ≡ Some section
-  pub flags : q.p_flags ≡ flags_for section.section
+  pub flags : q.p_flags ≡ flags_for image.moves_dynamic section.section
   pub memory : q.p_memsz ≡ q.p_filesz
   pub physical : q.p_paddr ≡ q.p_vaddr
   pub align : q.p_align ≡ load_alignment (resized image)
@@ -107,11 +107,11 @@ AreBehind end (q ∷ qs) = (end ≤ q.p_vaddr) × AreBehind (end_of (memory_part
 
 -- one of these segments has the section's bytes at the section's address, a multiple of the section's alignment, and lets a program do
 -- with them what the section needs
-pub record IsInAdded (added : List SegmentHeader) (s : KeptSection) (now : ImageSection) : Type 0 where
+pub record IsInAdded (image : Image) (added : List SegmentHeader) (s : KeptSection) (now : ImageSection) : Type 0 where
   pub index : ℕ
   pub load : SegmentHeader
   pub is_load : slice_get added index ≡ Some load
-  pub flags : load.p_flags ≡ flags_for s.section
+  pub flags : load.p_flags ≡ flags_for image.moves_dynamic s.section
   pub has : IsTrue (holds load (place_at_read now))
   pub aligned : now.sh_addr % max 1 s.section.sh_addralign ≡ 0
 
@@ -131,4 +131,4 @@ pub record AreSegmentsKept (image again : Image) : Type 0 where
   pub order : AreBehind (loads_end image.segments) added
   -- each loaded section that stands at another address than it did is in one of them
   pub moved : (i : ℕ) (s : KeptSection) (now : ImageSection) → slice_get (kept_sections image) i ≡ Some s → slice_get again.sections i ≡ Some now
-      → IsTrue (is_loaded_section s.section) → now.sh_addr ≢ s.section.sh_addr → IsInAdded added s now
+      → IsTrue (is_loaded_section s.section) → now.sh_addr ≢ s.section.sh_addr → IsInAdded image added s now

@@ -1,4 +1,6 @@
 //! Files that are read.
+ghost use Rattle.test_cases_files.specs.Words.{IsTextOf};
+
 use std::{fs, io};
 
 /// The bytes of a file, read again where memory was refused.
@@ -10,6 +12,8 @@ pub fn read_file(rt: &HostRuntime, path: &str) -> io::Result<Vec<u8>> {
 }
 
 /// Bytes as text: the empty one where they are no UTF-8.
-pub fn text_of(bytes: &[u8]) -> &str {
+pub fn text_of(bytes: &[u8]) -> &str
+    ensures { IsTextOf bytes.now result.now }
+{
     std::str::from_utf8(bytes).unwrap_or("")
 }

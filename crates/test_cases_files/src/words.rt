@@ -1,10 +1,13 @@
 //! The words of a line. Blanks stand between words, and `''` is the empty word. In words that are read by their marks `~`
 //! stands for a NUL and `^` for a blank.
-ghost use Rattle.std.specs.Prelude.{◌≡◌, ◌==◌, ◌<◌, ◌++◌, ◌∷◌, [], IfOk, OnOk, map};
-ghost use Rattle.std.specs.List.{slice_split};
-ghost use Rattle.test_cases_files.specs.Words.{cut_at, texts_lent, unmarked, unquoted, words_among};
+ghost use Rattle.std.specs.Prelude.{◌≡◌, ◌<◌, ◌++◌, ◌∷◌, [], IfErr, IfOk, OnOk, map};
+ghost use Rattle.command_words.specs.Parts.{texts_lent};
+ghost use Rattle.elf_commands.specs.ElfWords.{edits_model};
+ghost use Rattle.elf_commands.specs.Groups.{plain_of};
+ghost use Rattle.test_cases_files.specs.Words.{AreTextsOf, NameEdits, TellsNoEdits, cut_at, marked_words, unmarked, unquoted, words_between};
 
-use command_words::EditsError;
+use crate::files::text_of;
+use command_words::{EditsError, filled_parts};
 use elf_commands::files::ElfEdit;
 use elf_commands::{parse_elf_edits, plain_edits};
 use std::alloc::{AllocError, Global};
@@ -44,76 +47,61 @@ pub fn push<T: Drop>(items: &mut Vec<T>, item: T) -> Result<(), AllocError>
     Ok(())
 }
 
-/// The words of a text between which an ASCII character stands.
+/// The words of a text between which an ASCII character stands. An empty part is none.
 pub fn split_words<'t>(
     alloc: Global,
     text: &'t str,
     separator: char,
 ) -> Result<Vec<&'t str>, AllocError>
     requires { separator < 128 }
-    ensures { IfOk result (λ words. texts_lent words.items
-        ≡ words_among (slice_split (λ byte. byte == separator) text.now)) }
+    ensures { IfOk result (λ words. texts_lent words.items ≡ words_between separator text.now) }
 {
-    let parts = parts_of(alloc, text, separator)?;
+    let parts = filled_parts(alloc, text, separator)?;
     words_of(alloc, parts.as_slice())
 }
 
-/// The parts of a text between these separators.
-fn parts_of<'t>(alloc: Global, text: &'t str, separator: char) -> Result<Vec<&'t str>, AllocError>
-    requires { separator < 128 }
-    ensures { IfOk result (λ parts. texts_lent parts.items
-        ≡ slice_split (λ byte. byte == separator) text.now) }
-{
-    let mut parts = Vec::new(alloc);
-    for part in text.split(separator) {
-        parts.push(part)?;
-    }
-    Ok(parts)
-}
-
-/// The words that parts are. Empty ones are none.
+/// The words that parts are.
 fn words_of<'t>(alloc: Global, parts: &[&'t str]) -> Result<Vec<&'t str>, AllocError>
-    ensures { IfOk result (λ words. texts_lent words.items ≡ words_among (texts_lent parts.now)) }
+    ensures { IfOk result (λ words. texts_lent words.items ≡ map unquoted (texts_lent parts.now)) }
 {
     let mut words = Vec::new(alloc);
     for part in parts {
-        if !part.is_empty() {
-            words.push(word_of(part))?;
-        }
+        words.push(word_of(part))?;
     }
     Ok(words)
 }
 
-/// What a character of a line stands for, where a line feed stands between words.
-fn char_of(mark: char) -> char {
-    match mark {
-        ' ' => '\n',
-        '^' => ' ',
-        '~' => '\0',
-        other => other,
-    }
-}
-
-/// The words of a line by their marks, with a line feed between them.
-fn text_of_marks(alloc: Global, line: &str) -> Result<String, AllocError> {
-    let mut text = String::new(alloc);
-    for mark in line.chars() {
-        text.push(char_of(mark))?;
-    }
-    Ok(text)
-}
-
 /// The edits of ELF files that the words of a line are, by their marks: those that a batch takes.
-pub fn edits_of(alloc: Global, line: &str) -> Result<Vec<ElfEdit>, EditsError> {
-    let text = text_of_marks(alloc, line)?;
-    edits_in(alloc, text.as_str())
+pub fn edits_of(alloc: Global, line: &str) -> Result<Vec<ElfEdit>, EditsError>
+    ensures ok { IfOk result (λ edits. NameEdits (marked_words line.now)
+        (λ named. edits_model edits.items ≡ plain_of named)) }
+    ensures err { IfErr result (TellsNoEdits (marked_words line.now)) }
+{
+    let texts = texts_of(alloc, line)?;
+    edits_in(alloc, texts.as_slice())
 }
 
-/// The edits that the lines of a text are.
-fn edits_in(alloc: Global, text: &str) -> Result<Vec<ElfEdit>, EditsError> {
-    let words = split_words(alloc, text, '\n')?;
+/// The edits that texts are.
+fn edits_in(alloc: Global, texts: &[Vec<u8>]) -> Result<Vec<ElfEdit>, EditsError>
+    ensures ok { IfOk result (λ edits. NameEdits (map (λ text. text.items) texts.now)
+        (λ named. edits_model edits.items ≡ plain_of named)) }
+    ensures err { IfErr result (TellsNoEdits (map (λ text. text.items) texts.now)) }
+{
+    let words = lent_texts(alloc, texts)?;
     let edits = parse_elf_edits(alloc, words.as_slice())?;
     Ok(plain_edits(alloc, edits)?)
+}
+
+/// Bytes as texts, each the empty one where they are no UTF-8.
+fn lent_texts<'t>(alloc: Global, texts: &'t [Vec<u8>]) -> Result<Vec<&'t str>, AllocError>
+    ensures { IfOk result (λ words.
+        AreTextsOf (map (λ text. text.items) texts.now) (texts_lent words.items)) }
+{
+    let mut words = Vec::new(alloc);
+    for text in texts {
+        words.push(text_of(text.as_slice()))?;
+    }
+    Ok(words)
 }
 
 /// The byte that a byte of a word stands for.
@@ -140,8 +128,8 @@ fn bytes_of(alloc: Global, word: &str) -> Result<Vec<u8>, AllocError>
 
 /// The words of a line by their marks, as bytes.
 pub fn texts_of(alloc: Global, line: &str) -> Result<Vec<Vec<u8>>, AllocError>
-    ensures { IfOk result (λ texts. map (λ text. text.items) texts.items
-        ≡ map (map unmarked) (words_among (slice_split (λ byte. byte == 32) line.now))) }
+    ensures { IfOk result (λ texts.
+        map (λ text. text.items) texts.items ≡ marked_words line.now) }
 {
     let words = split_words(alloc, line, ' ')?;
     texts_in(alloc, words.as_slice())

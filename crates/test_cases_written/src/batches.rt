@@ -1,7 +1,7 @@
 //! Batch after batch of edits.
 
 use crate::edits::tell;
-use crate::words::{Names, filled, number, push};
+use crate::words::number;
 use arwen_elf::elf::{ElfBatchError, ElfContainer, ElfEdit, ElfError, Writer};
 use std::alloc::{AllocError, Global};
 use std::io;
@@ -14,18 +14,20 @@ fn edit_of(word: &str) -> ElfEdit {
     }
 }
 
-/// Each word is a batch of one edit.
-impl Names for Vec<Vec<ElfEdit>> {
-    fn put(&mut self, alloc: Global, word: &str) -> Result<(), AllocError> {
-        push(self, vec![in alloc; edit_of(word)]?)
+/// Batches of one edit, a word for each.
+fn batches_of(alloc: Global, words: &str) -> Result<Vec<Vec<ElfEdit>>, AllocError> {
+    let mut batches = Vec::new(alloc);
+    for word in words.split(' ') {
+        batches.push(vec![in alloc; edit_of(word)]?)?;
     }
+    Ok(batches)
 }
 
 /// Answers of batches.
 type Answers = Vec<Result<(), ElfBatchError>>;
 
 fn apply(alloc: Global, file: &mut Writer<'_>, words: &str) -> Result<Answers, AllocError> {
-    let batches = filled(alloc, Vec::new(alloc), words)?;
+    let batches = batches_of(alloc, words)?;
     file.apply_each(alloc, &batches)
 }
 

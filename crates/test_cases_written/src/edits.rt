@@ -2,7 +2,7 @@
 ghost use Rattle.std.specs.Prelude.{◌≡◌, IfOk, Ok};
 ghost use Rattle.elf_image.specs.Image.{image_of};
 
-use crate::words::{Names, filled, first, number, texts_of};
+use crate::words::{first, number, texts_of};
 use arwen_elf::elf::{ElfContainer, ElfError, Writer};
 use std::alloc::{AllocError, Global};
 use std::collections::{HashMap, HashSet};
@@ -35,38 +35,39 @@ pub fn tell_answer(rt: &HostRuntime, answer: &Result<(), ElfError>) -> io::Resul
     }
 }
 
-/// The names as a set.
-impl Names for HashSet<Vec<u8>> {
-    fn put(&mut self, alloc: Global, word: &str) -> Result<(), AllocError> {
-        let name = Vec::from_slice(alloc, word.as_bytes())?;
-        self.insert(name)?;
-        Ok(())
+/// The words as a set.
+fn names_of(alloc: Global, words: &str) -> Result<HashSet<Vec<u8>>, AllocError> {
+    let mut names = HashSet::new(alloc);
+    for word in words.split(' ') {
+        names.insert(Vec::from_slice(alloc, word.as_bytes())?)?;
     }
+    Ok(names)
 }
 
 /// The pairs of an old and a new name as a map; of an old name that comes twice the last pair counts.
-impl Names for HashMap<Vec<u8>, Vec<u8>> {
-    fn put(&mut self, alloc: Global, word: &str) -> Result<(), AllocError> {
-        let (old, new) = word.split_once('=').unwrap_or((word, ""));
-        put_pair(alloc, old.as_bytes(), new.as_bytes(), self)
+fn pairs_of(alloc: Global, pairs: &str) -> Result<HashMap<Vec<u8>, Vec<u8>>, AllocError> {
+    let mut names = HashMap::new(alloc);
+    for pair in pairs.split(' ') {
+        put_pair(alloc, pair, &mut names)?;
     }
+    Ok(names)
 }
 
 /// Puts a pair into a map.
 fn put_pair(
     alloc: Global,
-    old: &[u8],
-    new: &[u8],
+    pair: &str,
     names: &mut HashMap<Vec<u8>, Vec<u8>>,
 ) -> Result<(), AllocError> {
-    let key = Vec::from_slice(alloc, old)?;
-    names.insert(key, Vec::from_slice(alloc, new)?)?;
+    let (old, new) = pair.split_once('=').unwrap_or((pair, ""));
+    let key = Vec::from_slice(alloc, old.as_bytes())?;
+    names.insert(key, Vec::from_slice(alloc, new.as_bytes())?)?;
     Ok(())
 }
 
 /// Renames dynamic symbols by pairs.
 fn rename_symbols(alloc: Global, file: &mut Writer<'_>, pairs: &str) -> Result<(), ElfError> {
-    let names = filled(alloc, HashMap::new(alloc), pairs)?;
+    let names = pairs_of(alloc, pairs)?;
     file.elf_rename_dynamic_symbols(alloc, &names)
 }
 
@@ -113,7 +114,7 @@ fn add_needed(alloc: Global, file: &mut Writer<'_>, names: &str) -> Result<(), E
 
 /// Removes needed libraries.
 fn remove_needed(alloc: Global, file: &mut Writer<'_>, names: &str) -> Result<(), ElfError> {
-    let names = filled(alloc, HashSet::new(alloc), names)?;
+    let names = names_of(alloc, names)?;
     file.elf_delete_needed(alloc, &names)
 }
 

@@ -1,4 +1,6 @@
 //! The file that lines work on.
+ghost use Rattle.std.specs.Prelude.{◌≡◌, ◌-◌, IfOk, length, take};
+ghost use Rattle.byte_store.specs.Known.{put_at, resized as resized_to};
 
 use crate::words::{bytes_of, first, place};
 use std::alloc::{AllocError, Global};
@@ -69,15 +71,20 @@ fn overwritten(
 }
 
 /// Puts bytes at an offset, as far as they reach.
-pub fn put(bytes: &mut [u8], offset: usize, part: &[u8]) {
-    for (old, new) in bytes.iter_mut().skip(offset).zip(part) {
-        *old = *new;
+pub fn put(bytes: &mut [u8], offset: usize, part: &[u8])
+    ensures { bytes.new ≡ put_at offset (take (length bytes.old - offset) part.now) bytes.old }
+{
+    if offset < bytes.len() {
+        let count = part.len().min(bytes.len() - offset);
+        bytes[offset..offset + count].copy_from_slice(&part[..count]);
     }
 }
 
 /// So many bytes: the first of these, and zeros behind them.
-pub fn resized(alloc: Global, bytes: &[u8], length: usize) -> Result<Vec<u8>, AllocError> {
-    let mut made = vec![in alloc; 0u8; length]?;
-    put(&mut made, 0, bytes);
+pub fn resized(alloc: Global, bytes: &[u8], length: usize) -> Result<Vec<u8>, AllocError>
+    ensures { IfOk result (λ made. made.items ≡ resized_to length bytes.now) }
+{
+    let mut made = Vec::from_slice(alloc, bytes)?;
+    made.resize(length, 0)?;
     Ok(made)
 }

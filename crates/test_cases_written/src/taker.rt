@@ -1,4 +1,5 @@
 //! A writer that takes so many bytes and then fails.
+ghost use Rattle.std.specs.Prelude.{◌≡◌, None, Some, if◌then◌else◌, true};
 
 use std::io;
 use std::io::{ErrorKind, Write};
@@ -15,7 +16,15 @@ pub(crate) struct Taker<'a> {
 
 impl<'a> Taker<'a> {
     /// A writer that wants these bytes, and takes `room` of them at most, and `step` at a time.
-    pub(crate) fn new(want: &'a [u8], room: usize, step: usize) -> Self {
+    pub(crate) fn new(want: &'a [u8], room: usize, step: usize) -> Self
+        ensures { result ≡ record {
+          want = want.entry;
+          room = room;
+          step = step;
+          length = 0;
+          is_same = true;
+        } }
+    {
         Taker {
             want,
             room,
@@ -26,7 +35,9 @@ impl<'a> Taker<'a> {
     }
 
     /// How many bytes it took, if they are the first ones of those that it wants.
-    pub(crate) fn taken(&self) -> Option<usize> {
+    pub(crate) fn taken(&self) -> Option<usize>
+        ensures { result ≡ (if self.now.is_same then Some self.now.length else None) }
+    {
         if self.is_same {
             Some(self.length)
         } else {

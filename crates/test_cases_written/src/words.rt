@@ -1,6 +1,7 @@
 //! Words of a line, and what they stand for.
-ghost use Rattle.std.specs.Prelude.{◌≡◌, ◌++◌, ◌∷◌, [], OnOk};
-ghost use Rattle.test_cases_written.specs.Words.{IsNumberOrZero, cut_at_blank};
+ghost use Rattle.std.specs.Prelude.{◌≡◌, ◌<◌, ◌/◌, ◌%◌, ℕ, List, IfOk, false, map};
+ghost use Rattle.std.specs.Fmt.{digit_glyph};
+ghost use Rattle.test_cases_written.specs.Words.{AreBytes, IsNumberOrZero, cut_at_blank, hex_digits, hex_of, words_of};
 
 use std::alloc::{AllocError, Global};
 
@@ -29,76 +30,55 @@ pub fn first(words: &str) -> (&str, &str)
 }
 
 /// The value of a digit in base 16.
-fn digit(letter: u8) -> u8 {
+fn digit(letter: u8) -> u8
+    ensures { (value : ℕ) → value < 16 → letter ≡ digit_glyph false value → result ≡ value }
+{
     match letter {
         b'0'..=b'9' => letter.wrapping_sub(b'0'),
         _ => letter.wrapping_sub(b'a').wrapping_add(10),
     }
 }
 
-/// The byte that digits are.
-fn byte(digits: &[u8]) -> u8 {
-    let mut value = 0u8;
-    for letter in digits {
-        value = value.wrapping_mul(16).wrapping_add(digit(*letter));
-    }
-    value
-}
-
-/// Puts an item behind others.
-pub(crate) fn push<T: Drop>(items: &mut Vec<T>, item: T) -> Result<(), AllocError>
-    ensures { OnOk result (items.new.items ≡ items.old.items ++ item ∷ []) }
+/// The byte that two digits are.
+fn byte(high: u8, low: u8) -> u8
+    ensures { (value : ℕ) → value < 256 → high ≡ digit_glyph false (value / 16)
+        → low ≡ digit_glyph false (value % 16) → result ≡ value }
 {
-    items.push(item)?;
-    Ok(())
+    digit(high).wrapping_mul(16).wrapping_add(digit(low))
 }
 
 /// The bytes that a word in hex is, none for `-`.
-pub fn bytes_of(alloc: Global, word: &str) -> Result<Vec<u8>, AllocError> {
+pub fn bytes_of(alloc: Global, word: &str) -> Result<Vec<u8>, AllocError>
+    ensures { IfOk result (λ made. (bytes : List ℕ) → AreBytes bytes
+        → word.now ≡ hex_of bytes → made.items ≡ bytes) }
+{
+    if word == "-" {
+        Ok(Vec::new(alloc))
+    } else {
+        bytes_spelled(alloc, word.as_bytes())
+    }
+}
+
+/// The bytes that digits are, two for each.
+fn bytes_spelled(alloc: Global, digits: &[u8]) -> Result<Vec<u8>, AllocError>
+    ensures { IfOk result (λ made. (bytes : List ℕ) → AreBytes bytes
+        → digits.now ≡ hex_digits bytes → made.items ≡ bytes) }
+{
+    let (pairs, _) = digits.as_chunks::<2>();
     let mut made = Vec::new(alloc);
-    if word != "-" {
-        put_bytes(word, &mut made)?;
+    for pair in pairs {
+        made.push(byte(pair[0], pair[1]))?;
     }
     Ok(made)
 }
 
-/// Puts the bytes that a word in hex is behind others.
-fn put_bytes(word: &str, bytes: &mut Vec<u8>) -> Result<(), AllocError> {
-    for digits in word.as_bytes().chunks(2) {
-        push(bytes, byte(digits))?;
-    }
-    Ok(())
-}
-
-/// What words are put into.
-pub(crate) trait Names: Drop {
-    /// Puts a word into it.
-    fn put(&mut self, alloc: Global, word: &str) -> Result<(), AllocError>;
-}
-
 /// The words as texts.
-impl Names for Vec<Vec<u8>> {
-    fn put(&mut self, alloc: Global, word: &str) -> Result<(), AllocError> {
-        push(self, Vec::from_slice(alloc, word.as_bytes())?)
-    }
-}
-
-/// Names with each word of some.
-pub(crate) fn filled<N: Names>(alloc: Global, empty: N, words: &str) -> Result<N, AllocError> {
-    let mut names = empty;
-    put_words(alloc, &mut names, words)?;
-    Ok(names)
-}
-
-/// Puts each word of some into names.
-fn put_words<N: Names>(alloc: Global, names: &mut N, words: &str) -> Result<(), AllocError> {
+pub fn texts_of(alloc: Global, words: &str) -> Result<Vec<Vec<u8>>, AllocError>
+    ensures { IfOk result (λ texts. map (λ text. text.items) texts.items ≡ words_of words.now) }
+{
+    let mut texts = Vec::new(alloc);
     for word in words.split(' ') {
-        names.put(alloc, word)?;
+        texts.push(Vec::from_slice(alloc, word.as_bytes())?)?;
     }
-    Ok(())
-}
-
-/// The words as texts.
-pub fn texts_of(alloc: Global, words: &str) -> Result<Vec<Vec<u8>>, AllocError> {
-    filled(alloc, Vec::new(alloc), words)
+    Ok(texts)
 }

@@ -1,11 +1,16 @@
 //! The bytes of files after edits.
+ghost use Rattle.std.specs.Prelude.{◌≡◌, ◌↔◌, All, IfOk, IsTrue, length};
+ghost use Rattle.arwen_elf.specs.Written.{AnswersBytes, AnswersPieces};
+ghost use Rattle.byte_store.specs.Composed.{made_of, owned_patches};
+ghost use Rattle.byte_store.specs.Laid.{LiesIn, laid};
+ghost use Rattle.test_cases_written.specs.Differences.{DoPiecesLieIn};
 
 use crate::edits::tell;
-use crate::files::{put, resized, save};
+use crate::files::{put, save};
 use crate::planned::print_planned;
 use crate::rows::print_rows;
 use arwen_elf::elf::{ElfContainer, ElfError, Writer};
-use byte_store::Difference;
+use byte_store::{Difference, OwnedPiece};
 use std::alloc::{AllocError, Global};
 use std::io;
 
@@ -19,7 +24,9 @@ pub(crate) fn print_written(rt: &HostRuntime, file: &ElfContainer<'_>) -> io::Re
 }
 
 /// The bytes that are written of a file, made again where memory was refused.
-fn image_bytes(alloc: Global, file: &Writer<'_>) -> Result<Vec<u8>, ElfError> {
+fn image_bytes(alloc: Global, file: &Writer<'_>) -> Result<Vec<u8>, ElfError>
+    ensures { AnswersBytes file.now result }
+{
     match file.image_bytes(alloc) {
         Err(ElfError::Memory) => file.image_bytes(alloc),
         made => made,
@@ -27,7 +34,9 @@ fn image_bytes(alloc: Global, file: &Writer<'_>) -> Result<Vec<u8>, ElfError> {
 }
 
 /// The same, of its container.
-pub(crate) fn container_bytes(alloc: Global, file: &ElfContainer<'_>) -> Result<Vec<u8>, ElfError> {
+pub(crate) fn container_bytes(alloc: Global, file: &ElfContainer<'_>) -> Result<Vec<u8>, ElfError>
+    ensures { AnswersBytes file.now.inner result }
+{
     match file.image_bytes(alloc) {
         Err(ElfError::Memory) => file.image_bytes(alloc),
         made => made,
@@ -51,7 +60,9 @@ fn print_difference(rt: &HostRuntime, file: &ElfContainer<'_>, new: &[u8]) -> io
 }
 
 /// What differs, asked for again where memory was refused.
-fn pieces(alloc: Global, file: &ElfContainer<'_>) -> Result<Difference, ElfError> {
+fn pieces(alloc: Global, file: &ElfContainer<'_>) -> Result<Difference, ElfError>
+    ensures { AnswersPieces file.now.inner result }
+{
     match file.image_pieces(alloc) {
         Err(ElfError::Memory) => file.image_pieces(alloc),
         made => made,
@@ -86,11 +97,32 @@ pub(crate) fn makes(
     old: &[u8],
     difference: &Difference,
     new: &[u8],
-) -> Result<bool, AllocError> {
-    let mut made = resized(alloc, old, difference.new_length)?;
-    put(&mut made, old.len(), &difference.growth);
-    for piece in difference.pieces.iter() {
-        put(&mut made, piece.offset as usize, &piece.bytes);
-    }
+) -> Result<bool, AllocError>
+    ensures { IfOk result (λ is_made. DoPiecesLieIn old.now difference.now
+        → (IsTrue is_made ↔ (made_of old.now difference.now ≡ new.now))) }
+{
+    let made = made(alloc, old, difference)?;
     Ok(made.as_slice() == new)
+}
+
+/// The bytes that a difference makes of others.
+fn made(alloc: Global, old: &[u8], difference: &Difference) -> Result<Vec<u8>, AllocError>
+    ensures { IfOk result (λ made. DoPiecesLieIn old.now difference.now
+        → made.items ≡ made_of old.now difference.now) }
+{
+    let mut bytes = Vec::from_slice(alloc, old)?;
+    bytes.extend_from_slice(&difference.growth)?;
+    lay(bytes.as_mut_slice(), difference.pieces.as_slice());
+    bytes.truncate(difference.new_length);
+    Ok(bytes)
+}
+
+/// Puts pieces over bytes.
+fn lay(bytes: &mut [u8], pieces: &[OwnedPiece])
+    ensures { All (LiesIn (length bytes.old)) (owned_patches pieces.now)
+        → bytes.new ≡ laid (owned_patches pieces.now) bytes.old }
+{
+    for piece in pieces {
+        put(bytes, piece.offset as usize, &piece.bytes);
+    }
 }

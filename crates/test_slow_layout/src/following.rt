@@ -121,9 +121,9 @@ pub(crate) fn is_any_under(plain: &Plain, moved: &[Part], piece: &Piece, does_mo
 }
 
 /// No section before this one of those that move needs a segment of these flags.
-pub(crate) fn is_first_of_flags(moved: &[Part], place: usize, p_flags: u32) -> bool {
+pub(crate) fn is_first_of_flags(plain: &Plain, moved: &[Part], place: usize, p_flags: u32) -> bool {
     for (i, part) in moved.iter().enumerate() {
-        if i < place && part.segment_flags() == p_flags {
+        if i < place && plain.segment_flags(part) == p_flags {
             return false;
         }
     }
@@ -144,7 +144,7 @@ fn is_split(plain: &Plain, moved: &[Part], piece: &Piece) -> bool {
 pub(crate) fn headers_needed(plain: &Plain, moved: &[Part]) -> usize {
     let mut count: usize = 0;
     for (i, part) in moved.iter().enumerate() {
-        if is_first_of_flags(moved, i, part.segment_flags()) {
+        if is_first_of_flags(plain, moved, i, plain.segment_flags(part)) {
             count = count.saturating_add(1);
         }
     }

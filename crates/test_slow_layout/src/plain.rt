@@ -53,24 +53,6 @@ impl Part {
         let of_threads = self.sh_type == SHT_NOBITS && self.sh_flags & SHF_TLS != 0;
         self.is_loaded() && self.sh_type != SHT_NULL && !of_threads
     }
-
-    /// The flags of a loaded segment for it.
-    pub(crate) fn segment_flags(&self) -> u32 {
-        if self.sh_type == SHT_NOTE {
-            return PF_R;
-        }
-        let write = if self.sh_flags & SHF_WRITE != 0 {
-            PF_W
-        } else {
-            0
-        };
-        let run = if self.sh_flags & SHF_EXECINSTR != 0 {
-            PF_X
-        } else {
-            0
-        };
-        PF_R | write | run
-    }
 }
 
 /// A program header (gABI, Program Header).
@@ -142,6 +124,24 @@ impl Plain {
             }
         }
         false
+    }
+
+    /// The flags of a loaded segment for a section: all but notes may be written where the dynamic section may move.
+    pub(crate) fn segment_flags(&self, part: &Part) -> u32 {
+        if part.sh_type == SHT_NOTE {
+            return PF_R;
+        }
+        let write = if self.facts.moves_dynamic || part.sh_flags & SHF_WRITE != 0 {
+            PF_W
+        } else {
+            0
+        };
+        let run = if part.sh_flags & SHF_EXECINSTR != 0 {
+            PF_X
+        } else {
+            0
+        };
+        PF_R | write | run
     }
 }
 

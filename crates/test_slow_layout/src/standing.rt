@@ -129,13 +129,14 @@ fn load_alignment(plain: &Plain) -> u128 {
 /// last one ends in the file.
 fn add_slots(
     standing: &mut Standing,
+    plain: &Plain,
     moved: &[Part],
     p_flags: u32,
     (start, address): (u128, u128),
 ) -> Result<u128, AllocError> {
     let (mut offset, mut at) = (start, address);
     for part in moved {
-        if part.segment_flags() == p_flags {
+        if plain.segment_flags(part) == p_flags {
             let next = next_multiple(at, part.align);
             offset = offset.saturating_add(next.saturating_sub(at));
             add_slot(standing, part, offset, next)?;
@@ -166,12 +167,13 @@ fn add_slot(
 /// many bytes it has.
 fn add_load(
     standing: &mut Standing,
+    plain: &Plain,
     moved: &[Part],
     align: u128,
     p_flags: u32,
     (start, address): (u128, u128),
 ) -> Result<u128, AllocError> {
-    let end = add_slots(standing, moved, p_flags, (start, address))?;
+    let end = add_slots(standing, plain, moved, p_flags, (start, address))?;
     let size = end.saturating_sub(start);
     standing.loads.push(Piece {
         p_type: PT_LOAD,
@@ -235,10 +237,10 @@ fn add_loads(
     let align = load_alignment(plain);
     let (mut end, mut memory) = (start, memory_end(plain));
     for (i, part) in moved.iter().enumerate() {
-        let p_flags = part.segment_flags();
-        if is_first_of_flags(moved, i, p_flags) {
+        let p_flags = plain.segment_flags(part);
+        if is_first_of_flags(plain, moved, i, p_flags) {
             let address = next_multiple(memory, align).saturating_add(remainder(end, align));
-            let size = add_load(standing, moved, align, p_flags, (end, address))?;
+            let size = add_load(standing, plain, moved, align, p_flags, (end, address))?;
             end = end.saturating_add(size);
             memory = address.saturating_add(size);
         }

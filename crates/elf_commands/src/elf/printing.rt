@@ -119,8 +119,9 @@ pub fn print_path<'p, O: OpensOnce<'p>, W: CountedWrite>(
         refused.error refused.store) }
     ensures cause { IfErr result (λ refused. HasReadCauseAt
         (O.may_fail files (elf_file_of (elf_command_model command.now)))
-        O.Opened.may_fail_read
-        (O.contents files (elf_file_of (elf_command_model command.now))) refused.error) }
+        O.Opened.may_fail_read O.Opened.failed
+        (O.contents files (elf_file_of (elf_command_model command.now)))
+        refused.error refused.store) }
 {
     let mut store = open_path(files, command.path_to_binary())?;
     match print_store(alloc, &mut store, command, out) {

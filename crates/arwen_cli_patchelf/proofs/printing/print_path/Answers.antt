@@ -1,6 +1,7 @@
 -- The store that was opened is the one at the path.
 use Rattle.std.proofs.lemmas.Result.{err_from_is_err_and}
-use Rattle.arwen_cli_patchelf.proofs.PrintLaws.{print_cause_at, unopened}
+use Rattle.arwen_cli_patchelf.proofs.OutputLaws.{opened_cause}
+use Rattle.arwen_cli_patchelf.proofs.PrintLaws.{unopened}
 use Rattle.arwen_cli_patchelf.proofs.printing.print_path.Goals as goal
 
 pub returns-in_err-store-clause-tells : goal.returns-in_err-store-clause-tells
@@ -11,5 +12,5 @@ returns-in_err-store-clause-tells g c =
 
 pub returns-in-Err-clause-cause : goal.returns-in-Err-clause-cause
 returns-in-Err-clause-cause g c =
-    print_cause_at (g.O.OpensOnce.may_fail c.args.files c.args.path.now) g.O.Opened.Store.may_fail_read (g.O.OpensOnce.contents c.args.files c.args.path.now) _ c.in-Err.error
-    c.in_ok-store.ensures.bytes c.in-Err.ensures.cause
+    opened_cause g.O.Opened.Store.may_fail_read (g.O.OpensOnce.contents c.args.files c.args.path.now) _ _ _ c.in-Err.error
+    c.in_ok-store.ensures.bytes c.in_ok-store.ensures.fresh c.in-Err.ensures.cause

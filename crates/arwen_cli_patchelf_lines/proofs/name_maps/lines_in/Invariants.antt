@@ -1,5 +1,5 @@
 use Rattle.std.proofs.Common.{◌≡◌, map}
-use Rattle.arwen_cli_patchelf_lines.specs.NameMaps.{texts_lent}
+use Rattle.command_words.specs.Parts.{texts_lent}
 use Rattle.arwen_cli_patchelf_lines.proofs.name_maps.lines_in.Given as goal
 
 -- the lines that were yielded

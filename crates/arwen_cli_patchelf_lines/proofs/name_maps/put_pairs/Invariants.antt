@@ -1,5 +1,6 @@
 use Rattle.std.proofs.Common.{◌≡◌, ◌+◌, drop, map}
-use Rattle.arwen_cli_patchelf_lines.specs.NameMaps.{lent_pair, pairs_from, texts_lent}
+use Rattle.arwen_cli_patchelf_lines.specs.NameMaps.{lent_pair, pairs_from}
+use Rattle.command_words.specs.Parts.{texts_lent}
 use Rattle.arwen_cli_patchelf_lines.proofs.name_maps.put_pairs.Given as goal
 
 -- the pairs so far, and those of the lines that are left

@@ -9,4 +9,5 @@ unfolding computing
 returns c = record {
   relro_stays = record { before = (2 ∷ []) ∷ []; moved = 2 ∷ []; ended = record { lead = refl; move = refl; chosen = refl; enough = refl }; counted = refl; follows = refl; fits = refl };
   other_goes = record { before = (2 ∷ []) ∷ []; moved = 2 ∷ []; ended = record { lead = refl; move = refl; chosen = refl; enough = refl }; counted = refl; follows = refl; fits = refl };
+  strings_go_along = record { before = (1 ∷ 2 ∷ []) ∷ []; moved = 1 ∷ 2 ∷ []; ended = record { lead = refl; move = refl; chosen = refl; enough = refl }; counted = refl; follows = refl; fits = refl };
 }

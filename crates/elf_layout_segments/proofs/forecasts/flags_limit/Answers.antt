@@ -12,7 +12,7 @@ use Rattle.elf_layout_segments.proofs.forecasts.flags_limit.Goals as goal
 use Rattle.elf_layout_segments.proofs.forecasts.flags_limit.Goals.{then-flags_for-flags, else-flags_for-flags}
 
 pub loop-position-init : goal.loop-position-init
-loop-position-init c = none_flagged c.args.limits.now (map section_model c.args.sections.now) c.args.flags
+loop-position-init c = none_flagged c.args.leave c.args.limits.now (map section_model c.args.sections.now) c.args.flags
 
 pub loop-position-preserved : goal.loop-position-preserved
 loop-position-preserved c =
@@ -26,14 +26,14 @@ loop-position-preserved c =
     elim c.if-flags_for-flags.branch [
       | then-flags_for-flags w ↦
           let value = w.least-is ∙ w.min-least.ensures ∙ ap (λ (n : ℕ). min c.loop-position.least n) w.limit_at.ensures in
-          subst (λ (n : ℕ). IsFlagsLimitBelow limits sections flags (k + 1) n) (sym value)
-          (flagged_next limits sections flags k c.loop-position.least (needs_here sections flags k (section_model x) at ∙ eq-eqb (flags_for (section_model x)) flags (sym c.flags_for.ensures ∙ w.if-flags_for-flags.true)) c.loop-position.invariant)
+          subst (λ (n : ℕ). IsFlagsLimitBelow c.args.leave limits sections flags (k + 1) n) (sym value)
+          (flagged_next c.args.leave limits sections flags k c.loop-position.least (needs_here c.args.leave sections flags k (section_model x) at ∙ eq-eqb (flags_for c.args.leave (section_model x)) flags (sym c.flags_for.ensures ∙ w.if-flags_for-flags.true)) c.loop-position.invariant)
       | else-flags_for-flags w ↦
-          subst (λ (n : ℕ). IsFlagsLimitBelow limits sections flags (k + 1) n) (sym w.least-is)
-          (flagged_passed limits sections flags k c.loop-position.least (needs_here sections flags k (section_model x) at ∙ ne_eqb (flags_for (section_model x)) flags (λ same. w.if-flags_for-flags.false (c.flags_for.ensures ∙ same))) c.loop-position.invariant)
+          subst (λ (n : ℕ). IsFlagsLimitBelow c.args.leave limits sections flags (k + 1) n) (sym w.least-is)
+          (flagged_passed c.args.leave limits sections flags k c.loop-position.least (needs_here c.args.leave sections flags k (section_model x) at ∙ ne_eqb (flags_for c.args.leave (section_model x)) flags (λ same. w.if-flags_for-flags.false (c.flags_for.ensures ∙ same))) c.loop-position.invariant)
     ]
 
 pub returns : goal.returns
 returns c =
-    all_flagged c.args.limits.now (map section_model c.args.sections.now) c.args.flags c.loop-position.position c.loop-position.least
+    all_flagged c.args.leave c.args.limits.now (map section_model c.args.sections.now) c.args.flags c.loop-position.position c.loop-position.least
     (omega (arith, length-map c.args.sections.now section_model, c.loop-position-test.false, c.loop-position.auto.position-end)) c.loop-position.invariant

@@ -9,5 +9,5 @@ loop-position-init c = c.new-flags.ensures.items ∙ sym (flags-none c.args.r.no
 pub loop-position-preserved : goal.loop-position-preserved
 loop-position-preserved c =
     c.in_ok-add_flags_at.ensures
-    ∙ ap (λ l. with_flags c.args.r.now.image.sections l (get_or c.args.moved.now c.loop-position.position-index 0)) c.loop-position.invariant
+    ∙ ap (λ l. with_flags c.args.r.now.image.moves_dynamic c.args.r.now.image.sections l (get_or c.args.moved.now c.loop-position.position-index 0)) c.loop-position.invariant
     ∙ sym (flags-more c.args.r.now c.sections_have_sizes.ensures c.args.moved.now c.loop-position.position-index c.loop-position-test.true)

@@ -1,5 +1,6 @@
 use Rattle.std.proofs.Common.{◌≡◌, ◌++◌, drop, map}
-use Rattle.test_cases_files.specs.Words.{texts_lent, unmarked}
+use Rattle.command_words.specs.Parts.{texts_lent}
+use Rattle.test_cases_files.specs.Words.{unmarked}
 use Rattle.test_cases_files.proofs.words.texts_in.Given as goal
 
 -- the texts so far, with those of the words that are left

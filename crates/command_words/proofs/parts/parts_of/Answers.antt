@@ -2,7 +2,7 @@
 use Rattle.std.proofs.Common.{◌∙◌}
 use Rattle.std.proofs.lemmas.Iterator.Consumers.{YieldsList-end}
 use Rattle.std.proofs.lemmas.Iterator.Splits.{YieldsList-from_str_split}
-use Rattle.test_cases_files.proofs.words.parts_of.Goals as goal
+use Rattle.command_words.proofs.parts.parts_of.Goals as goal
 
 pub returns : goal.returns
 returns c =

@@ -1,6 +1,6 @@
 use Rattle.std.proofs.Common.{◌≡◌, map}
-use Rattle.arwen_cli_patchelf_lines.specs.NameMaps.{texts_lent}
-use Rattle.arwen_cli_patchelf_lines.proofs.parts.parts_of.Given as goal
+use Rattle.command_words.specs.Parts.{texts_lent}
+use Rattle.command_words.proofs.parts.parts_of.Given as goal
 
 -- the parts that were yielded
 abbrev pub invariant-loop-part : goal.invariant-loop-part

@@ -1,6 +1,6 @@
 use Rattle.std.proofs.Common.{◌≡◌, ◌++◌, drop}
-use Rattle.arwen_cli_patchelf_lines.specs.NameMaps.{texts_lent, without_empty}
-use Rattle.arwen_cli_patchelf_lines.proofs.parts.filled.Given as goal
+use Rattle.command_words.specs.Parts.{texts_lent, without_empty}
+use Rattle.command_words.proofs.parts.filled.Given as goal
 
 -- the texts so far, with those that are left
 abbrev pub invariant-loop-text : goal.invariant-loop-text

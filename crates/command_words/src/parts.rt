@@ -1,12 +1,12 @@
 //! The parts of texts between separators.
 ghost use Rattle.std.specs.Prelude.{◌≡◌, ◌==◌, ◌<◌, IfOk};
 ghost use Rattle.std.specs.List.{slice_split};
-ghost use Rattle.arwen_cli_patchelf_lines.specs.NameMaps.{texts_lent, without_empty};
+ghost use Rattle.command_words.specs.Parts.{texts_lent, without_empty};
 
 use std::alloc::{AllocError, Global};
 
 /// The parts of a text between these separators that have a byte.
-pub(crate) fn filled_parts<'t>(
+pub fn filled_parts<'t>(
     alloc: Global,
     text: &'t str,
     separator: char,

@@ -1,7 +1,0 @@
-use Rattle.std.proofs.Common.{◌≡◌, map}
-use Rattle.test_cases_files.specs.Words.{texts_lent}
-use Rattle.test_cases_files.proofs.words.parts_of.Given as goal
-
--- the parts that were yielded
-abbrev pub invariant-loop-part : goal.invariant-loop-part
-invariant-loop-part l = texts_lent l.parts.items ≡ map (λ x. x.now) l.yielded
