@@ -373,20 +373,27 @@ def written_anew(data):
             yield from range(offset, offset + size)
 
 
+def holder_of(place, loaded):
+    """The loaded segment that has the range in memory."""
+    return next(row for row in loaded if row[3] <= place[0] and place[0] + place[2] <= row[3] + row[4])
+
+
 def why_misplaced(old, new, has_leave):
     """What is wrong with the place of the dynamic section: with leave alone it moves, into an added segment that may be written, and
-    its old place keeps its bytes, but for those that the program header table or the interpreter has now."""
+    its old place keeps its bytes, but for those that the program header table or the interpreter has now; so where the loaded
+    segment of the old place is still there, since a spare one goes."""
     (before, segments), (after, loaded) = place_of(old), place_of(new)
     if before is None or before[0] == after[0]:
         return None
     if not has_leave:
         return "the dynamic section moved"
     _, offset, size = before
+    kept = [row for row in segments if row in loaded]
     written = set(written_anew(new))
-    if any(new[at] != old[at] and at not in written for at in range(offset, offset + size)):
+    if holder_of(before, segments) in kept and any(new[at] != old[at] and at not in written for at in range(offset, offset + size)):
         return "the old place of the dynamic section has other bytes"
-    holder = next(row for row in loaded if row[3] <= after[0] and after[0] + after[2] <= row[3] + row[4])
-    if not holder[1] & 2 or any(holder[3] < row[3] + row[4] for row in segments):
+    holder = holder_of(after, loaded)
+    if not holder[1] & 2 or any(holder[3] < row[3] + row[4] for row in kept):
         return "the segment of the dynamic section may not be written, or isn't behind all others"
     return None
 
