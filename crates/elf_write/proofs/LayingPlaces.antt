@@ -25,7 +25,7 @@ use Rattle.elf_write_spec.proofs.ForCallers.Laying.{length-values, value-at}
 use Rattle.elf_write_spec.specs.Ready.{IsEditedReady}
 use Rattle.elf_write.specs.LayingSteps.{IsCleared, TakesFrom, is_in_load, is_in_range, leaves_place_at, rewritten_places}
 use Rattle.elf_write_spec.proofs.ForCallers.WholeEdits.{ReadFacts, read_facts}
-use Rattle.elf_write_strings.proofs.ForCallers.ReadTables.{ready_edit}
+use Rattle.elf_write_contents.proofs.ForCallers.ReadTables.{ready_edit}
 use Rattle.elf_format.proofs.ForCallers.Lengths.{length-segments}
 use Rattle.elf_image.proofs.ForCallers.KeptSections.{kept-at, length-kept}
 

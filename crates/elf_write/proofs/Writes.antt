@@ -30,14 +30,14 @@ use Rattle.elf_write_spec.specs.Headers.{IsHeaderOf, written_header}
 use Rattle.elf_write_spec.specs.Output.{AreHeadersApart, AreSectionsWritten, IsPlannedOutput, written_bytes}
 use Rattle.elf_layout_plan.specs.ApartLaws.{PlansAreApart, PlansShowNotes}
 use Rattle.elf_write_spec.proofs.ForCallers.FilesWritten.{files_are_written, files_by_plan}
-use Rattle.elf_write_strings.specs.declared.made.Made.{Made}
-use Rattle.elf_write_strings.specs.WrittenStrings.{strings_at}
+use Rattle.elf_write_contents.specs.Made.{Made}
+use Rattle.elf_write_contents.specs.WrittenStrings.{strings_at}
 use Rattle.elf_write_contents.specs.Renumbering.{do_symbols_fit}
 use Rattle.elf_write_contents.specs.Inner.{AreContents, AreHeaders, ArePromised, AreRaw, IsMadeContent, IsPlanned, IsPlannedFile, output_of}
 use Rattle.elf_write_contents.specs.Numbers.{do_records_fit}
 use Rattle.elf_write_contents.proofs.ForCallers.{shows_none, shows_texts}
-use Rattle.elf_write_strings.proofs.ForCallers.ReadTables.{ready_edit}
-use Rattle.elf_write_strings.proofs.ForCallers.TablesThere.{TableThere, link_there, names_there}
+use Rattle.elf_write_contents.proofs.ForCallers.ReadTables.{ready_edit}
+use Rattle.elf_write_contents.proofs.ForCallers.TablesThere.{TableThere, link_there, names_there}
 use Rattle.elf_write_spec.proofs.ForCallers.NumberedSections.{kept_as}
 use Rattle.elf_write_spec.proofs.ForCallers.WholeEdits.{ReadFacts, SectionRead, kept_is, kept_read, read_facts}
 

@@ -6,7 +6,7 @@ ghost use Rattle.elf_tables.specs.declared.fault.TableFault.TheVariants.{NumberT
 ghost use Rattle.elf_image.specs.Kept.{image_at_read, kept_sections};
 ghost use Rattle.elf_layout_plan.specs.Plan.{IsPlan, resized};
 ghost use Rattle.elf_layout_plan.specs.Refusals.{do_sizes_of_image_fit};
-ghost use Rattle.elf_layout_sizes.specs.MadeTables.{IsMadeOfDynamic};
+ghost use Rattle.elf_write_contents.specs.MadeTables.{IsMadeOfDynamic};
 ghost use Rattle.elf_write_spec.specs.Output.{AreHeadersApart};
 ghost use Rattle.elf_write_spec.specs.WrittenFile.{IsWrittenByPlan, IsWrittenOf};
 ghost use Rattle.elf_write_contents.specs.Inner.{AreContents, ArePromised, IsPlanned, IsPlannedFile};
@@ -23,7 +23,7 @@ use elf_layout_plan::{LayoutFault, Plan, read_source};
 use elf_tables::{Finished, TableFault};
 use elf_write_contents::contents::contents;
 use elf_write_contents::prepared::{Prepared, prepare_with_strings};
-use elf_write_strings::made::strings_from;
+use elf_write_contents::strings_from;
 use patch_bytes::ByteString;
 use std::alloc::{AllocError, Global};
 

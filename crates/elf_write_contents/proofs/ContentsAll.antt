@@ -26,16 +26,16 @@ use Rattle.elf_layout_plan.proofs.ForCallers.ApartRead.{edited_facts}
 use Rattle.elf_layout_plan.proofs.ForCallers.ApartSections.{sized_of}
 use Rattle.elf_write_spec.specs.Contents.{AreDefinitionsIn, AreNeedsIn, AreSymbolsOf, AreVersionsIn, IsGabiContent, IsGnuContent, spelled_list}
 use Rattle.elf_write_spec.specs.Final.{are_symbols_kept, final}
-use Rattle.elf_write_strings.specs.declared.made.Made.{Made}
+use Rattle.elf_write_symbol_tables.specs.Made.{Made}
 use Rattle.elf_write_contents.specs.ContentSteps.{AreBytesOf, IsBytesAt, IsNumbering, IsRelocated, made_or}
-use Rattle.elf_write_strings.specs.WrittenStrings.{AreStrings, content_read, made_of, strings_at}
+use Rattle.elf_write_symbol_tables.specs.WrittenStrings.{AreStrings, content_read, made_of, strings_at}
 use Rattle.elf_write_spec.specs.Ready.{IsEditedReady}
 use Rattle.elf_write_contents.specs.Inner.{AreContents, AreRaw, IsMadeContent, IsPlanned}
 use Rattle.elf_write_spec.proofs.ForCallers.NumberedSections.{kept_as}
 use Rattle.elf_write_spec.proofs.ForCallers.WholeEdits.{ReadFacts, length-kept, read_facts, section_read}
-use Rattle.elf_write_strings.proofs.ForCallers.MadeShort.{all_at as fits_at}
-use Rattle.elf_write_strings.proofs.ForCallers.ReadTables.{ready_edit}
-use Rattle.elf_write_strings.proofs.ForCallers.TablesThere.{content_at}
+use Rattle.elf_write_symbol_tables.proofs.ForCallers.MadeShort.{all_at as fits_at}
+use Rattle.elf_write_symbol_tables.proofs.ForCallers.ReadTables.{ready_edit}
+use Rattle.elf_write_symbol_tables.proofs.ForCallers.TablesThere.{content_at}
 use Rattle.elf_write_symbols.specs.Fits.{do_numbers_fit_in, do_section_relocations_fit}
 use Rattle.elf_write_contents.proofs.ContentsMade.{IsOther, PlacedAt, bytes_at, definitions_made, gabi_made, gnu_made, needs_made, placed_at, resized_with, statics_made, symbols_made, versions_made}
 use Rattle.elf_write_contents.proofs.ContentsByType.{interpreter_made, list_made, others_made, room, strings_made}

@@ -33,10 +33,10 @@ use Rattle.elf_write_spec.proofs.ForCallers.RawEntries.{length-raw}
 use Rattle.elf_write_spec.proofs.ForCallers.SingleTypes.{one_section}
 use Rattle.elf_write_spec.proofs.ForCallers.WholeEdits.{ReadFacts, interpreter_type, kept_found, was_of}
 use Rattle.elf_write_spec.proofs.ForCallers.WholeLists.{first_at}
-use Rattle.elf_write_strings.specs.declared.made.Made.{Made}
-use Rattle.elf_write_strings.specs.WrittenStrings.{AreStrings, IsTold, content_read, made_of, strings_at}
-use Rattle.elf_write_strings.proofs.ForCallers.TablesThere.{content_at}
-use Rattle.elf_write_strings.proofs.ForCallers.VersionsShown.{number_found, strings_copied, strings_made as strings_told}
+use Rattle.elf_write_symbol_tables.specs.Made.{Made}
+use Rattle.elf_write_symbol_tables.specs.WrittenStrings.{AreStrings, IsTold, content_read, made_of, strings_at}
+use Rattle.elf_write_symbol_tables.proofs.ForCallers.TablesThere.{content_at}
+use Rattle.elf_write_symbol_tables.proofs.ForCallers.VersionsShown.{number_found, strings_copied, strings_made as strings_told}
 use Rattle.elf_write_spec.specs.Ready.{IsEditedReady}
 use Rattle.elf_write_contents.specs.ContentSteps.{IsRelocated}
 use Rattle.elf_write_contents.specs.Inner.{AreRaw, IsMadeContent}

@@ -27,9 +27,9 @@ use Rattle.elf_layout_plan.proofs.ForCallers.PlacedLists.{slice_get-at}
 use Rattle.elf_layout_plan.proofs.ForCallers.PlacedPlaces.{keeps_kind}
 use Rattle.elf_write_spec.specs.Contents.{AreDefinitionsIn, AreNeedsIn, AreStaticSymbolsIn, AreSymbolsOf, AreVersionsIn, IsContent, IsContentOfKind, IsGabiContent, IsGnuContent}
 use Rattle.elf_write_spec.specs.Final.{final}
-use Rattle.elf_write_strings.specs.declared.made.Made.{Made}
+use Rattle.elf_write_symbol_tables.specs.Made.{Made}
 use Rattle.elf_write_contents.specs.ContentSteps.{IsBytesAt, IsRelocatedOf}
-use Rattle.elf_write_strings.specs.WrittenStrings.{strings_at}
+use Rattle.elf_write_symbol_tables.specs.WrittenStrings.{strings_at}
 use Rattle.elf_write_contents.specs.Inner.{IsMadeContent, IsPlanned}
 use Rattle.elf_write_spec.proofs.ForCallers.NumberedSections.{kept_as}
 use Rattle.elf_write_spec.proofs.ForCallers.WholeEdits.{ReadFacts, SectionRead, section_read}

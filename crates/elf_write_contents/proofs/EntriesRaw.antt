@@ -12,22 +12,22 @@ use Rattle.elf_format.specs.Options.{list_at}
 use Rattle.elf_image.specs.Edited.{IsEdited}
 use Rattle.elf_image.specs.Lookups.{type_position}
 use Rattle.elf_image.specs.Kept.{KeptSection, image_at_read, link_of_type}
-use Rattle.elf_layout_needs.specs.Staying.{Staying, staying_entries}
-use Rattle.elf_layout_needs.specs.Written.{AreWritten}
+use Rattle.elf_write_symbol_tables.specs.Staying.{Staying, staying_entries}
+use Rattle.elf_write_symbol_tables.specs.Written.{AreWritten}
 use Rattle.elf_layout_plan.specs.Memory.{Resized}
 use Rattle.elf_layout_plan.specs.Needs.{written_entries}
 use Rattle.elf_layout_plan.specs.Plan.{Layout, resized}
 use Rattle.elf_layout_plan.specs.Texts.{texts_of_entries}
 use Rattle.elf_write_spec.specs.Contents.{AreEntriesOf, table_value}
 use Rattle.elf_write_spec.specs.Final.{final}
-use Rattle.elf_write_strings.specs.declared.made.Made.{Made}
+use Rattle.elf_write_symbol_tables.specs.Made.{Made}
 use Rattle.elf_write_contents.specs.EntrySteps.{numbers_with}
-use Rattle.elf_write_strings.specs.PlacedTexts.{TextsStand, link_at}
-use Rattle.elf_write_strings.specs.WrittenStrings.{strings_at}
+use Rattle.elf_write_symbol_tables.specs.PlacedTexts.{TextsStand, link_at}
+use Rattle.elf_write_symbol_tables.specs.WrittenStrings.{strings_at}
 use Rattle.elf_write_spec.specs.Ready.{IsEditedReady}
 use Rattle.elf_write_contents.specs.Inner.{AreRaw}
-use Rattle.elf_write_strings.proofs.ForCallers.LinksAt.{Link, NoLink}
-use Rattle.elf_write_strings.proofs.ForCallers.LinksAt as links
+use Rattle.elf_write_symbol_tables.proofs.ForCallers.LinksAt.{Link, NoLink}
+use Rattle.elf_write_symbol_tables.proofs.ForCallers.LinksAt as links
 use Rattle.elf_write_spec.proofs.ForCallers.WholeEdits.{entries_written}
 
 -- one entry for each, where each text stands at its place

@@ -14,7 +14,7 @@ use Rattle.elf_image.specs.Kept.{KeptSection, dynamic_strings_number, kept_at_nu
 use Rattle.elf_layout_plan.specs.Plan.{Layout}
 use Rattle.elf_write_spec.specs.Contents.{place_of_kept, strings_place}
 use Rattle.elf_write_contents.specs.EntrySteps.{place_at}
-use Rattle.elf_write_strings.proofs.ForCallers.LinksAt.{Link, LinkAt, NoLink, link_at}
+use Rattle.elf_write_symbol_tables.proofs.ForCallers.LinksAt.{Link, LinkAt, NoLink, link_at}
 
 abbrev kept_as : ℕ → ℕ → ImageSection → KeptSection
 kept_as p n s = record { position = p; number = n; section = s }

@@ -25,16 +25,16 @@ use Rattle.elf_write_spec.specs.Final.{final}
 use Rattle.elf_write_spec.specs.Headers.{Reads, written_header, written_section}
 use Rattle.elf_write_spec.proofs.ForCallers.FinalEntries.{written_none}
 use Rattle.elf_write_spec.proofs.ForCallers.TextsRead.{text_inside}
-use Rattle.elf_write_strings.specs.declared.made.Made.{Made}
+use Rattle.elf_write_symbol_tables.specs.Made.{Made}
 use Rattle.elf_write_contents.specs.FitSteps.{do_unnamed_fit, unnamed}
-use Rattle.elf_write_strings.specs.WrittenStrings.{AreStrings, strings_at}
+use Rattle.elf_write_symbol_tables.specs.WrittenStrings.{AreStrings, strings_at}
 use Rattle.elf_write_spec.specs.Ready.{IsEditedReady}
 use Rattle.elf_write_contents.specs.Inner.{AreHeaders, AreRaw, IsPlanned}
 use Rattle.elf_write_contents.specs.Numbers.{do_header_numbers_fit, do_sections_fit, does_entry_fit, entry_with}
 use Rattle.elf_write_contents.proofs.FitsStrings.{strings_short, words_end}
 use Rattle.elf_write_spec.proofs.ForCallers.WholeEdits.{entries_written, read_facts}
-use Rattle.elf_write_strings.proofs.ForCallers.ReadTables.{ready_edit}
-use Rattle.elf_write_strings.proofs.ForCallers.TextsShared.{no_entries_read, none_edited}
+use Rattle.elf_write_symbol_tables.proofs.ForCallers.ReadTables.{ready_edit}
+use Rattle.elf_write_symbol_tables.proofs.ForCallers.TextsShared.{no_entries_read, none_edited}
 
 -- ## Section headers
 

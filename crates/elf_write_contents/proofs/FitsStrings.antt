@@ -18,14 +18,14 @@ use Rattle.elf_image.specs.Kept.{KeptSection, dynamic_strings_number, interprete
 use Rattle.elf_layout_plan.specs.Sizes.{fits_field, interpreter_size, new_size, new_sizes, strings_size, table_size}
 use Rattle.elf_layout_plan.specs.Texts.{is_table_copied, texts_in_use}
 use Rattle.elf_tables.specs.Strings.{table_length}
-use Rattle.elf_write_strings.specs.declared.made.Made.{Made}
-use Rattle.elf_write_strings.specs.WrittenStrings.{AreStrings, content_read, made_of, strings_at}
-use Rattle.elf_write_strings.proofs.ForCallers.VersionsShown.{strings_copied, strings_made}
+use Rattle.elf_write_symbol_tables.specs.Made.{Made}
+use Rattle.elf_write_symbol_tables.specs.WrittenStrings.{AreStrings, content_read, made_of, strings_at}
+use Rattle.elf_write_symbol_tables.proofs.ForCallers.VersionsShown.{strings_copied, strings_made}
 use Rattle.elf_write_spec.specs.Ready.{IsEditedReady}
-use Rattle.elf_write_strings.proofs.ForCallers.MadeShort.{all_at}
-use Rattle.elf_write_strings.proofs.ForCallers.ReadTables.{ready_edit}
-use Rattle.elf_write_strings.proofs.ForCallers.TablesThere.{content_at, dynamic_there}
-use Rattle.elf_write_strings.proofs.ForCallers.TextsShared.{list_linked}
+use Rattle.elf_write_symbol_tables.proofs.ForCallers.MadeShort.{all_at}
+use Rattle.elf_write_symbol_tables.proofs.ForCallers.ReadTables.{ready_edit}
+use Rattle.elf_write_symbol_tables.proofs.ForCallers.TablesThere.{content_at, dynamic_there}
+use Rattle.elf_write_symbol_tables.proofs.ForCallers.TextsShared.{list_linked}
 use Rattle.elf_write_spec.proofs.ForCallers.NumberedSections.{kept_as}
 use Rattle.elf_write_spec.proofs.ForCallers.WholeEdits.{ReadFacts, SectionRead, not_interpreter, read_facts}
 

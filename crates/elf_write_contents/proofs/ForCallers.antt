@@ -10,3 +10,6 @@ pub use Rattle.elf_write_contents.proofs.NamesTable.{shows_none}
 unfoldable pub use Rattle.elf_write_contents.proofs.NamesTable.{shows_texts}
 -- dynamic strings that are copied, past what 32 bits reach, are numbers that don't fit
 pub use Rattle.elf_write_contents.proofs.PreparedFaults.{names_far}
+-- what is known of an edited image, and of the string tables that it was read with
+pub use Rattle.elf_write_symbol_tables.proofs.ForCallers.ReadTables
+pub use Rattle.elf_write_symbol_tables.proofs.ForCallers.TablesThere

@@ -22,8 +22,8 @@ use Rattle.elf_format.specs.Rules.{has_section_info}
 use Rattle.elf_image.specs.declared.section.Section.{Section}
 use Rattle.elf_image.specs.ImageModel.{section_model}
 use Rattle.elf_image.specs.Kept.{image_at_read, kept_sections}
-use Rattle.elf_layout_needs.specs.Staying.{Staying, unmarked_needs}
-use Rattle.elf_layout_needs.specs.Written.{AreWritten}
+use Rattle.elf_write_symbol_tables.specs.Staying.{Staying, unmarked_needs}
+use Rattle.elf_write_symbol_tables.specs.Written.{AreWritten}
 use Rattle.elf_layout_plan.specs.Memory.{Resized, sized_sections}
 use Rattle.elf_layout_plan.specs.Plan.{Layout, layout_for, resized}
 use Rattle.elf_layout_plan.specs.Standing.{place_in, places}
@@ -37,15 +37,15 @@ use Rattle.elf_write_spec.specs.Ready.{IsEditedReady}
 use Rattle.elf_write_spec.proofs.ForCallers.NumberedSections.{kept_as}
 use Rattle.elf_write_spec.proofs.ForCallers.WholeEdits.{ReadFacts, SectionRead, length-kept, needs_written, read_facts, section_read}
 use Rattle.elf_write_spec.proofs.ForCallers.WholeLists.{there_at}
-use Rattle.elf_write_strings.specs.declared.made.Made.{Made}
-use Rattle.elf_write_strings.specs.PlacedTexts.{IsUnedited, names_of_sections}
-use Rattle.elf_write_strings.specs.VersionPlaces.{content_in}
-use Rattle.elf_write_strings.specs.WrittenStrings.{AreStrings, are_section_names_left, are_texts_left, content_read, made_of}
-use Rattle.elf_write_strings.proofs.ForCallers.ReadTables.{facts, read_unedited, ready_edit, same_read, sections_stand}
-use Rattle.elf_write_strings.proofs.ForCallers.TablesThere.{edited_content}
-use Rattle.elf_write_strings.proofs.ForCallers.TextsTold.{told_names}
-use Rattle.elf_write_strings.proofs.ForCallers.UsersStay.{users_stay}
-use Rattle.elf_write_strings.proofs.ForCallers.VersionsShown.{number_found}
+use Rattle.elf_write_symbol_tables.specs.Made.{Made}
+use Rattle.elf_write_symbol_tables.specs.PlacedTexts.{IsUnedited, names_of_sections}
+use Rattle.elf_write_symbol_tables.specs.VersionPlaces.{content_in}
+use Rattle.elf_write_symbol_tables.specs.WrittenStrings.{AreStrings, are_section_names_left, are_texts_left, content_read, made_of}
+use Rattle.elf_write_symbol_tables.proofs.ForCallers.ReadTables.{facts, read_unedited, ready_edit, same_read, sections_stand}
+use Rattle.elf_write_symbol_tables.proofs.ForCallers.TablesThere.{edited_content}
+use Rattle.elf_write_symbol_tables.proofs.ForCallers.TextsTold.{told_names}
+use Rattle.elf_write_symbol_tables.proofs.ForCallers.UsersStay.{users_stay}
+use Rattle.elf_write_symbol_tables.proofs.ForCallers.VersionsShown.{number_found}
 use Rattle.elf_write_contents.specs.declared.headers.Known.{Known}
 use Rattle.elf_write_contents.specs.HeaderSteps.{IsHeaderAt, IsKnown, header_by, headers_read, info_by}
 use Rattle.elf_write_contents.specs.Inner.{IsPlanned}

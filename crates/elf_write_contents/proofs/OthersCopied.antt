@@ -18,9 +18,9 @@ use Rattle.elf_layout_plan.specs.Texts.{if_linked, if_names, is_subsequence, is_
 use Rattle.elf_layout_plan.proofs.ForCallers.SameTexts.{subsequence_of_itself}
 use Rattle.elf_write_spec.specs.Ready.{IsEditedReady}
 use Rattle.elf_write_spec.proofs.ForCallers.WholeEdits.{ReadFacts, read_facts}
-use Rattle.elf_write_strings.specs.WrittenStrings.{IsEditedTable, has_names_in, has_texts_in}
-use Rattle.elf_write_strings.proofs.ForCallers.ReadTables.{linked_to, ready_edit, same_link}
-use Rattle.elf_write_strings.proofs.ForCallers.TextsShared.{list_linked, needs_share, no_entries_read, none_edited, shared_link, symbols_share}
+use Rattle.elf_write_symbol_tables.specs.WrittenStrings.{IsEditedTable, has_names_in, has_texts_in}
+use Rattle.elf_write_symbol_tables.proofs.ForCallers.ReadTables.{linked_to, ready_edit, same_link}
+use Rattle.elf_write_symbol_tables.proofs.ForCallers.TextsShared.{list_linked, needs_share, no_entries_read, none_edited, shared_link, symbols_share}
 
 -- ## Lists of texts
 

@@ -7,7 +7,7 @@ use Rattle.elf_format.specs.Image.{Image}
 use Rattle.elf_image.specs.Kept.{kept_sections}
 use Rattle.elf_image.specs.Names.{are_names_changed}
 use Rattle.elf_layout_plan.specs.Plan.{Layout}
-use Rattle.elf_write_strings.specs.WrittenStrings.{do_names_reach}
+use Rattle.elf_write_symbol_tables.specs.WrittenStrings.{do_names_reach}
 use Rattle.elf_write_symbols.specs.declared.numbers.NewNumbers.{NewNumbers}
 use Rattle.elf_write_symbols.specs.declared.renumbering.Renumbering.{Renumbering}
 use Rattle.elf_write_symbols.specs.declared.renumbering.Reordering.{Reordering}

@@ -12,8 +12,8 @@ use Rattle.elf_layout_plan.specs.Memory.{Resized}
 use Rattle.elf_layout_plan.specs.Plan.{Layout, resized}
 use Rattle.elf_layout_plan.specs.Sizes.{hash_size}
 use Rattle.elf_write_spec.specs.Contents.{AreRelocationsOf, AreVersionsIn, IsGabiContent, IsGnuContent}
-use Rattle.elf_write_strings.specs.declared.made.Made.{Made}
-use Rattle.elf_write_strings.specs.WrittenStrings.{made_of}
+use Rattle.elf_write_symbol_tables.specs.Made.{Made}
+use Rattle.elf_write_symbol_tables.specs.WrittenStrings.{made_of}
 use Rattle.elf_write_contents.specs.Inner.{IsMadeContent}
 
 -- the table that is told anew, where one had a number, else these bytes

@@ -15,8 +15,8 @@ use Rattle.elf_write_spec.specs.Headers.{IsHeaderOf}
 use Rattle.elf_write_spec.specs.Output.{IsPlannedOutput, Output, written_bytes}
 use Rattle.elf_write_spec.specs.Ready.{IsEditedReady}
 use Rattle.elf_write_spec.specs.WrittenFile.{IsWrittenByPlan, IsWrittenOf}
-use Rattle.elf_write_strings.specs.declared.made.Made.{Made}
-use Rattle.elf_write_strings.specs.WrittenStrings.{strings_at}
+use Rattle.elf_write_symbol_tables.specs.Made.{Made}
+use Rattle.elf_write_symbol_tables.specs.WrittenStrings.{strings_at}
 
 -- ## What is written
 

@@ -6,3 +6,6 @@ pub mod Inner
 pub mod Numbers
 pub mod PreparedSteps
 pub use Rattle.elf_write_symbols.specs.Renumbering
+pub use Rattle.elf_write_symbol_tables.specs.Made
+pub use Rattle.elf_write_symbol_tables.specs.MadeTables
+pub use Rattle.elf_write_symbol_tables.specs.WrittenStrings

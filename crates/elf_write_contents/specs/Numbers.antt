@@ -18,7 +18,7 @@ use Rattle.elf_layout_plan.specs.Plan.{Layout, resized}
 use Rattle.elf_write_spec.specs.Contents.{table_value}
 use Rattle.elf_write_spec.specs.Final.{final}
 use Rattle.elf_write_spec.specs.Headers.{written_header, written_section}
-use Rattle.elf_write_strings.specs.WrittenStrings.{do_names_reach}
+use Rattle.elf_write_symbol_tables.specs.WrittenStrings.{do_names_reach}
 use Rattle.elf_write_symbols.specs.Fits.{do_section_relocations_fit}
 use Rattle.elf_write_symbols.specs.Renumbering.{do_symbols_fit}
 

@@ -5,7 +5,7 @@ use Rattle.elf_format.specs.Image.{Image}
 use Rattle.elf_image.specs.Kept.{kept_sections}
 use Rattle.elf_layout_plan.specs.Plan.{Layout, resized}
 use Rattle.elf_write_spec.specs.Headers.{written_header}
-use Rattle.elf_write_strings.specs.WrittenStrings.{AreStrings, strings_at}
+use Rattle.elf_write_symbol_tables.specs.WrittenStrings.{AreStrings, strings_at}
 use Rattle.elf_write_contents.specs.Inner.{AreHeaders, AreRaw}
 use Rattle.elf_write_symbols.specs.Fits.{do_section_relocations_fit}
 use Rattle.elf_write_symbols.specs.Renumbering.{IsRenumbering, do_symbols_fit}

@@ -13,7 +13,7 @@ ghost use Rattle.elf_image.specs.ImageModel.{section_model};
 ghost use Rattle.elf_write_symbols.specs.Fits.{do_numbers_fit_in, do_section_relocations_fit};
 ghost use Rattle.elf_write_symbols.specs.Renumbering.{IsRenumbering, IsReorderingFor};
 ghost use Rattle.elf_write_contents.specs.ContentSteps.{IsBytesAt, IsNumbering, IsRelocated, made_or};
-ghost use Rattle.elf_write_strings.specs.WrittenStrings.{AreStrings};
+ghost use Rattle.elf_write_symbol_tables.specs.WrittenStrings.{AreStrings};
 ghost use Rattle.elf_write_spec.specs.Contents.{AreVersionsIn};
 ghost use Rattle.elf_write_spec.specs.Final.{final};
 ghost use Rattle.elf_write_spec.specs.Ready.{IsEditedReady, IsSectionOfType};
@@ -28,8 +28,8 @@ use elf_image::constants::{
 };
 use elf_image::{Builder, Section};
 use elf_layout_plan::{Plan, is_numbered};
-use elf_write_strings::made::{Made, made_of};
-use elf_write_strings::versions::{definitions_content, needs_content};
+use elf_write_symbol_tables::made::{Made, made_of};
+use elf_write_symbol_tables::versions::{definitions_content, needs_content};
 use elf_write_symbol_tables::{dynamic_symbols_content, static_symbols_content};
 use elf_write_symbols::{
     Renumbering, Reordering, gabi_content, gnu_content, relocations_content, versions_content,

@@ -8,10 +8,10 @@ ghost use Rattle.elf_image.specs.ImageModel.{entry_model};
 ghost use Rattle.elf_image.specs.Kept.{image_at_read};
 ghost use Rattle.elf_layout_plan.specs.Plan.{resized};
 ghost use Rattle.elf_write_spec.specs.Contents.{spelled_list, table_value as value_of_table};
-ghost use Rattle.elf_layout_needs.specs.Staying.{staying_entries};
-ghost use Rattle.elf_layout_needs.specs.Written.{AreWritten};
+ghost use Rattle.elf_write_symbol_tables.specs.Staying.{staying_entries};
+ghost use Rattle.elf_write_symbol_tables.specs.Written.{AreWritten};
 ghost use Rattle.elf_write_contents.specs.EntrySteps.{numbers_with, places_behind as places_left, value_with};
-ghost use Rattle.elf_write_strings.specs.WrittenStrings.{AreStrings};
+ghost use Rattle.elf_write_symbol_tables.specs.WrittenStrings.{AreStrings};
 ghost use Rattle.elf_write_contents.specs.Inner.{AreRaw, IsPlanned};
 
 mod tables;
@@ -21,11 +21,11 @@ use elf_format::form::Form;
 use elf_format::records::EntryNumbers;
 use elf_image::constants::SHT_DYNAMIC;
 use elf_image::{Builder, Dynamic};
-use elf_layout_needs::StayingNeeds;
+use elf_write_symbol_tables::StayingNeeds;
 use elf_layout_plan::Plan;
 use elf_tables::spelled::push_entry;
-use elf_write_strings::made::Made;
-use elf_write_strings::texts::{list_texts, text_places};
+use elf_write_symbol_tables::made::Made;
+use elf_write_symbol_tables::texts::{list_texts, text_places};
 use std::alloc::{AllocError, Global};
 
 // The value of an entry: a table's, its own number, or the first of the places.

@@ -7,7 +7,7 @@ ghost use Rattle.elf_tables.specs.Fields.{do_fields_fit, does_field_fit};
 ghost use Rattle.elf_tables.specs.Spelled.{class_word, entry_fields, file_header_fields, section_fields, segment_fields};
 ghost use Rattle.elf_write_spec.specs.Headers.{written_header};
 ghost use Rattle.elf_write_contents.specs.FitSteps.{do_unnamed_fit, do_words_fit as do_all_words_fit, unnamed};
-ghost use Rattle.elf_write_strings.specs.WrittenStrings.{AreStrings, strings_at};
+ghost use Rattle.elf_write_symbol_tables.specs.WrittenStrings.{AreStrings, strings_at};
 ghost use Rattle.elf_write_contents.specs.Inner.{AreHeaders, AreRaw, IsPlanned};
 ghost use Rattle.elf_write_contents.specs.Numbers.{do_header_numbers_fit as do_all_fit, do_records_fit as do_records_fit_fields};
 
@@ -15,7 +15,7 @@ use elf_format::form::Form;
 use elf_format::records::{EntryNumbers, FileHeader, SectionHeader, SegmentHeader};
 use elf_image::Builder;
 use elf_layout_plan::Plan;
-use elf_write_strings::made::Made;
+use elf_write_symbol_tables::made::Made;
 use patch_bytes::Wide;
 
 // Whether a number fits a word of the class.

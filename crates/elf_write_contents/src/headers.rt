@@ -11,17 +11,17 @@ ghost use Rattle.elf_tables.specs.declared.fault.TableFault.TheVariants.{NumberT
 ghost use Rattle.elf_tables.specs.Strings.{place_of};
 ghost use Rattle.elf_hashes.specs.Found.{is_local as is_local_symbol};
 ghost use Rattle.elf_image_symbol_edits.specs.Loan.{symbols_now};
-ghost use Rattle.elf_layout_needs.specs.Written.{AreWritten};
+ghost use Rattle.elf_write_symbol_tables.specs.Written.{AreWritten};
 ghost use Rattle.elf_write_spec.specs.Final.{final, new_number as number_of};
 ghost use Rattle.elf_write_spec.specs.Headers.{Reads, behind_locals as behind_all, written_header};
 ghost use Rattle.elf_write_contents.specs.HeaderSteps.{IsHeaderAt, IsKnown, header_by, headers_read, info_by};
-ghost use Rattle.elf_write_strings.specs.WrittenStrings.{AreStrings, content_read, made_of as made_at, strings_at};
+ghost use Rattle.elf_write_symbol_tables.specs.WrittenStrings.{AreStrings, content_read, made_of as made_at, strings_at};
 ghost use Rattle.elf_write_spec.specs.Ready.{IsEditedReady};
 ghost use Rattle.elf_write_symbols.specs.NewSections.{AreNewSections};
 ghost use Rattle.elf_write_symbols.specs.Renumbering.{IsReorderingFor};
 ghost use Rattle.elf_write_contents.specs.Inner.{AreHeaders, IsPlanned};
 ghost use Rattle.elf_write_contents.specs.Numbers.{do_numbers_fit};
-ghost use Rattle.elf_write_strings.specs.declared.made.Made.{Made};
+ghost use Rattle.elf_write_symbol_tables.specs.Made.{Made};
 
 use elf_format::form::Form;
 use elf_format::opening::{open, sections};
@@ -30,10 +30,10 @@ use elf_format::view_fault::ViewFault;
 use elf_image::constants::{SHT_DYNSYM, SHT_GNU_VERDEF, SHT_GNU_VERNEED, SHT_SYMTAB};
 use elf_image::{Builder, Section};
 use elf_image_symbol_edits::SymbolsNow;
-use elf_layout_needs::StayingNeeds;
+use elf_write_symbol_tables::StayingNeeds;
 use elf_layout_plan::{Plan, SectionPlace};
 use elf_tables::TableFault;
-use elf_write_strings::made::{Made, made_of};
+use elf_write_symbol_tables::made::{Made, made_of};
 use elf_write_symbols::{NewSections, Reordering, new_number, order_of};
 use std::alloc::Global;
 

@@ -7,3 +7,5 @@ mod entries;
 mod fits;
 mod headers;
 pub mod prepared;
+
+pub use elf_write_symbol_tables::made::strings_from;

@@ -5,7 +5,7 @@ ghost use Rattle.elf_image.specs.Kept.{kept_sections};
 ghost use Rattle.elf_tables.specs.declared.fault.TableFault.TheVariants.{NumberTooLarge};
 ghost use Rattle.elf_layout_plan.specs.Plan.{resized};
 ghost use Rattle.elf_write_spec.specs.Headers.{written_header};
-ghost use Rattle.elf_write_strings.specs.WrittenStrings.{AreStrings, strings_at};
+ghost use Rattle.elf_write_symbol_tables.specs.WrittenStrings.{AreStrings, strings_at};
 ghost use Rattle.elf_write_symbols.specs.Fits.{do_section_relocations_fit};
 ghost use Rattle.elf_write_symbols.specs.Renumbering.{IsRenumbering};
 ghost use Rattle.elf_write_contents.specs.Numbers.{do_numbers_fit as do_all_fit, do_records_fit};
@@ -17,10 +17,10 @@ use crate::fits::do_header_numbers_fit;
 use crate::headers::{file_header, section_headers};
 use elf_format::records::{EntryNumbers, FileHeader, SectionHeader};
 use elf_image::Builder;
-use elf_layout_needs::StayingNeeds;
+use elf_write_symbol_tables::StayingNeeds;
 use elf_layout_plan::Plan;
 use elf_tables::TableFault;
-use elf_write_strings::made::{Made, made_strings};
+use elf_write_symbol_tables::made::{Made, made_strings};
 use elf_write_symbols::{Renumbering, do_relocations_fit_in, renumbering_of};
 use std::alloc::Global;
 
@@ -56,7 +56,7 @@ pub fn prepare<'a, 'data>(
     prepare_with_strings(alloc, read, image, plan, made)
 }
 
-/// The same, with the string tables that are told anew, which [`strings_from`](elf_write_strings::made::strings_from)
+/// The same, with the string tables that are told anew, which [`strings_from`](elf_write_symbol_tables::made::strings_from)
 /// gives. Errors as there.
 pub fn prepare_with_strings<'a, 'data>(
     alloc: Global,

@@ -21,3 +21,5 @@ pub use Rattle.elf_write_strings.proofs.UsersStay
 pub use Rattle.elf_write_strings.proofs.VersionsShown
 -- texts that are read stand in their table
 pub use Rattle.elf_write_strings.proofs.VersionsTexts
+-- walks over symbols, one by one
+pub use Rattle.elf_layout_sizes.proofs.ForCallers.SymbolSteps

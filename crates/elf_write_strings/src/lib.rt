@@ -6,3 +6,5 @@ pub mod made;
 pub mod texts;
 mod told;
 pub mod versions;
+
+pub use elf_layout_needs::StayingNeeds;

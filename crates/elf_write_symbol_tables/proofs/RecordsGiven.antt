@@ -9,7 +9,7 @@ use Rattle.elf_format.specs.Image.{Image, ImageSection}
 use Rattle.elf_format.specs.Records.{symbols_in}
 use Rattle.elf_format.specs.Views.{NamedSymbol}
 use Rattle.elf_image.specs.Names.{are_names_changed}
-use Rattle.elf_layout_sizes.proofs.ForCallers.SymbolSteps.{part_at}
+use Rattle.elf_write_strings.proofs.ForCallers.SymbolSteps.{part_at}
 use Rattle.elf_tables.specs.Fields.{do_fields_fit}
 use Rattle.elf_tables.specs.Spelled.{symbol_fields}
 use Rattle.elf_tables.specs.Strings.{place_of}

@@ -7,7 +7,7 @@ use Rattle.elf_format.specs.declared.records.SymbolNumbers.{SymbolNumbers}
 use Rattle.elf_format.specs.Image.{Image}
 use Rattle.elf_format.specs.Views.{NamedSymbol}
 use Rattle.elf_image_symbols.specs.TableSymbols.{symbol_with}
-use Rattle.elf_layout_sizes.proofs.ForCallers.SymbolSteps.{rest_at, with_part}
+use Rattle.elf_write_strings.proofs.ForCallers.SymbolSteps.{rest_at, with_part}
 use Rattle.elf_write_spec.specs.Final.{new_symbol_section}
 use Rattle.elf_write_symbol_tables.specs.SymbolSteps.{is_section_kept}
 

@@ -12,7 +12,7 @@ use Rattle.elf_format.specs.Records.{symbols_in}
 use Rattle.elf_format.specs.Views.{NamedSymbol}
 use Rattle.elf_image.specs.Kept.{KeptSection, kept_at_number}
 use Rattle.elf_image_symbols.specs.TableSymbols.{kept_as, symbol_with}
-use Rattle.elf_layout_sizes.proofs.ForCallers.SymbolSteps.{with_part}
+use Rattle.elf_write_strings.proofs.ForCallers.SymbolSteps.{with_part}
 use Rattle.elf_tables.specs.Fields.{do_fields_fit}
 use Rattle.elf_tables.specs.Spelled.{symbol_fields}
 use Rattle.elf_write_spec.specs.Contents.{IsSymbolOf}

@@ -1,2 +1,9 @@
 pub mod NamePlaces
 pub mod SymbolSteps
+pub use Rattle.elf_write_strings.specs.declared.made.Made
+pub use Rattle.elf_write_strings.specs.MadeTables
+pub use Rattle.elf_write_strings.specs.PlacedTexts
+pub use Rattle.elf_write_strings.specs.Staying
+pub use Rattle.elf_write_strings.specs.VersionPlaces
+pub use Rattle.elf_write_strings.specs.Written
+pub use Rattle.elf_write_strings.specs.WrittenStrings

@@ -19,7 +19,7 @@ use crate::names::{begins_empty, name_place, told_place};
 use crate::records::{are_sections_there, record_at, record_staying};
 use elf_format::records::SymbolNumbers;
 use elf_image::{Builder, Section};
-use elf_layout_needs::StayingNeeds;
+use elf_write_strings::StayingNeeds;
 use elf_tables::spelled::push_symbol;
 use elf_write_strings::made::{Made, made_of};
 use elf_write_strings::texts::list_texts;

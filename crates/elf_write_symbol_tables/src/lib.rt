@@ -8,3 +8,4 @@ mod statics;
 
 pub use crate::dynamic::dynamic_symbols_content;
 pub use crate::statics::static_symbols_content;
+pub use elf_write_strings::{StayingNeeds, made, texts, versions};

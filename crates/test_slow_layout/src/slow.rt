@@ -1,8 +1,11 @@
 //! A layout that is found slowly and plainly: all pairs, nothing sorted, every number in 128 bits.
+ghost use Rattle.std.specs.Prelude.{◌≡◌, ◌↔◌, IfOk, IsTrue, All};
+ghost use Rattle.test_slow_layout.specs.Slow.{AreWithin, DoesFit, DoesPieceFit, DoesSlotFit, FitsIfFound};
+
 use crate::blocks::{Block, blocks_with, does_move, is_right, is_stuck, moving};
 use crate::following::headers_needed;
 use crate::plain::{Part, Piece, Plain};
-use crate::standing::{Standing, slot_at, standing_of};
+use crate::standing::{Slot, Standing, standing_of};
 use crate::written::add_all;
 use elf_format::constants::{PN_XNUM, SHN_LORESERVE};
 use std::alloc::{AllocError, Global};
@@ -104,27 +107,19 @@ fn round_with(
     if is_stuck(&blocks) {
         return Ok(Round::Stuck);
     }
-    round_of(alloc, plain, &blocks, moved)
-}
-
-/// A round with blocks none of which are stuck.
-fn round_of(
-    alloc: Global,
-    plain: &Plain,
-    blocks: &[Block],
-    moved: &mut Vec<Part>,
-) -> Result<Round, AllocError> {
-    let moves = moving(alloc, blocks)?;
-    if !is_right(blocks, &moves) {
+    let moves = moving(alloc, &blocks)?;
+    if !is_right(&blocks, &moves) {
         return Ok(Round::Wrong);
     }
     moved.clear();
-    put_moved(plain, blocks, &moves, moved)?;
+    put_moved(plain, &blocks, &moves, moved)?;
     Ok(Round::Moved)
 }
 
 /// The numbers fit their fields.
-fn do_fit(plain: &Plain, numbers: &[u128]) -> bool {
+fn do_fit(plain: &Plain, numbers: &[u128]) -> bool
+    ensures { IsTrue result ↔ AreWithin plain.now numbers.now }
+{
     for number in numbers {
         if *number > plain.facts.most {
             return false;
@@ -133,36 +128,61 @@ fn do_fit(plain: &Plain, numbers: &[u128]) -> bool {
     true
 }
 
-fn do_parts_fit(plain: &Plain, standing: &Standing) -> bool {
-    for part in &plain.parts {
-        if let Some(slot) = slot_at(&standing.slots, part.position) {
-            if !do_fit(plain, &[slot.offset, slot.address, slot.size]) {
-                return false;
-            }
-        }
-    }
-    plain.parts.len() < usize::from(SHN_LORESERVE)
+/// The numbers of a program header do, type and flags apart.
+#[tactic(auto, unfolding(crate::specs::Slow::DoesPieceFit))]
+fn does_piece_fit(plain: &Plain, piece: &Piece) -> bool
+    ensures { IsTrue result ↔ DoesPieceFit plain.now piece.now }
+{
+    let numbers = [
+        piece.in_file,
+        piece.in_memory,
+        piece.align,
+        piece.offset,
+        piece.address,
+        piece.physical,
+    ];
+    do_fit(plain, &numbers)
 }
 
-fn does_fit(plain: &Plain, standing: &Standing, pieces: &[Piece]) -> bool {
-    for p in pieces {
-        let sizes = [p.in_file, p.in_memory, p.align];
-        if !do_fit(plain, &sizes) || !do_fit(plain, &[p.offset, p.address, p.physical]) {
+/// The numbers of all program headers do.
+fn do_pieces_fit(plain: &Plain, pieces: &[Piece]) -> bool
+    ensures { IsTrue result ↔ All (DoesPieceFit plain.now) pieces.now }
+{
+    for piece in pieces {
+        if !does_piece_fit(plain, piece) {
             return false;
         }
     }
-    do_parts_fit(plain, standing)
+    true
+}
+
+/// The numbers that tell where sections stand do.
+fn do_slots_fit(plain: &Plain, slots: &[Slot]) -> bool
+    ensures { IsTrue result ↔ All (DoesSlotFit plain.now) slots.now }
+{
+    for slot in slots {
+        if !do_fit(plain, &[slot.offset, slot.address, slot.size]) {
+            return false;
+        }
+    }
+    true
+}
+
+/// All numbers do, and there are few enough sections and program headers.
+fn does_fit(plain: &Plain, standing: &Standing, pieces: &[Piece]) -> bool
+    ensures { IsTrue result ↔ DoesFit plain.now standing.now pieces.now }
+{
+    do_pieces_fit(plain, pieces)
+        && do_slots_fit(plain, &standing.slots)
         && do_fit(plain, &[standing.e_phoff, standing.e_shoff])
+        && plain.parts.len() < usize::from(SHN_LORESERVE)
         && pieces.len() < usize::from(PN_XNUM)
 }
 
 /// What follows from the sections that move in the last round.
-fn last_round(
-    alloc: Global,
-    plain: &Plain,
-    moved: &[Part],
-    last: Last,
-) -> Result<Found, AllocError> {
+fn last_round(alloc: Global, plain: &Plain, moved: &[Part], last: Last) -> Result<Found, AllocError>
+    ensures { IfOk result (FitsIfFound plain.now) }
+{
     let headers = plain.pieces.len().saturating_add(last.needed) as u128;
     let table_size = headers.saturating_mul(plain.facts.program_header);
     let standing = standing_of(alloc, plain, moved, table_size)?;
@@ -204,8 +224,10 @@ fn go_through(
     Ok((Round::Wrong, last))
 }
 
-/// Looks in rounds for where everything goes.
-pub fn lay_out_slowly(alloc: Global, plain: &Plain) -> Result<Found, AllocError> {
+/// Looks in rounds for where everything goes. Of a layout that is found each number fits its field.
+pub fn lay_out_slowly(alloc: Global, plain: &Plain) -> Result<Found, AllocError>
+    ensures { IfOk result (FitsIfFound plain.now) }
+{
     let mut moved = Vec::new(alloc);
     let (round, last) = go_through(alloc, plain, &mut moved)?;
     match round {

@@ -48,10 +48,6 @@ fn next_multiple(number: u128, of: u128) -> u128 {
     }
 }
 
-fn remainder(number: u128, of: u128) -> u128 {
-    if of == 0 { number } else { number % of }
-}
-
 /// The program header keeps its range, with program headers of this size in all.
 fn keeps_range(plain: &Plain, moved: &[Part], piece: &Piece, table_size: u128) -> bool {
     match anchor_of(plain, piece) {
@@ -239,7 +235,8 @@ fn add_loads(
     for (i, part) in moved.iter().enumerate() {
         let p_flags = plain.segment_flags(part);
         if is_first_of_flags(plain, moved, i, p_flags) {
-            let address = next_multiple(memory, align).saturating_add(remainder(end, align));
+            let behind = end.checked_rem(align).unwrap_or(end);
+            let address = next_multiple(memory, align).saturating_add(behind);
             let size = add_load(standing, plain, moved, align, p_flags, (end, address))?;
             end = end.saturating_add(size);
             memory = address.saturating_add(size);

@@ -6,7 +6,7 @@ ghost use Rattle.elf_layout_plan.specs.Plan.{resized};
 ghost use Rattle.elf_layout_plan.specs.PlanModel.{place_model};
 ghost use Rattle.elf_write_spec.specs.Contents.{address_of_type as address_of_kind, strings_place as place_of_strings, table_value as value_of_table};
 ghost use Rattle.elf_write_spec.specs.Final.{final};
-ghost use Rattle.elf_layout_needs.specs.Written.{AreWritten};
+ghost use Rattle.elf_write_symbol_tables.specs.Written.{AreWritten};
 ghost use Rattle.elf_write_contents.specs.EntrySteps.{place_at as place_there};
 
 use elf_image::Builder;
@@ -15,7 +15,7 @@ use elf_image::constants::{
     DT_VERNEED, DT_VERSYM, SHT_DYNSYM, SHT_GNU_HASH, SHT_GNU_VERDEF, SHT_GNU_VERNEED,
     SHT_GNU_VERSYM, SHT_HASH,
 };
-use elf_layout_needs::StayingNeeds;
+use elf_write_symbol_tables::StayingNeeds;
 use elf_layout_plan::{Plan, SectionPlace};
 
 // Where the section at a position comes to stand.

@@ -7,7 +7,7 @@ use Rattle.elf_layout_plan.specs.Plan.{resized}
 use Rattle.elf_layout_plan.specs.Sizes.{hash_size}
 use Rattle.elf_write_spec.specs.Contents.{AreVersionsIn, IsGabiContent, IsGnuContent}
 use Rattle.elf_write_contents.specs.ContentSteps.{IsNumbering, IsRelocated}
-use Rattle.elf_write_strings.proofs.ForCallers.Results.{if_ok}
+use Rattle.elf_write_symbol_tables.proofs.ForCallers.Results.{if_ok}
 use Rattle.elf_write_contents.proofs.ContentsAll.{both_ok}
 use Rattle.elf_write_contents.proofs.ContentsNumbering.{of_gabi, of_gnu, of_others, of_versions}
 use Rattle.elf_write_contents.proofs.contents.numbering_content.Goals as goal

@@ -13,7 +13,7 @@ use Rattle.elf_layout_plan.specs.PlanModel.{place_model}
 use Rattle.elf_write_spec.specs.Contents.{spelled_list}
 use Rattle.elf_write_contents.specs.ContentSteps.{IsBytesAt, IsNumbering, made_or}
 use Rattle.elf_write_contents.proofs.ContentsAll.{both_ok, definitions_at, list_at_place, list_fits, needs_at, numbering_at, numbers_fit, place_there, place_within, places_long, section_there, static_at, strings_at_place, symbols_at, three_ok}
-use Rattle.elf_write_strings.proofs.ForCallers.Results.{if_ok}
+use Rattle.elf_write_symbol_tables.proofs.ForCallers.Results.{if_ok}
 use Rattle.elf_write_contents.proofs.contents.section_content.Goals as goal
 
 pub bounds-places-i : goal.bounds-places-i

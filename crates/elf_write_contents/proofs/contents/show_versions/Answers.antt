@@ -2,7 +2,7 @@ use Rattle.std.proofs.Common.{List, ℕ, subst, arith}
 use Rattle.patch_bytes.specs.Bytes.{AreBytes}
 use Rattle.elf_image.specs.ImageModel.{section_model}
 use Rattle.elf_write_spec.proofs.ForCallers.VersionBytes.{versions_stay}
-use Rattle.elf_write_strings.proofs.ForCallers.ReadTables.{ready_edit}
+use Rattle.elf_write_symbol_tables.proofs.ForCallers.ReadTables.{ready_edit}
 use Rattle.elf_write_contents.proofs.contents.show_versions.Goals as goal
 
 pub returns : goal.returns

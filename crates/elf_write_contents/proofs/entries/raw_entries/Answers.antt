@@ -5,13 +5,13 @@ use Rattle.elf_format.specs.Dynamic.{Entry}
 use Rattle.elf_format.specs.Image.{Image}
 use Rattle.elf_format.specs.Options.{list_at}
 use Rattle.elf_image.specs.ImageModel.{entry_model}
-use Rattle.elf_layout_needs.specs.Staying.{staying_entries}
-use Rattle.elf_layout_needs.specs.Written.{AreWritten}
+use Rattle.elf_write_symbol_tables.specs.Staying.{staying_entries}
+use Rattle.elf_write_symbol_tables.specs.Written.{AreWritten}
 use Rattle.elf_layout_plan.specs.Needs.{written_entries}
 use Rattle.elf_layout_plan.specs.Plan.{resized}
 use Rattle.elf_layout_plan.specs.Texts.{texts_of_entries}
 use Rattle.elf_write_spec.specs.Contents.{table_value}
-use Rattle.elf_write_strings.proofs.ForCallers.Results.{if_ok}
+use Rattle.elf_write_symbol_tables.proofs.ForCallers.Results.{if_ok}
 use Rattle.elf_write_contents.specs.EntrySteps.{numbers_with}
 use Rattle.elf_write_contents.specs.Inner.{AreRaw}
 use Rattle.elf_write_contents.proofs.EntriesRaw.{made_raw, none_listed, none_raw}

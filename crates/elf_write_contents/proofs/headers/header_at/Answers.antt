@@ -13,7 +13,7 @@ use Rattle.elf_layout_plan.specs.PlanModel.{place_model}
 use Rattle.elf_layout_plan.proofs.ForCallers.ApartLists.{at-map}
 use Rattle.elf_tables.specs.Strings.{place_of}
 use Rattle.elf_write_spec.specs.Headers.{Reads}
-use Rattle.elf_write_strings.specs.WrittenStrings.{content_read, strings_at}
+use Rattle.elf_write_symbol_tables.specs.WrittenStrings.{content_read, strings_at}
 use Rattle.elf_write_contents.proofs.HeadersMade.{header_far, header_made, header_there, info_here, name_copied, name_made, place_there, seen_at}
 use Rattle.elf_write_contents.proofs.headers.header_at.Goals as goal
 

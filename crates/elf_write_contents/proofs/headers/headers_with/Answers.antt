@@ -6,11 +6,11 @@ use Rattle.elf_image.specs.Kept.{KeptSection, image_at_read, kept_sections}
 use Rattle.elf_layout_plan.specs.Memory.{Resized}
 use Rattle.elf_layout_plan.specs.Plan.{resized}
 use Rattle.elf_write_contents.specs.HeaderSteps.{AreMade}
-use Rattle.elf_write_strings.specs.WrittenStrings.{strings_at}
+use Rattle.elf_write_symbol_tables.specs.WrittenStrings.{strings_at}
 use Rattle.elf_write_contents.proofs.HeadersLists.{made_all, made_more}
 use Rattle.elf_write_contents.proofs.HeadersMade.{length-places}
 use Rattle.elf_write_spec.proofs.ForCallers.WholeEdits.{length-kept, read_facts}
-use Rattle.elf_write_strings.proofs.ForCallers.ReadTables.{ready_edit}
+use Rattle.elf_write_symbol_tables.proofs.ForCallers.ReadTables.{ready_edit}
 use Rattle.elf_write_contents.proofs.headers.headers_with.Goals as goal
 
 pub loop-i-preserved : goal.loop-i-preserved

@@ -1,7 +1,7 @@
 -- The image was read from its source.
 use Rattle.std.proofs.Common.{subst}
 use Rattle.elf_format.specs.Image.{Image}
-use Rattle.elf_write_strings.specs.WrittenStrings.{AreStrings}
+use Rattle.elf_write_symbol_tables.specs.WrittenStrings.{AreStrings}
 use Rattle.elf_write_contents.proofs.headers.section_headers.Goals as goal
 use Rattle.elf_write_contents.specs.Inner.{IsPlanned}
 

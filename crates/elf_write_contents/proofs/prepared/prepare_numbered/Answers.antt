@@ -3,8 +3,8 @@ use Rattle.std.proofs.Common.{◌≡◌, true, List, subst}
 use Rattle.elf_format.specs.declared.records.FileHeader.{FileHeader}
 use Rattle.elf_image.specs.Kept.{kept_sections}
 use Rattle.elf_layout_plan.specs.Plan.{resized}
-use Rattle.elf_write_strings.specs.declared.made.Made.{Made}
-use Rattle.elf_write_strings.specs.WrittenStrings.{strings_at}
+use Rattle.elf_write_symbol_tables.specs.Made.{Made}
+use Rattle.elf_write_symbol_tables.specs.WrittenStrings.{strings_at}
 use Rattle.elf_write_contents.specs.Inner.{AreHeaders, AreRaw}
 use Rattle.elf_write_contents.specs.Numbers.{do_records_fit}
 use Rattle.elf_write_contents.proofs.PreparedFaults.{symbols_fit}
