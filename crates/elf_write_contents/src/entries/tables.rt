@@ -15,8 +15,8 @@ use elf_image::constants::{
     DT_VERNEED, DT_VERSYM, SHT_DYNSYM, SHT_GNU_HASH, SHT_GNU_VERDEF, SHT_GNU_VERNEED,
     SHT_GNU_VERSYM, SHT_HASH,
 };
-use elf_write_symbol_tables::StayingNeeds;
 use elf_layout_plan::{Plan, SectionPlace};
+use elf_write_symbol_tables::StayingNeeds;
 
 // Where the section at a position comes to stand.
 fn place_at(plan: &Plan, position: Option<usize>) -> Option<SectionPlace>
