@@ -13,11 +13,11 @@ use Rattle.test_slow_layout.specs.declared.standing.Standing.{Standing}
 abbrev pub AreWithin : Plain → List ℕ → Type 0
 AreWithin plain numbers = All (λ n. n ≤ plain.facts.most) numbers
 
--- those of a program header, type and flags apart
+-- the numbers of a program header are within that, type and flags apart
 unfoldable pub DoesPieceFit : Plain → Piece → Type 0
 DoesPieceFit plain p = AreWithin plain (p.in_file ∷ p.in_memory ∷ p.align ∷ p.offset ∷ p.address ∷ p.physical ∷ [])
 
--- those that tell where a section stands
+-- the numbers that tell where a section stands are within that
 abbrev pub DoesSlotFit : Plain → Slot → Type 0
 DoesSlotFit plain s = AreWithin plain (s.offset ∷ s.address ∷ s.size ∷ [])
 
@@ -29,6 +29,6 @@ pub record DoesFit (plain : Plain) (standing : Standing) (pieces : List Piece) :
   pub few_sections : length plain.parts.items < SHN_LORESERVE
   pub few_pieces : length pieces < PN_XNUM
 
--- where a layout was found, it does
+-- if a layout was found, all of it fits
 abbrev pub FitsIfFound : Plain → Found → Type 0
 FitsIfFound plain found = (slow : Slow) → found ≡ Plan slow → DoesFit plain slow.standing slow.pieces.items

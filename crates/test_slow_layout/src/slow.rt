@@ -116,7 +116,7 @@ fn round_with(
     Ok(Round::Moved)
 }
 
-/// The numbers fit their fields.
+/// Whether numbers fit a word of the file's class.
 fn do_fit(plain: &Plain, numbers: &[u128]) -> bool
     ensures { IsTrue result ↔ AreWithin plain.now numbers.now }
 {
@@ -128,7 +128,7 @@ fn do_fit(plain: &Plain, numbers: &[u128]) -> bool
     true
 }
 
-/// The numbers of a program header do, type and flags apart.
+/// Whether the numbers of a program header fit their fields, type and flags apart.
 #[tactic(auto, unfolding(crate::specs::Slow::DoesPieceFit))]
 fn does_piece_fit(plain: &Plain, piece: &Piece) -> bool
     ensures { IsTrue result ↔ DoesPieceFit plain.now piece.now }
@@ -144,7 +144,7 @@ fn does_piece_fit(plain: &Plain, piece: &Piece) -> bool
     do_fit(plain, &numbers)
 }
 
-/// The numbers of all program headers do.
+/// Whether those of all program headers fit.
 fn do_pieces_fit(plain: &Plain, pieces: &[Piece]) -> bool
     ensures { IsTrue result ↔ All (DoesPieceFit plain.now) pieces.now }
 {
@@ -156,7 +156,7 @@ fn do_pieces_fit(plain: &Plain, pieces: &[Piece]) -> bool
     true
 }
 
-/// The numbers that tell where sections stand do.
+/// Whether the numbers fit that tell where sections stand.
 fn do_slots_fit(plain: &Plain, slots: &[Slot]) -> bool
     ensures { IsTrue result ↔ All (DoesSlotFit plain.now) slots.now }
 {
@@ -168,7 +168,7 @@ fn do_slots_fit(plain: &Plain, slots: &[Slot]) -> bool
     true
 }
 
-/// All numbers do, and there are few enough sections and program headers.
+/// Whether all numbers of a layout fit their fields, and sections and program headers can be counted.
 fn does_fit(plain: &Plain, standing: &Standing, pieces: &[Piece]) -> bool
     ensures { IsTrue result ↔ DoesFit plain.now standing.now pieces.now }
 {
