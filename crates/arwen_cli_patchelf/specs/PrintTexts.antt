@@ -1,5 +1,5 @@
 -- What patchelf prints of what a file shows.
-use Rattle.std.specs.Prelude.{ℕ, ◌/◌, ◌%◌, ◌==◌, ◌++◌, true, [], ◌∷◌, Option, Some, None, bit_and, codes, if◌then◌else◌}
+use Rattle.std.specs.Prelude.{ℕ, ◌/◌, ◌%◌, ◌==◌, ◌++◌, Bool, true, false, [], ◌∷◌, Option, Some, None, bit_and, codes, is_none, if◌then◌else◌}
 use Rattle.std.specs.Fmt.{digit_glyph}
 use Rattle.elf_commands.specs.Meaning.{print_interpreter, print_needed, print_rpath, print_soname}
 use Rattle.elf_commands.specs.Prints.{printed}
@@ -51,14 +51,31 @@ stack_mark (Some flags) = if bit_and flags 1 == 0 then codes "-" else codes "X"
 abbrev pub stack_line : Option ℕ → Text
 stack_line flags = codes "execstack: " ++ (stack_mark flags ++ 10 ∷ [])
 
+-- ## The run path
+
+-- a line feed where nothing else is printed
+abbrev pub line_or_empty : Text → Text
+line_or_empty [] = 10 ∷ []
+line_or_empty (b ∷ bs) = b ∷ bs
+
 -- ## All
 
--- what is printed of what a file shows: a line for its ABI and one for its stack; of the others what the commands for ELF files
--- print, whatever the path of their file
+-- whether a file has no place for what is to be printed: no interpreter, or no dynamic list, in which run paths and needed
+-- libraries stand
+abbrev pub is_absent : Print → View → Bool
+is_absent Interpreter view = is_none view.interpreter
+is_absent OsAbi view = false
+is_absent Soname view = false
+is_absent RunPath view = is_none view.entries
+is_absent ExecStack view = false
+is_absent Needed view = is_none view.entries
+
+-- what is printed of what a file shows: a line for its ABI, one for its stack, and one for its run path, which is empty where it
+-- has none; of the others what the commands for ELF files print, whatever the path of their file
 abbrev pub print_text : Print → View → Text
 print_text Interpreter view = printed (print_interpreter []) view
 print_text OsAbi view = abi_line view.os_abi
 print_text Soname view = printed (print_soname []) view
-print_text RunPath view = printed (print_rpath []) view
+print_text RunPath view = line_or_empty (printed (print_rpath []) view)
 print_text ExecStack view = stack_line view.stack_flags
 print_text Needed view = printed (print_needed []) view

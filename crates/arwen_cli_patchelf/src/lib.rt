@@ -1,6 +1,7 @@
 //! What lines of `patchelf` do to files: what they ask for is printed, and their plan is made of the bytes of stores and files.
 #![tactic(auto)]
 
+mod error;
 mod first_found;
 mod making;
 mod patching;
@@ -10,6 +11,7 @@ mod steps;
 mod unheard;
 mod writing;
 
+pub use crate::error::PatchelfError;
 pub use crate::making::made_bytes;
 pub use crate::patching::{patch_path, patch_store};
 pub use crate::printing::{Print, print_path, prints_asked};

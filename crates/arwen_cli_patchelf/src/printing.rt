@@ -3,21 +3,23 @@ ghost use Rattle.std.specs.Prelude.{◌≡◌, ◌≤◌, None, IfErr, IfOk, IsO
 ghost use Rattle.std.specs.Io.KnownBytes.{Appends};
 ghost use Rattle.byte_store.specs.Known.{Stays};
 ghost use Rattle.elf_image.specs.Image.{image_of};
-ghost use Rattle.elf_commands.specs.ElfStores.{IsKeptAt};
+ghost use Rattle.elf_commands.specs.ElfCommandError.TheVariants.{Io};
 ghost use Rattle.elf_commands.specs.Failures.{HasReadCause, HasReadCauseAt};
 ghost use Rattle.elf_commands.specs.Prints.{PrintMayFail, StopsWriting};
 ghost use Rattle.arwen_cli_peers.specs.EditWords.{asked_model};
-ghost use Rattle.arwen_cli_patchelf.specs.Printing.{IsPrinted, IsPrintedOf, IsReadFor, PrintsAll, TellsPrint, TellsPrintOf, TellsPrints, option_for, prints_among, prints_asked as prints_meant};
+ghost use Rattle.arwen_cli_patchelf.specs.Printing.{IfCommand, IsKeptFor, IsPrinted, IsPrintedOf, IsReadFor, PrintsAll, TellsPrint, TellsPrintOf, TellsPrints, option_for, prints_among, prints_asked as prints_meant};
+ghost use Rattle.arwen_cli_patchelf.specs.declared.error.PatchelfError.TheVariants.{Command};
 
-use crate::print_texts::print_text;
+use crate::error::PatchelfError;
+use crate::print_texts::text_of;
 use arwen_cli_peers::AskedOption;
 use arwen_cli_peers::asked::is_given;
 use byte_store::Store;
 use command_words::{NotDone, OpensOnce, load};
 use elf_commands::ElfCommandError;
-use elf_commands::elf::open_path;
 use elf_commands::files::{CountedWrite, ElfContainer, ElfError, write_all_counted};
 use std::alloc::{AllocError, Global};
+use std::io;
 
 /// What is printed of a file.
 #[derive(Clone, Copy, Debug)]
@@ -87,34 +89,38 @@ fn option_of(print: Print) -> &'static str
 ///
 /// # Errors
 ///
-/// Those of the first print that fails; those before it are printed. `Io` where the opening or a read of the file failed; `Elf`
-/// where the file is none that is read, or, with `ElfError::Io`, where the writer failed, which it counted, and got the first
-/// bytes of the print. The store that was opened comes with the error.
+/// Those of the first print that fails; those before it are printed. `Absent` where the file has no place for it: no interpreter,
+/// or no dynamic section for run path and needed libraries. `Command` with `Io` where the opening or a read of the file failed,
+/// and with `Elf` where the file is none that is read, or, with `ElfError::Io`, where the writer failed, which it counted, and
+/// got the first bytes of the print. The store that was opened comes with the error.
 pub fn print_path<'p, O: OpensOnce<'p> + Drop, W: CountedWrite>(
     alloc: Global,
     files: O,
     path: &'p str,
     prints: &[Print],
     out: &mut W,
-) -> Result<Option<O::Opened>, NotDone<O::Opened, ElfCommandError>>
+) -> Result<Option<O::Opened>, NotDone<O::Opened, PatchelfError>>
     ensures printed { IfOk result (λ _. PrintsAll prints.now
         (O.contents files path.now) (W.contents out.old) (W.contents out.new)) }
     ensures kept { IfOk result (IsReadFor O.Opened.contents
         (length prints.now) (O.contents files path.now)) }
     ensures idle { length prints.now ≡ 0 → IsOkAnd result (λ store. store ≡ None) }
-    ensures err { IfErr result (λ refused. PrintMayFail refused.error) }
+    ensures err { IfErr result (λ refused. IfCommand PrintMayFail refused.error) }
     ensures tells { IfErr result (λ refused. TellsPrints W.contents W.failed prints.now
         (O.contents files path.now) out.old out.new refused.error) }
-    ensures left { IfErr result (λ refused. IsKeptAt (O.may_fail files path.now)
+    ensures left { IfErr result (λ refused. IsKeptFor (O.may_fail files path.now)
         O.Opened.contents (O.contents files path.now) refused.error refused.store) }
-    ensures cause { IfErr result (λ refused. HasReadCauseAt (O.may_fail files path.now)
-        O.Opened.may_fail_read O.Opened.failed (O.contents files path.now)
-        refused.error refused.store) }
+    ensures cause { IfErr result (λ refused. IfCommand (λ e. HasReadCauseAt
+        (O.may_fail files path.now) O.Opened.may_fail_read O.Opened.failed
+        (O.contents files path.now) e refused.store) refused.error) }
 {
     if prints.is_empty() {
         return Ok(None);
     }
-    let mut store = open_path(files, path)?;
+    let mut store = match files.open_once(path) {
+        Ok(store) => store,
+        Err(error) => return Err(not_opened(error)),
+    };
     match print_each(alloc, &mut store, prints, out) {
         Ok(()) => Ok(Some(store)),
         Err(error) => Err(NotDone {
@@ -124,22 +130,33 @@ pub fn print_path<'p, O: OpensOnce<'p> + Drop, W: CountedWrite>(
     }
 }
 
+/// The answer to an opening that failed.
+fn not_opened<S>(error: io::Error) -> NotDone<S, PatchelfError>
+    ensures error { result.error ≡ Command (Io error) }
+    ensures store { result.store ≡ None }
+{
+    NotDone {
+        error: PatchelfError::Command(ElfCommandError::Io(error)),
+        store: None,
+    }
+}
+
 /// Prints this of the bytes of a store, in order.
 fn print_each<S: Store, W: CountedWrite>(
     alloc: Global,
     store: &mut S,
     prints: &[Print],
     out: &mut W,
-) -> Result<(), ElfCommandError>
+) -> Result<(), PatchelfError>
     ensures printed { OnOk result (PrintsAll prints.now
         (S.contents store.old) (W.contents out.old) (W.contents out.new)) }
-    ensures err { IfErr result PrintMayFail }
+    ensures err { IfErr result (IfCommand PrintMayFail) }
     ensures tells { IfErr result (TellsPrints W.contents W.failed prints.now
         (S.contents store.old) out.old out.new) }
     ensures kept { Stays (S.contents store.old) (S.contents store.new) }
     ensures grows { S.failed store.old ≤ S.failed store.new }
-    ensures cause { IfErr result (HasReadCause S.may_fail_read (S.contents store.old)
-        (S.failed store.old) (S.failed store.new)) }
+    ensures cause { IfErr result (IfCommand (HasReadCause S.may_fail_read
+        (S.contents store.old) (S.failed store.old) (S.failed store.new))) }
 {
     let Some((first, rest)) = prints.split_first() else {
         return Ok(());
@@ -154,16 +171,16 @@ fn print_one<S: Store, W: CountedWrite>(
     store: &mut S,
     print: Print,
     out: &mut W,
-) -> Result<(), ElfCommandError>
+) -> Result<(), PatchelfError>
     ensures printed { OnOk result (IsPrinted print
         (S.contents store.old) (W.contents out.old) (W.contents out.new)) }
-    ensures err { IfErr result PrintMayFail }
+    ensures err { IfErr result (IfCommand PrintMayFail) }
     ensures tells { IfErr result (TellsPrint W.contents W.failed print
         (S.contents store.old) out.old out.new) }
     ensures kept { Stays (S.contents store.old) (S.contents store.new) }
     ensures grows { S.failed store.old ≤ S.failed store.new }
-    ensures cause { IfErr result (HasReadCause S.may_fail_read (S.contents store.old)
-        (S.failed store.old) (S.failed store.new)) }
+    ensures cause { IfErr result (IfCommand (HasReadCause S.may_fail_read
+        (S.contents store.old) (S.failed store.old) (S.failed store.new))) }
 {
     let bytes = load(alloc, store)?;
     print_loaded(alloc, bytes.as_slice(), print, out)
@@ -175,14 +192,14 @@ fn print_loaded<W: CountedWrite>(
     bytes: &[u8],
     print: Print,
     out: &mut W,
-) -> Result<(), ElfCommandError>
+) -> Result<(), PatchelfError>
     ensures printed { OnOk result (IsPrintedOf print (image_of bytes.now)
         (W.contents out.old) (W.contents out.new)) }
     ensures err { IfErr result (TellsPrintOf W.contents W.failed print (image_of bytes.now)
         out.old out.new) }
 {
     let elf = ElfContainer::parse(alloc, bytes)?;
-    let text = print_text(alloc, &elf, print);
+    let text = text_of(alloc, &elf, print);
     drop(elf);
     let text = text?;
     Ok(write_text(text.as_slice(), out)?)

@@ -3,11 +3,11 @@ use Rattle.std.proofs.Common.{◌≡◌, ◌<◌, ◌≤◌, ◌+◌, ℕ, List,
 use Rattle.std.specs.Prelude.{IfOk, String, string_bytes}
 use Rattle.std.specs.declared.alloc.Global.{Global}
 use Rattle.std.proofs.lemmas.List.{drop_all, drop_more}
-use Rattle.elf_commands.specs.ElfCommandError.{ElfCommandError}
 use Rattle.elf_commands.specs.Shrinking.{Finding}
 use Rattle.arwen_cli_peers.specs.Options.{Text}
 use Rattle.arwen_cli_patchelf.specs.Made.{AsksNothing, IsAppliedTo, IsShrunkTo}
 use Rattle.arwen_cli_patchelf.specs.Patched.{HoldsKnown, IsPatchedAt}
+use Rattle.arwen_cli_patchelf.specs.declared.error.PatchelfError.{PatchelfError}
 use Rattle.arwen_cli_patchelf.specs.declared.printing.Print.{Print}
 use Rattle.arwen_cli_patchelf_lines.specs.Plans.{PlanMeant}
 use Rattle.arwen_cli_runners.specs.Endings.{EndsReadLine}
@@ -40,7 +40,7 @@ held_made is_new finds plan known new holds = λ file is. ((holds file is).made,
 abbrev pub Leads : {W : Type 0} → (W → Option (List ℕ)) → (W → ℕ) → Finding → List Print → PlanMeant → (Text → Option (List ℕ)) → List (String Global) → W → List (String Global) → W → Type 0
 Leads {W} written failed finds prints plan contents paths first left now =
     ((new : Option (List ℕ)) → AreDone finds prints plan contents (map string_bytes left) (written now) new → AreDone finds prints plan contents (map string_bytes paths) (written first) new)
-    × ((new : W) (at : Text) (e : ElfCommandError) → StopsAt written failed finds prints plan contents (map string_bytes left) now new at e → StopsAt written failed finds prints plan contents (map string_bytes paths) first new at e)
+    × ((new : W) (at : Text) (e : PatchelfError) → StopsAt written failed finds prints plan contents (map string_bytes left) now new at e → StopsAt written failed finds prints plan contents (map string_bytes paths) first new at e)
 
 module _ {W : Type 0} (written : W → Option (List ℕ)) (failed : W → ℕ) (finds : Finding) (prints : List Print) (plan : PlanMeant) (contents : Text → Option (List ℕ)) (paths : List (String Global)) (first : W) where
   pub one_more : (i : ℕ) (d : String Global) (path : Text) (old now : W) → i < length paths → path ≡ string_bytes (get_or paths i d)
@@ -52,7 +52,7 @@ module _ {W : Type 0} (written : W → Option (List ℕ)) (failed : W → ℕ) (
         (λ new at e more. before.1 new at e (subst (λ (left : List (String Global)). StopsAt written failed finds prints plan contents (map string_bytes left) old new at e) (sym (drop_more paths i d inside)) (inr (now, here, more)))),
       )
 
-  pub stops_here : (i : ℕ) (d : String Global) (path : Text) (old now : W) (e : ElfCommandError) → i < length paths → path ≡ string_bytes (get_or paths i d)
+  pub stops_here : (i : ℕ) (d : String Global) (path : Text) (old now : W) (e : PatchelfError) → i < length paths → path ≡ string_bytes (get_or paths i d)
       → Leads written failed finds prints plan contents paths first (drop i paths) old → Stops written failed finds prints plan contents path old now e
       → StopsAt written failed finds prints plan contents (map string_bytes paths) first now path e
   stops_here i d path old now e inside is before stops =
@@ -65,7 +65,7 @@ module _ {W : Type 0} (written : W → Option (List ℕ)) (failed : W → ℕ) (
       before.0 (written now) (subst (λ (left : List (String Global)). AreDone finds prints plan contents (map string_bytes left) (written now) (written now)) (sym (drop_all i paths past)) refl)
 
   -- the ending that tells a fault is that of all files
-  pub ends_by : {E : Type 0} (r : Result Ending E) (path : Text) (now : W) (e : ElfCommandError) → IfOk r (IsFaultEnding path e)
+  pub ends_by : {E : Type 0} (r : Result Ending E) (path : Text) (now : W) (e : PatchelfError) → IfOk r (IsFaultEnding path e)
       → StopsAt written failed finds prints plan contents (map string_bytes paths) first now path e
       → IfOk r (EndsFiles written failed finds prints plan contents (map string_bytes paths) first now)
   ends_by (Ok (Failed line)) path now e is stops = (path, e, stops, is)

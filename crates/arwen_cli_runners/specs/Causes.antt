@@ -11,20 +11,39 @@ use Rattle.arwen_cli_facts.specs.Reasons.{TellsWords, file_line, macho_words}
 use Rattle.arwen_cli_facts.specs.declared.refusal.Told.{Told}
 use Rattle.arwen_cli_install_names.specs.declared.editing.NamesError.{NamesError}
 use Rattle.arwen_cli_install_names.specs.declared.editing.NamesError.TheVariants.{Command, Unlike}
+use Rattle.arwen_cli_patchelf.specs.declared.error.PatchelfError.{PatchelfError}
+use Rattle.arwen_cli_patchelf.specs.declared.error.PatchelfError.TheVariants.{Absent}
+use Rattle.arwen_cli_patchelf.specs.declared.error.PatchelfError.TheVariants as patchelf
+use Rattle.arwen_cli_patchelf.specs.declared.printing.Print.{Print}
+use Rattle.arwen_cli_patchelf.specs.declared.printing.Print.TheVariants.{ExecStack, Interpreter, Needed, OsAbi, RunPath, Soname}
 use Rattle.arwen_cli_patchelf_lines.specs.Plans.{PlanMeant}
 use Rattle.arwen_cli_peers.specs.Options.{Text}
 
 -- ## Causes
 
--- what stands before the causes of a fault of an ELF file
-abbrev pub elf_kind : ElfCommandError → Text
-elf_kind (elf.Elf e) = codes "error while patching ELF file: "
-elf_kind (elf.ElfBatch e) = codes "ELF batch refused: edit "
-elf_kind (elf.Io e) = codes "file error: "
-elf_kind (elf.Edits e) = codes "invalid edit list: "
-elf_kind elf.Memory = codes "out of memory"
+-- what stands before the causes of an error of a command for ELF files
+abbrev pub command_kind : ElfCommandError → Text
+command_kind (elf.Elf e) = codes "error while patching ELF file: "
+command_kind (elf.ElfBatch e) = codes "ELF batch refused: edit "
+command_kind (elf.Io e) = codes "file error: "
+command_kind (elf.Edits e) = codes "invalid edit list: "
+command_kind elf.Memory = codes "out of memory"
 
-abbrev pub AreElfCauses : ElfCommandError → Text → Type 0
+-- what a file has no place for that lacks a print
+abbrev pub absent_words : Print → Text
+absent_words Interpreter = codes "no interpreter"
+absent_words OsAbi = codes "no dynamic section"
+absent_words Soname = codes "no dynamic section"
+absent_words RunPath = codes "no dynamic section"
+absent_words ExecStack = codes "no dynamic section"
+absent_words Needed = codes "no dynamic section"
+
+-- what stands before the causes of a fault of an ELF file
+abbrev pub elf_kind : PatchelfError → Text
+elf_kind (Absent print) = absent_words print
+elf_kind (patchelf.Command e) = command_kind e
+
+abbrev pub AreElfCauses : PatchelfError → Text → Type 0
 AreElfCauses e causes = (inner : Text) × (causes ≡ elf_kind e ++ inner)
 
 -- the same of a Mach-O file
@@ -72,7 +91,7 @@ pub record IsLineOf (tool path : Text) (AreCauses : Text → Type 0) (line : Tex
   pub bracket : Option Text
   pub is : line ≡ tool ++ file_line path causes bracket
 
-abbrev pub IsElfFaultLine : Text → ElfCommandError → Text → Type 0
+abbrev pub IsElfFaultLine : Text → PatchelfError → Text → Type 0
 IsElfFaultLine path e line = IsLineOf (codes "patchelf: ") path (AreElfCauses e) line
 
 abbrev pub IsNamesFaultLine : Text → NamesError → Text → Type 0

@@ -1,11 +1,11 @@
 -- How lines end.
 use Rattle.std.specs.Prelude.{ℕ, ◌≡◌, ◌⊎◌, List, Option, None, Err, codes, string_bytes, ⊤}
 use Rattle.byte_store.specs.declared.reading.ReadError.{ReadError}
-use Rattle.elf_commands.specs.ElfCommandError.{ElfCommandError}
 use Rattle.arwen_cli_install_names.specs.Line.{ReadsNames, TellsNames}
 use Rattle.arwen_cli_install_names.specs.declared.editing.NamesError.{NamesError}
 use Rattle.arwen_cli_install_names.specs.declared.line.NameLine.{NameLine}
 use Rattle.arwen_cli_install_names.specs.declared.line.NameLineError.{NameLineError}
+use Rattle.arwen_cli_patchelf.specs.declared.error.PatchelfError.{PatchelfError}
 use Rattle.arwen_cli_patchelf_lines.specs.Line.{ReadsLine, TellsLine}
 use Rattle.arwen_cli_patchelf_lines.specs.declared.line.Line.{Line}
 use Rattle.arwen_cli_patchelf_lines.specs.declared.line.LineError.{LineError}
@@ -38,7 +38,7 @@ any_error path e = ⊤
 -- all is done of a line of patchelf, or its ending tells the fault of a file
 abbrev pub EndsReadLine : Ending → Type 0
 EndsReadLine Done = ⊤
-EndsReadLine (Failed line) = (path : Text) × (e : ElfCommandError) × IsElfFaultLine path e (string_bytes line)
+EndsReadLine (Failed line) = (path : Text) × (e : PatchelfError) × IsElfFaultLine path e (string_bytes line)
 EndsReadLine (Told text) = ⊥
 
 -- the ending tells why the file of a line of install_name_tool isn't edited

@@ -1,11 +1,12 @@
 -- What lines of patchelf do to their files, where these are known.
 use Rattle.std.specs.Prelude.{ℕ, ◌≡◌, ◌⊎◌, List, [], ◌∷◌, Option, Some, string_bytes}
-use Rattle.elf_commands.specs.ElfCommandError.{ElfCommandError}
 use Rattle.elf_commands.specs.Shrinking.{Finding}
 use Rattle.arwen_cli_peers.specs.Options.{Text}
 use Rattle.arwen_cli_patchelf.specs.Made.{IsMadeOf}
 use Rattle.arwen_cli_patchelf.specs.Patched.{TellsPlanPath}
 use Rattle.arwen_cli_patchelf.specs.Printing.{PrintsAll, TellsPrints}
+use Rattle.arwen_cli_patchelf.specs.declared.error.PatchelfError.{PatchelfError}
+use Rattle.arwen_cli_patchelf.specs.declared.error.PatchelfError.TheVariants.{Absent, Command}
 use Rattle.arwen_cli_patchelf.specs.declared.printing.Print.{Print}
 use Rattle.arwen_cli_patchelf_lines.specs.Plans.{PlanMeant}
 use Rattle.arwen_cli_runners.specs.Causes.{IsElfFaultLine}
@@ -27,14 +28,19 @@ AreDone finds prints plan contents [] old new = new ≡ old
 AreDone finds prints plan contents (path ∷ rest) old new =
     (mid : Option (List ℕ)) × IsDone finds prints plan contents path old mid × AreDone finds prints plan contents rest mid new
 
+-- why a plan isn't made of known bytes, or not written
+abbrev pub TellsPlanFault : Finding → PlanMeant → Option (List ℕ) → PatchelfError → Type 0
+TellsPlanFault finds plan known (Command e) = TellsPlanPath finds plan known e
+TellsPlanFault finds plan known (Absent print) = ⊥
+
 -- not all is done: a print fails, or, once all is printed, the plan is refused or not written
-abbrev pub Stops : {W : Type 0} → (W → Option (List ℕ)) → (W → ℕ) → Finding → List Print → PlanMeant → (Text → Option (List ℕ)) → Text → W → W → ElfCommandError → Type 0
+abbrev pub Stops : {W : Type 0} → (W → Option (List ℕ)) → (W → ℕ) → Finding → List Print → PlanMeant → (Text → Option (List ℕ)) → Text → W → W → PatchelfError → Type 0
 Stops written failed finds prints plan contents path old new e =
     TellsPrints written failed prints (contents path) old new e
-    ⊎ (PrintsAll prints (contents path) (written old) (written new) × TellsPlanPath finds plan (contents path) e)
+    ⊎ (PrintsAll prints (contents path) (written old) (written new) × TellsPlanFault finds plan (contents path) e)
 
 -- of one of these files, which is at this path, once all is done of those before it
-abbrev pub StopsAt : {W : Type 0} → (W → Option (List ℕ)) → (W → ℕ) → Finding → List Print → PlanMeant → (Text → Option (List ℕ)) → List Text → W → W → Text → ElfCommandError → Type 0
+abbrev pub StopsAt : {W : Type 0} → (W → Option (List ℕ)) → (W → ℕ) → Finding → List Print → PlanMeant → (Text → Option (List ℕ)) → List Text → W → W → Text → PatchelfError → Type 0
 StopsAt written failed finds prints plan contents [] old new at e = ⊥
 StopsAt {W} written failed finds prints plan contents (path ∷ rest) old new at e =
     ((at ≡ path) × Stops written failed finds prints plan contents path old new e)
@@ -42,7 +48,7 @@ StopsAt {W} written failed finds prints plan contents (path ∷ rest) old new at
     × StopsAt written failed finds prints plan contents rest mid new at e)
 
 -- a line ends with one that tells the fault of the file at a path
-abbrev pub IsFaultEnding : Text → ElfCommandError → Ending → Type 0
+abbrev pub IsFaultEnding : Text → PatchelfError → Ending → Type 0
 IsFaultEnding path e (Failed line) = IsElfFaultLine path e (string_bytes line)
 IsFaultEnding path e Done = ⊥
 IsFaultEnding path e (Told text) = ⊥
@@ -51,6 +57,6 @@ IsFaultEnding path e (Told text) = ⊥
 abbrev pub EndsFiles : {W : Type 0} → (W → Option (List ℕ)) → (W → ℕ) → Finding → List Print → PlanMeant → (Text → Option (List ℕ)) → List Text → W → W → Ending → Type 0
 EndsFiles written failed finds prints plan contents paths old new Done = AreDone finds prints plan contents paths (written old) (written new)
 EndsFiles written failed finds prints plan contents paths old new (Failed line) =
-    (path : Text) × (e : ElfCommandError) × StopsAt written failed finds prints plan contents paths old new path e
+    (path : Text) × (e : PatchelfError) × StopsAt written failed finds prints plan contents paths old new path e
     × IsElfFaultLine path e (string_bytes line)
 EndsFiles written failed finds prints plan contents paths old new (Told text) = ⊥

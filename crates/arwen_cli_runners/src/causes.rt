@@ -3,7 +3,7 @@ ghost use Rattle.std.specs.Prelude.{◌≡◌, IfOk, IfSome, map, string_bytes};
 ghost use Rattle.byte_store.specs.Known.{IsAll};
 ghost use Rattle.arwen_cli_facts.specs.Reasons.{elf_words as elf_told};
 ghost use Rattle.arwen_cli_patchelf_lines.specs.Plans.{plan_model};
-ghost use Rattle.arwen_cli_runners.specs.Causes.{AreElfCauses, AreNameCauses, IsApplyCommand, IsElfFaultLine, IsNamesFaultLine, TellsElfKnown, TellsMachoKnown, elf_kind as elf_kind_of, names_kind as names_kind_of};
+ghost use Rattle.arwen_cli_runners.specs.Causes.{AreElfCauses, AreNameCauses, IsApplyCommand, IsElfFaultLine, IsNamesFaultLine, TellsElfKnown, TellsMachoKnown, absent_words as absent_told, command_kind as command_kind_of, elf_kind as elf_kind_of, names_kind as names_kind_of};
 
 use crate::ending::joined;
 use arwen_cli_facts::{
@@ -11,6 +11,7 @@ use arwen_cli_facts::{
 };
 use arwen_cli_install_names::NamesError;
 use arwen_cli_overlaps::overlap_text;
+use arwen_cli_patchelf::{PatchelfError, Print};
 use arwen_cli_patchelf_lines::Plan;
 use arwen_macho::macho::MachoError;
 use byte_store::{Opens, load_whole};
@@ -28,7 +29,7 @@ pub(crate) fn elf_fault_line<'p, O: Opens<'p>>(
     files: &O,
     plan: &Plan,
     path: &'p str,
-    error: &ElfCommandError,
+    error: &PatchelfError,
 ) -> Result<String, AllocError>
     ensures { IfOk result (λ line. IsElfFaultLine path.entry.now error.now (string_bytes line)) }
 {
@@ -39,7 +40,7 @@ pub(crate) fn elf_fault_line<'p, O: Opens<'p>>(
 }
 
 /// The causes of a fault of an ELF file.
-fn elf_causes(alloc: Global, error: &ElfCommandError) -> Result<String, AllocError>
+fn elf_causes(alloc: Global, error: &PatchelfError) -> Result<String, AllocError>
     ensures { IfOk result (λ causes. AreElfCauses error.now (string_bytes causes)) }
 {
     let inner = elf_inner(alloc, error)?;
@@ -47,8 +48,28 @@ fn elf_causes(alloc: Global, error: &ElfCommandError) -> Result<String, AllocErr
 }
 
 /// What kind of fault it is, with what stands before its causes.
-fn elf_kind(error: &ElfCommandError) -> &'static str
+fn elf_kind(error: &PatchelfError) -> &'static str
     ensures { result.now ≡ elf_kind_of error.now }
+{
+    match error {
+        PatchelfError::Absent(print) => absent_words(*print),
+        PatchelfError::Command(error) => command_kind(error),
+    }
+}
+
+/// What a file has no place for that lacks this print.
+fn absent_words(print: Print) -> &'static str
+    ensures { result.now ≡ absent_told print }
+{
+    match print {
+        Print::Interpreter => "no interpreter",
+        _ => "no dynamic section",
+    }
+}
+
+/// The same of an error of a command.
+fn command_kind(error: &ElfCommandError) -> &'static str
+    ensures { result.now ≡ command_kind_of error.now }
 {
     match error {
         ElfCommandError::Elf(_) => "error while patching ELF file: ",
@@ -60,7 +81,10 @@ fn elf_kind(error: &ElfCommandError) -> &'static str
 }
 
 /// What stands behind that: of a refused batch first which edit it is.
-fn elf_inner(alloc: Global, error: &ElfCommandError) -> Result<String, AllocError> {
+fn elf_inner(alloc: Global, error: &PatchelfError) -> Result<String, AllocError> {
+    let PatchelfError::Command(error) = error else {
+        return Ok(String::new(alloc));
+    };
     match error {
         ElfCommandError::Elf(fault) => format!(in alloc; "{}", ElfCauses { fault }),
         ElfCommandError::ElfBatch(batch) => {
@@ -79,8 +103,11 @@ fn elf_bracket<'p, O: Opens<'p>>(
     files: &O,
     plan: &Plan,
     path: &'p str,
-    error: &ElfCommandError,
+    error: &PatchelfError,
 ) -> Result<Option<String>, AllocError> {
+    let PatchelfError::Command(error) = error else {
+        return Ok(None);
+    };
     match error {
         ElfCommandError::Elf(ElfError::Modify(ModifyCause::Overlap)) => {
             Ok(overlap_at(alloc, files, plan, path))

@@ -7,7 +7,7 @@ ghost use Rattle.arwen_cli_runners.specs.Runs.{CanBeMade, EndsFiles, IsDone, IsF
 
 use crate::causes::elf_fault_line;
 use crate::ending::Ending;
-use arwen_cli_patchelf::{Print, patch_path, print_path, write_path};
+use arwen_cli_patchelf::{PatchelfError, Print, patch_path, print_path, write_path};
 use arwen_cli_patchelf_lines::Plan;
 use byte_store::{Creates, Opens};
 use command_words::NotDone;
@@ -49,7 +49,7 @@ fn fault_ending<'p, O: Opens<'p>>(
     files: &O,
     plan: &Plan,
     path: &'p str,
-    error: ElfCommandError,
+    error: PatchelfError,
 ) -> Result<Ending, AllocError>
     ensures { IfOk result (IsFaultEnding path.now error) }
 {
@@ -68,7 +68,7 @@ fn run_file<'p, F: Opens<'p> + Creates<'p>, P: Probe, W: CountedWrite>(
     output: Option<&'p str>,
     probe: &P,
     out: &mut W,
-) -> Result<(), ElfCommandError>
+) -> Result<(), PatchelfError>
     ensures done { OnOk result (IsDone (P.may_find probe.now) prints.now (plan_model plan.now)
         (F.contents files.now) path.now (W.contents out.old) (W.contents out.new)) }
     ensures stopped { IfErr result (Stops W.contents W.failed (P.may_find probe.now) prints.now
@@ -76,8 +76,8 @@ fn run_file<'p, F: Opens<'p> + Creates<'p>, P: Probe, W: CountedWrite>(
 {
     print_file(alloc, files, path, prints, out)?;
     match output {
-        Some(output) => write_file(alloc, files, path, output, plan, probe),
-        None => edit_file(alloc, files, path, plan, probe),
+        Some(output) => Ok(write_file(alloc, files, path, output, plan, probe)?),
+        None => Ok(edit_file(alloc, files, path, plan, probe)?),
     }
 }
 
@@ -88,7 +88,7 @@ fn print_file<'p, O: Opens<'p>, W: CountedWrite>(
     path: &'p str,
     prints: &[Print],
     out: &mut W,
-) -> Result<(), ElfCommandError>
+) -> Result<(), PatchelfError>
     ensures printed { OnOk result (PrintsAll prints.now (O.contents files.now path.now)
         (W.contents out.old) (W.contents out.new)) }
     ensures tells { IfErr result (TellsPrints W.contents W.failed prints.now

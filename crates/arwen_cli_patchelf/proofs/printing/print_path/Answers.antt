@@ -1,16 +1,12 @@
 -- The store that was opened is the one at the path.
-use Rattle.std.proofs.lemmas.Result.{err_from_is_err_and}
-use Rattle.arwen_cli_patchelf.proofs.OutputLaws.{opened_cause}
-use Rattle.arwen_cli_patchelf.proofs.PrintLaws.{unopened}
+use Rattle.arwen_cli_patchelf.proofs.PrintLaws.{opened_at, unopened}
 use Rattle.arwen_cli_patchelf.proofs.printing.print_path.Goals as goal
 
-pub returns-in_err-store-clause-tells : goal.returns-in_err-store-clause-tells
-returns-in_err-store-clause-tells g c =
-    let p = err_from_is_err_and c.from_residual.result c.from_residual.ensures.1 in
-    rw (p.1, p.2) (unopened g.W.Write.contents g.W.CountedWrite.failed c.args.prints.now _ c.args.out.now (g.O.OpensOnce.may_fail c.args.files c.args.path.now)
-    c.in_err-store.field-0.0.error c.in_err-store.field-0.0.store c.in_err-store.ensures.err c.if-is_empty.ensures)
+pub returns-in-Err-clause-tells : goal.returns-in-Err-clause-tells
+returns-in-Err-clause-tells g c =
+    rw c.not_opened.ensures.error (unopened g.W.Write.contents g.W.CountedWrite.failed c.args.prints.now _ c.args.out.now c.in-Err.error c.if-is_empty.ensures)
 
-pub returns-in-Err-clause-cause : goal.returns-in-Err-clause-cause
-returns-in-Err-clause-cause g c =
-    opened_cause g.O.Opened.Store.may_fail_read (g.O.OpensOnce.contents c.args.files c.args.path.now) _ _ _ c.in-Err.error
-    c.in_ok-store.ensures.bytes c.in_ok-store.ensures.fresh c.in-Err.ensures.cause
+pub returns-in-Err-print_each-clause-cause : goal.returns-in-Err-print_each-clause-cause
+returns-in-Err-print_each-clause-cause g c =
+    opened_at (g.O.OpensOnce.may_fail c.args.files c.args.path.now) g.O.Opened.Store.may_fail_read g.O.Opened.Store.failed (g.O.OpensOnce.contents c.args.files c.args.path.now) _ _
+    c.in-Err-print_each.error _ c.in-Ok.ensures.bytes c.in-Ok.ensures.fresh c.in-Err-print_each.ensures.cause
