@@ -5,26 +5,33 @@
 use arwen_cli::cli::{ArwenError, execute, fault_line};
 pub use arwen_cli::{cli, commands, elf, macho, patcher, utils};
 use arwen_cli_runners::{peer_of, run_line};
+use std::alloc::{AllocError, Global};
 use std::process::ExitCode;
-use std::rt::{Env, Files};
 use std::{env, io};
 
-/// Reads the words behind the program's name and does what they ask.
-fn run<R: Env + Files + Print + Eprint + AllocGlobal>(rt: &R) -> Result<ExitCode, ArwenError> {
-    let words = given_words(rt)?;
-    let mut texts = Vec::with_capacity(rt.alloc(), words.len())?;
-    for word in words.as_slice() {
-        texts.push(word.as_str())?;
+/// Does what words ask, the program's name first, and answers the status to end with.
+fn run(rt: &HostRuntime, words: &[String]) -> ExitCode {
+    match texts_of(rt.alloc(), words) {
+        Ok(texts) => answer(rt, texts.as_slice()),
+        Err(_) => failed(rt, &[], &ArwenError::Memory),
     }
-    let Some((name, words)) = texts.as_slice().split_first() else {
-        return Ok(answer(rt, "", &[]));
-    };
-    Ok(answer(rt, *name, words))
 }
 
-/// Does what words ask behind the name by which the program was called, and answers the status to end with. Lines of other
-/// tools are run as theirs.
-fn answer<R: Files + Print + Eprint + AllocGlobal>(rt: &R, name: &str, words: &[&str]) -> ExitCode {
+/// The texts of words.
+fn texts_of<'w>(alloc: Global, words: &'w [String]) -> Result<Vec<&'w str>, AllocError> {
+    let mut texts = Vec::with_capacity(alloc, words.len())?;
+    for word in words {
+        texts.push(word.as_str())?;
+    }
+    Ok(texts)
+}
+
+/// The same of their texts. Lines of other tools are run as theirs.
+fn answer(rt: &HostRuntime, words: &[&str]) -> ExitCode {
+    let (name, words) = match words.split_first() {
+        Some((name, words)) => (*name, words),
+        None => ("", words),
+    };
     match peer_of(name, words) {
         Some((peer, behind)) => ExitCode::from(run_line(rt, peer, behind)),
         None => own_answer(rt, words),
@@ -32,40 +39,38 @@ fn answer<R: Files + Print + Eprint + AllocGlobal>(rt: &R, name: &str, words: &[
 }
 
 /// Does what words ask of this program itself, and answers the status to end with.
-fn own_answer<R: Files + Print + Eprint + AllocGlobal>(rt: &R, words: &[&str]) -> ExitCode {
+fn own_answer(rt: &HostRuntime, words: &[&str]) -> ExitCode {
     match execute(rt, words) {
         Ok(()) => ExitCode::SUCCESS,
-        Err(error) => ended(report(rt, words, &error), &error),
+        Err(error) => failed(rt, words, &error),
     }
 }
 
-/// The status after a fault that was reported, or not.
-fn ended(reported: io::Result<()>, error: &ArwenError) -> ExitCode {
-    match reported {
+/// Tells a fault of these words, and answers the status to end with.
+fn failed(rt: &HostRuntime, words: &[&str], error: &ArwenError) -> ExitCode {
+    match report(rt, words, error) {
         Ok(()) => ExitCode::from(error.status()),
         Err(_) => ExitCode::FAILURE,
     }
 }
 
 /// All words of the line, the program's name first. A word that is no UTF-8 is a line fault.
-fn given_words<R: Env + AllocGlobal>(rt: &R) -> Result<Vec<String>, ArwenError> {
-    let given = match env::args(rt) {
-        Ok(given) => given,
-        Err(error) if error.kind() == io::ErrorKind::InvalidData => {
-            let text = String::from_str(rt.alloc(), "error: a word is not UTF-8\n")?;
-            return Err(ArwenError::Line { text, status: 2 });
-        }
-        Err(error) => return Err(ArwenError::from(error)),
-    };
-    Ok(given.collect(rt.alloc())?)
+fn given_words(rt: &HostRuntime) -> Result<Vec<String>, ArwenError> {
+    match env::args(rt) {
+        Ok(given) => Ok(given.collect(rt.alloc())?),
+        Err(error) if error.kind() == io::ErrorKind::InvalidData => Err(no_text(rt.alloc())?),
+        Err(error) => Err(ArwenError::from(error)),
+    }
+}
+
+/// The fault of a word that is no UTF-8.
+fn no_text(alloc: Global) -> Result<ArwenError, AllocError> {
+    let text = String::from_str(alloc, "error: a word is not UTF-8\n")?;
+    Ok(ArwenError::Line { text, status: 2 })
 }
 
 /// Prints help on the standard output and a fault on the standard error, unless its lines are there.
-fn report<R: Files + Print + Eprint + AllocGlobal>(
-    rt: &R,
-    words: &[&str],
-    error: &ArwenError,
-) -> io::Result<()> {
+fn report(rt: &HostRuntime, words: &[&str], error: &ArwenError) -> io::Result<()> {
     match error {
         ArwenError::Line { text, status: 0 } => rt.print(text),
         ArwenError::Line { text, .. } => rt.eprint(text),
@@ -78,8 +83,8 @@ fn report<R: Files + Print + Eprint + AllocGlobal>(
 }
 
 fn main(rt: HostRuntime) -> ExitCode {
-    match run(&rt) {
-        Ok(status) => status,
-        Err(error) => ended(report(&rt, &[], &error), &error),
+    match given_words(&rt) {
+        Ok(words) => run(&rt, words.as_slice()),
+        Err(error) => failed(&rt, &[], &error),
     }
 }

@@ -1,5 +1,5 @@
 -- What the program answers when it does not do what was asked.
-use Rattle.std.specs.Prelude.{ℕ, List, codes, ⊤}
+use Rattle.std.specs.Prelude.{ℕ, List, Option, Some, None, codes, ⊤}
 use Rattle.elf_apply.specs.declared.error.ElfError.{ElfError}
 use Rattle.elf_apply.specs.declared.error.ElfError.TheVariants as elf
 use Rattle.elf_apply.specs.declared.batch.ElfBatchError.{ElfBatchError}
@@ -18,6 +18,8 @@ use Rattle.arwen_cli_show.specs.declared.command.ShowCommandError.{ShowCommandEr
 use Rattle.arwen_cli_show.specs.declared.command.ShowCommandError.TheVariants as show_command
 use Rattle.arwen_cli.specs.declared.cli.error.ArwenError.{ArwenError}
 use Rattle.arwen_cli.specs.declared.cli.error.FaultLine.{FaultLine}
+use Rattle.arwen_cli.specs.declared.cli.line_error.LineError.{LineError}
+use Rattle.arwen_cli.specs.declared.cli.line_error.LineError.TheVariants as line
 use Rattle.arwen_cli.specs.declared.cli.error.ArwenError.TheVariants.{Edits, Elf, ElfBatch, Io, Line, Macho, MachoBatch, Memory, NotAllFit, NotAllShown, Signing}
 
 -- the status that the program ends with
@@ -45,6 +47,16 @@ abbrev pub IsOfLine : ArwenError → Type 0
 IsOfLine (Line text status) = ⊤
 IsOfLine Memory = ⊤
 IsOfLine _ = ⊥
+
+-- the status that a line asks for with a text
+abbrev pub asked_status : LineError → Option ℕ
+asked_status (line.Text text status) = Some status
+asked_status line.Memory = None
+
+-- the program's answer for a line that means no command
+abbrev pub answer_to_line : LineError → ArwenError
+answer_to_line (line.Text text status) = Line text status
+answer_to_line line.Memory = Memory
 
 -- the error of reading or writing a file, or want of memory
 abbrev pub IsOfFile : ArwenError → Type 0

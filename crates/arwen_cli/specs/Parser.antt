@@ -17,8 +17,8 @@ use Rattle.command_words.specs.Rows.{text_and_path, texts, texts_and_path, words
 use Rattle.command_words.specs.Rows.{given_model}
 use Rattle.command_words.specs.declared.rows.Values.{Values}
 use Rattle.std.specs.Borrow.{Bor}
-use Rattle.arwen_cli.specs.declared.cli.error.ArwenError.{ArwenError}
-use Rattle.arwen_cli.specs.declared.cli.error.ArwenError.TheVariants.{Memory}
+use Rattle.arwen_cli.specs.declared.cli.line_error.LineError.{LineError}
+use Rattle.arwen_cli.specs.declared.cli.line_error.LineError.TheVariants.{Memory}
 
 -- ---- the commands
 
@@ -160,7 +160,7 @@ MeansBy first lines list meaning = (taken : Text × Given)
     × (meant_with lines taken.0 taken.1 ≡ Some meaning)
 
 -- where the words mean a command, the error is want of memory
-abbrev pub MayRefuse : {M : Type 0} → Text → List (Line M) → List Text → ArwenError → Type 0
+abbrev pub MayRefuse : {M : Type 0} → Text → List (Line M) → List Text → LineError → Type 0
 MayRefuse {M} first lines list error = (meaning : M) → MeansBy first lines list meaning
     → error ≡ Memory
 
@@ -169,13 +169,13 @@ abbrev pub MeansTaken : {M : Type 0} → Text → List (Line (Result M Wrong)) �
 MeansTaken first lines list meaning = MeansBy first lines list (Ok meaning)
 
 -- where the words mean a command with values that it takes, the error is want of memory
-abbrev pub MayRefuseTaken : {M : Type 0} → Text → List (Line (Result M Wrong)) → List Text → ArwenError
+abbrev pub MayRefuseTaken : {M : Type 0} → Text → List (Line (Result M Wrong)) → List Text → LineError
     → Type 0
 MayRefuseTaken {M} first lines list error = (meaning : M) → MeansTaken first lines list meaning
     → error ≡ Memory
 
 -- where values are what a command takes, the error is want of memory
-abbrev pub MayRefuseReading : {M : Type 0} → Option (Result M Wrong) → ArwenError → Type 0
+abbrev pub MayRefuseReading : {M : Type 0} → Option (Result M Wrong) → LineError → Type 0
 MayRefuseReading {M} read error = (meaning : M) → read ≡ Some (Ok meaning) → error ≡ Memory
 
 -- ---- a parse that is told a command
@@ -191,7 +191,7 @@ MatchesBy first table list found = (fault_of (line_app first table) list ≡ [])
     × (subcommand_rows_of found ≡ subcommand_of (line_app first table) list)
 
 -- where it takes the words, the error is want of memory
-abbrev pub RefusesNone : App → List Text → ArwenError → Type 0
+abbrev pub RefusesNone : App → List Text → LineError → Type 0
 RefusesNone app list error = is_simple_and_free app ≡ true → fault_of app list ≡ []
     → error ≡ Memory
 
@@ -202,10 +202,10 @@ abbrev pub taken_model : Bor Text × Values → Text × Given
 taken_model taken = (taken.0.now, given_model taken.1)
 
 -- where the parser takes the words and finds a command with its values, the error is want of memory
-abbrev pub MayRefuseValues : Text → List Named → List Text → ArwenError → Type 0
+abbrev pub MayRefuseValues : Text → List Named → List Text → LineError → Type 0
 MayRefuseValues first table list error = (taken : Text × Given) → IsTaken first table list taken
     → error ≡ Memory
 
 -- where a command was found with its values, the error is want of memory
-abbrev pub MayRefuseFound : Option (Text × Given) → ArwenError → Type 0
+abbrev pub MayRefuseFound : Option (Text × Given) → LineError → Type 0
 MayRefuseFound found error = (taken : Text × Given) → found ≡ Some taken → error ≡ Memory

@@ -11,6 +11,7 @@ mod command;
 mod error;
 mod file;
 mod line;
+mod line_error;
 mod parser;
 mod telling;
 

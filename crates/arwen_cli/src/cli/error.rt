@@ -1,9 +1,10 @@
 //! What the program answers when it does not do what was asked.
-ghost use Rattle.std.specs.Prelude.{◌≡◌, ◌↔◌, IsTrue, Some};
-ghost use Rattle.arwen_cli.specs.Fault.{answer_to, answer_to_batch, answer_to_elf, answer_to_elf_batch, answer_to_elf_command, answer_to_macho_command, answer_to_show_command};
+ghost use Rattle.std.specs.Prelude.{◌≡◌, Some};
+ghost use Rattle.arwen_cli.specs.Fault.{answer_to, answer_to_batch, answer_to_elf, answer_to_elf_batch, answer_to_elf_command, answer_to_line, answer_to_macho_command, answer_to_show_command};
 ghost use Rattle.arwen_cli.specs.Fault.{answer_to_read, answer_to_words, fault_told, status_of, words_told};
 ghost use Rattle.arwen_cli.specs.declared.cli.error.ArwenError.TheVariants.{Io, Memory};
 
+use crate::cli::line_error::LineError;
 use arwen_cli_show::{ElfCauses, MachoCauses, ShowCommandError};
 use arwen_macho::macho::{MachoBatchError, MachoError};
 use byte_store::ReadError;
@@ -79,18 +80,22 @@ impl ArwenError {
         }
     }
 
-    /// Whether it is want of memory.
-    pub(crate) fn is_memory(&self) -> bool
-        ensures { IsTrue result ↔ self.now ≡ Memory }
-    {
-        matches!(self, ArwenError::Memory)
-    }
-
     /// The fault as one line of text, its causes joined by `: `.
     pub fn line(&self) -> FaultLine<'_>
         ensures { fault_told result ≡ self.now }
     {
         FaultLine { error: self }
+    }
+}
+
+impl From<LineError> for ArwenError {
+    ghost from_gives = { λ e answer. answer ≡ answer_to_line e };
+
+    fn from(error: LineError) -> ArwenError {
+        match error {
+            LineError::Text { text, status } => ArwenError::Line { text, status },
+            LineError::Memory => ArwenError::Memory,
+        }
     }
 }
 

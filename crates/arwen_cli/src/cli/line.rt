@@ -1,6 +1,6 @@
 //! What the words of a line mean.
 ghost use Rattle.std.specs.Prelude.{◌≡◌, None, Some, codes, false, IfErr, IfOk, MatchResult, map};
-ghost use Rattle.arwen_cli.specs.Fault.{IsOfLine, status_of};
+ghost use Rattle.arwen_cli.specs.Fault.{IsOfLine, asked_status};
 ghost use Rattle.arwen_cli.specs.Meaning.{Meaning};
 ghost use Rattle.command_words.specs.Rows.{given_model, meant_with};
 ghost use Rattle.elf_commands.specs.Meaning.{elf_lines, elf_command_model, reading_of};
@@ -12,6 +12,7 @@ ghost use Rattle.arwen_cli.specs.Moving.{MeansMoving, takes_leave as takes_the_l
 ghost use Rattle.arwen_cli_show.specs.Args.{ShowMeaning, meaning_of_args, args_model};
 ghost use Rattle.arwen_cli.specs.Parser.{MayRefuse, MayRefuseReading, MayRefuseTaken, MeansBy, MeansTaken};
 
+use crate::cli::line_error::LineError;
 use crate::cli::parser::{First, parse_values};
 use crate::cli::{ArwenError, Command, ElfCommand, MachoCommand};
 use arwen_cli_peers::{is_moved_by, without_move, without_quiet, without_sign};
@@ -71,19 +72,32 @@ pub fn parse_line(alloc: Global, words: &[&str]) -> Result<Command, ArwenError>
         → error ≡ ArwenError.Memory) }
     ensures err { IfErr result (λ error. IsOfLine error) }
 {
+    match read_line(alloc, words) {
+        Ok(command) => Ok(command),
+        Err(error) => Err(ArwenError::from(error)),
+    }
+}
+
+/// The command that a line's words mean, or why they are none.
+pub(crate) fn read_line(alloc: Global, words: &[&str]) -> Result<Command, LineError>
+    ensures means { IfOk result (λ command. has_option (map (λ w. w.now) words.now) ≡ false
+        → meaning_of (map (λ w. w.now) words.now) ≡ Some (shown command)) }
+    ensures refused { IfErr result (λ error. has_option (map (λ w. w.now) words.now) ≡ false
+        → (meaning : Meaning) → meaning_of (map (λ w. w.now) words.now) ≡ Some meaning
+        → error ≡ LineError.Memory) }
+{
     let audible = without_quiet(alloc, words)?;
     let heard = without_sign(alloc, audible.as_slice())?;
     parse_audible(alloc, heard.as_slice())
 }
 
 /// The same of words without `-q` and `--sign`.
-fn parse_audible(alloc: Global, words: &[&str]) -> Result<Command, ArwenError>
+fn parse_audible(alloc: Global, words: &[&str]) -> Result<Command, LineError>
     ensures means { IfOk result (λ command. has_option (map (λ w. w.now) words.now) ≡ false
         → meaning_of (map (λ w. w.now) words.now) ≡ Some (shown command)) }
     ensures refused { IfErr result (λ error. has_option (map (λ w. w.now) words.now) ≡ false
         → (meaning : Meaning) → meaning_of (map (λ w. w.now) words.now) ≡ Some meaning
-        → error ≡ ArwenError.Memory) }
-    ensures err { IfErr result (λ error. IsOfLine error) }
+        → error ≡ LineError.Memory) }
 {
     if is_moved_by(words) {
         return Ok(Command::Elf(parse_moving(alloc, words)?));
@@ -93,10 +107,9 @@ fn parse_audible(alloc: Global, words: &[&str]) -> Result<Command, ArwenError>
 
 /// The command of a line of an ELF file with `--move-dynamic`; where `apply` has no words for it, the parser tells that it has no
 /// such option.
-fn parse_moving(alloc: Global, words: &[&str]) -> Result<ElfCommand, ArwenError>
-    ensures means { IfOk result (λ command.
+fn parse_moving(alloc: Global, words: &[&str]) -> Result<ElfCommand, LineError>
+    ensures { IfOk result (λ command.
         MeansMoving (map (λ w. w.now) words.now) (elf_command_model command)) }
-    ensures err { IfErr result (λ error. IsOfLine error) }
 {
     let heard = without_move(alloc, words)?;
     let (name, values) = parse_values(alloc, ELF, elf_table(), heard.as_slice())?;
@@ -121,9 +134,7 @@ fn takes_leave(name: &str) -> bool
 }
 
 /// The fault of a line with an option that its command doesn't have.
-fn no_leave(alloc: Global, words: &[&str]) -> ArwenError
-    ensures { IsOfLine result }
-{
+fn no_leave(alloc: Global, words: &[&str]) -> LineError {
     match parse_elf(alloc, words) {
         Ok(_) => or_memory(usage(alloc, 2)),
         Err(fault) => fault,
@@ -131,13 +142,12 @@ fn no_leave(alloc: Global, words: &[&str]) -> ArwenError
 }
 
 /// The same of words without `--move-dynamic` too.
-fn parse_heard(alloc: Global, words: &[&str]) -> Result<Command, ArwenError>
+fn parse_heard(alloc: Global, words: &[&str]) -> Result<Command, LineError>
     ensures means { IfOk result (λ command. has_option (map (λ w. w.now) words.now) ≡ false
         → meaning_of (map (λ w. w.now) words.now) ≡ Some (shown command)) }
     ensures refused { IfErr result (λ error. has_option (map (λ w. w.now) words.now) ≡ false
         → (meaning : Meaning) → meaning_of (map (λ w. w.now) words.now) ≡ Some meaning
-        → error ≡ ArwenError.Memory) }
-    ensures err { IfErr result (λ error. IsOfLine error) }
+        → error ≡ LineError.Memory) }
 {
     let Some(first) = words.first() else {
         return Err(usage(alloc, 2)?);
@@ -151,9 +161,7 @@ fn parse_heard(alloc: Global, words: &[&str]) -> Result<Command, ArwenError>
 }
 
 /// The answer to a line that names no command by its first word.
-fn other_line(alloc: Global, first: &str, words: &[&str]) -> Result<ArwenError, AllocError>
-    ensures { IfOk result (λ fault. IsOfLine fault) }
-{
+fn other_line(alloc: Global, first: &str, words: &[&str]) -> Result<LineError, AllocError> {
     match first {
         "help" => help(alloc, words.get(1)),
         "-h" | "--help" => usage(alloc, 0),
@@ -163,9 +171,7 @@ fn other_line(alloc: Global, first: &str, words: &[&str]) -> Result<ArwenError, 
 }
 
 /// The help that a line asks for by `help`, with the word behind it.
-fn help(alloc: Global, topic: Option<&&str>) -> Result<ArwenError, AllocError>
-    ensures { IfOk result (λ fault. IsOfLine fault) }
-{
+fn help(alloc: Global, topic: Option<&&str>) -> Result<LineError, AllocError> {
     match topic {
         Some(word) if *word == "macho" => help_of(alloc, parse_macho(alloc, &["macho", "--help"])),
         Some(word) if *word == "elf" => help_of(alloc, parse_elf(alloc, &["elf", "--help"])),
@@ -176,10 +182,7 @@ fn help(alloc: Global, topic: Option<&&str>) -> Result<ArwenError, AllocError>
 }
 
 /// The help that a parse answered.
-fn help_of<T: Drop>(alloc: Global, answer: Result<T, ArwenError>) -> Result<ArwenError, AllocError>
-    requires { IfErr answer (λ error. IsOfLine error) }
-    ensures { IfOk result (λ fault. IsOfLine fault) }
-{
+fn help_of<T: Drop>(alloc: Global, answer: Result<T, LineError>) -> Result<LineError, AllocError> {
     match answer {
         Ok(_) => usage(alloc, 0),
         Err(fault) => Ok(fault),
@@ -187,36 +190,32 @@ fn help_of<T: Drop>(alloc: Global, answer: Result<T, ArwenError>) -> Result<Arwe
 }
 
 /// The answer to a word that is no first word of a line.
-fn unknown_word(alloc: Global, word: &str) -> Result<ArwenError, AllocError>
-    ensures { IfOk result (λ fault. IsOfLine fault) }
-{
+fn unknown_word(alloc: Global, word: &str) -> Result<LineError, AllocError> {
     let text = format!(in alloc; "error: unrecognized command '{word}'\n\n{USAGE}")?;
-    Ok(ArwenError::Line { text, status: 2 })
+    Ok(LineError::Text { text, status: 2 })
 }
 
 /// The usage text, as the fault of a line.
-pub(crate) fn usage(alloc: Global, status: u8) -> Result<ArwenError, AllocError>
-    ensures status { IfOk result (λ fault. status_of fault ≡ status) }
-    ensures kind { IfOk result (λ fault. IsOfLine fault) }
+pub(crate) fn usage(alloc: Global, status: u8) -> Result<LineError, AllocError>
+    ensures { IfOk result (λ fault. asked_status fault ≡ Some status) }
 {
     line_of(alloc, USAGE, status)
 }
 
 /// A fault of a line, or want of memory for it.
-pub(crate) fn or_memory(fault: Result<ArwenError, AllocError>) -> ArwenError
-    ensures { MatchResult fault (λ fault. result ≡ fault) (λ _. result ≡ ArwenError.Memory) }
+pub(crate) fn or_memory(fault: Result<LineError, AllocError>) -> LineError
+    ensures { MatchResult fault (λ fault. result ≡ fault) (λ _. result ≡ LineError.Memory) }
 {
     match fault {
         Ok(fault) => fault,
-        Err(_) => ArwenError::Memory,
+        Err(_) => LineError::Memory,
     }
 }
 
 /// A value, or the usage text as the fault of a line where there is none.
-pub(crate) fn or_usage<T>(alloc: Global, value: Option<T>) -> Result<T, ArwenError>
+pub(crate) fn or_usage<T>(alloc: Global, value: Option<T>) -> Result<T, LineError>
     ensures ok { IfOk result (λ found. value ≡ Some found) }
     ensures none { IfErr result (λ _. value ≡ None) }
-    ensures err { IfErr result (λ error. IsOfLine error) }
 {
     match value {
         Some(value) => Ok(value),
@@ -225,21 +224,19 @@ pub(crate) fn or_usage<T>(alloc: Global, value: Option<T>) -> Result<T, ArwenErr
 }
 
 /// A text, as the fault of a line.
-fn line_of(alloc: Global, text: &str, status: u8) -> Result<ArwenError, AllocError>
-    ensures status { IfOk result (λ fault. status_of fault ≡ status) }
-    ensures kind { IfOk result (λ fault. IsOfLine fault) }
+fn line_of(alloc: Global, text: &str, status: u8) -> Result<LineError, AllocError>
+    ensures { IfOk result (λ fault. asked_status fault ≡ Some status) }
 {
     let text = String::from_str(alloc, text)?;
-    Ok(ArwenError::Line { text, status })
+    Ok(LineError::Text { text, status })
 }
 
 /// The command of a line whose first word is `macho`.
-fn parse_macho(alloc: Global, words: &[&str]) -> Result<MachoCommand, ArwenError>
+fn parse_macho(alloc: Global, words: &[&str]) -> Result<MachoCommand, LineError>
     ensures means { IfOk result (λ command. MeansBy (codes "macho") macho_lines
         (map (λ w. w.now) words.now) (macho_command_model command)) }
     ensures refused { IfErr result (MayRefuse (codes "macho") macho_lines
         (map (λ w. w.now) words.now)) }
-    ensures err { IfErr result (λ error. IsOfLine error) }
 {
     let (name, values) = parse_values(alloc, MACHO, macho_table(), words)?;
     or_usage(alloc, MachoCommand::with_values(name, values))
@@ -247,24 +244,22 @@ fn parse_macho(alloc: Global, words: &[&str]) -> Result<MachoCommand, ArwenError
 
 /// The command of a line whose first word is `elf`. A value that is not what the command takes, as
 /// a page size that is no number, is a fault of the line.
-fn parse_elf(alloc: Global, words: &[&str]) -> Result<ElfCommand, ArwenError>
+fn parse_elf(alloc: Global, words: &[&str]) -> Result<ElfCommand, LineError>
     ensures means { IfOk result (λ command. MeansTaken (codes "elf") elf_lines
         (map (λ w. w.now) words.now) (elf_command_model command)) }
     ensures refused { IfErr result (MayRefuseTaken (codes "elf") elf_lines
         (map (λ w. w.now) words.now)) }
-    ensures err { IfErr result (λ error. IsOfLine error) }
 {
     let (name, values) = parse_values(alloc, ELF, elf_table(), words)?;
     elf_command(alloc, name, values)
 }
 
 /// What a line asks for whose first word is `show`, by the words behind it.
-fn parse_show(alloc: Global, words: &[&str]) -> Result<Args, ArwenError>
+fn parse_show(alloc: Global, words: &[&str]) -> Result<Args, LineError>
     ensures means { IfOk result (λ args.
         meaning_of_args (map (λ w. w.now) words.now) ≡ Some (args_model args)) }
     ensures refused { IfErr result (λ error. (meaning : ShowMeaning)
-        → meaning_of_args (map (λ w. w.now) words.now) ≡ Some meaning → error ≡ ArwenError.Memory) }
-    ensures err { IfErr result (λ error. IsOfLine error) }
+        → meaning_of_args (map (λ w. w.now) words.now) ≡ Some meaning → error ≡ LineError.Memory) }
 {
     match parse_args(alloc, words) {
         Ok(args) => Ok(args),
@@ -273,32 +268,28 @@ fn parse_show(alloc: Global, words: &[&str]) -> Result<Args, ArwenError>
 }
 
 /// The answer to words behind `show` that ask for no file to be shown.
-fn no_args(alloc: Global, fault: ArgsFault<'_>) -> ArwenError
-    ensures memory { fault.entry ≡ ArgsFault.Memory → result ≡ ArwenError.Memory }
-    ensures kind { IsOfLine result }
+fn no_args(alloc: Global, fault: ArgsFault<'_>) -> LineError
+    ensures { fault.entry ≡ ArgsFault.Memory → result ≡ LineError.Memory }
 {
     match fault {
-        ArgsFault::Memory => ArwenError::Memory,
+        ArgsFault::Memory => LineError::Memory,
         fault => or_memory(args_line(alloc, &fault)),
     }
 }
 
 /// What is said of such words.
-fn args_line(alloc: Global, fault: &ArgsFault<'_>) -> Result<ArwenError, AllocError>
-    ensures { IfOk result (λ fault. IsOfLine fault) }
-{
+fn args_line(alloc: Global, fault: &ArgsFault<'_>) -> Result<LineError, AllocError> {
     let text = format!(in alloc; "{fault}")?;
     let status = fault.status();
-    Ok(ArwenError::Line { text, status })
+    Ok(LineError::Text { text, status })
 }
 
 /// The command for ELF files of a name with its values.
-fn elf_command(alloc: Global, name: &str, values: Values) -> Result<ElfCommand, ArwenError>
+fn elf_command(alloc: Global, name: &str, values: Values) -> Result<ElfCommand, LineError>
     ensures means { IfOk result (λ command.
         meant_with elf_lines name.now (given_model values) ≡ Some (reading_of command)) }
     ensures refused { IfErr result
         (MayRefuseReading (meant_with elf_lines name.now (given_model values))) }
-    ensures err { IfErr result (λ error. IsOfLine error) }
 {
     match ElfCommand::with_values(alloc, name, values) {
         Ok(command) => or_usage(alloc, command),
@@ -307,20 +298,17 @@ fn elf_command(alloc: Global, name: &str, values: Values) -> Result<ElfCommand, 
 }
 
 /// The answer to values that are not what a command takes.
-fn no_value(alloc: Global, error: ValueError) -> ArwenError
-    ensures memory { error ≡ ValueError.Memory → result ≡ ArwenError.Memory }
-    ensures kind { IsOfLine result }
+fn no_value(alloc: Global, error: ValueError) -> LineError
+    ensures { error ≡ ValueError.Memory → result ≡ LineError.Memory }
 {
     match error {
-        ValueError::Memory => ArwenError::Memory,
+        ValueError::Memory => LineError::Memory,
         fault => or_memory(value_line(alloc, &fault)),
     }
 }
 
 /// What is said of such values.
-fn value_line(alloc: Global, fault: &ValueError) -> Result<ArwenError, AllocError>
-    ensures { IfOk result (λ fault. IsOfLine fault) }
-{
+fn value_line(alloc: Global, fault: &ValueError) -> Result<LineError, AllocError> {
     let text = format!(in alloc; "error: {fault}\n")?;
-    Ok(ArwenError::Line { text, status: 2 })
+    Ok(LineError::Text { text, status: 2 })
 }

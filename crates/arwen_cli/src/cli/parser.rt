@@ -3,15 +3,14 @@ ghost use Rattle.std.specs.Prelude.{◌≡◌, ◌<◌, [], Some, false, IfOk, I
 ghost use Rattle.std.specs.Prelude.{unwrap_or};
 ghost use Rattle.clap.specs.Words.{all_of, app_of, fault_of, first_of, found_of, kind_of, new_app, rows_of};
 ghost use Rattle.clap.specs.Words.{rule_of, with_rule, with_subcommand};
-ghost use Rattle.arwen_cli.specs.Fault.{IsOfLine};
 ghost use Rattle.command_words.specs.Rows.{given_model, kind_model, row_model, texts};
 ghost use Rattle.arwen_cli.specs.Parser.{IsTaken, Matches, MatchesBy, RefusesNone, MayRefuseFound, MayRefuseValues, first_id, found_by};
 ghost use Rattle.arwen_cli.specs.Parser.{found_values, has_globals, is_table, leaf_app, leaf_of, line_app};
 ghost use Rattle.arwen_cli.specs.Parser.{option_rule, options_id, path_id, second_id, taken_model, top_app, value_rule};
 ghost use Rattle.arwen_cli.specs.Parser.{values_rule, with_options, with_path, with_text, with_texts, with_words, words_id};
 
-use crate::cli::ArwenError;
 use crate::cli::line::{or_memory, or_usage, usage};
+use crate::cli::line_error::LineError;
 use clap::error::ErrorKind;
 use clap::{Arg, ArgAction, ArgMatches, Error};
 use command_words::{Row, Value, ValueForm, ValueOption, Values, copies, find_row};
@@ -55,13 +54,12 @@ pub(crate) fn parse_values(
     first: First,
     rows: &'static [Row],
     words: &[&str],
-) -> Result<(&'static str, Values), ArwenError>
+) -> Result<(&'static str, Values), LineError>
     requires { is_table (map row_model rows.now) ≡ true }
     ensures taken { IfOk result (λ taken. IsTaken first.word.now (map row_model rows.entry.now)
         (map (λ w. w.now) words.now) (taken_model taken)) }
     ensures refused { IfErr result (MayRefuseValues first.word.now (map row_model rows.entry.now)
         (map (λ w. w.now) words.now)) }
-    ensures err { IfErr result (λ error. IsOfLine error) }
 {
     let shown: &[Row] = rows;
     let matches = matches_by(alloc, first, shown, words)?;
@@ -77,14 +75,13 @@ fn matches_by<'a>(
     first: First,
     rows: &'a [Row],
     words: &'a [&'a str],
-) -> Result<ArgMatches<'a>, ArwenError>
+) -> Result<ArgMatches<'a>, LineError>
     requires { is_table (map row_model rows.now) ≡ true }
     ensures taken { IfOk result (MatchesBy first.word.now (map row_model rows.entry.now)
         (map (λ w. w.now) words.entry.now)) }
     ensures refused { IfErr result (λ error. fault_of (line_app first.word.now
         (map row_model rows.entry.now)) (map (λ w. w.now) words.entry.now) ≡ []
-        → error ≡ ArwenError.Memory) }
-    ensures err { IfErr result (λ error. IsOfLine error) }
+        → error ≡ LineError.Memory) }
 {
     let line = table_line(alloc, first, rows)?;
     matches_of(alloc, line, words)
@@ -95,11 +92,10 @@ fn matches_of<'a>(
     alloc: Global,
     line: clap::Command<'a>,
     words: &'a [&'a str],
-) -> Result<ArgMatches<'a>, ArwenError>
+) -> Result<ArgMatches<'a>, LineError>
     ensures taken { IfOk result (Matches (app_of line.entry) (map (λ w. w.now) words.entry.now)) }
     ensures refused { IfErr result (RefusesNone (app_of line.entry)
         (map (λ w. w.now) words.entry.now)) }
-    ensures err { IfErr result (λ error. IsOfLine error) }
 {
     match line.try_get_matches_from(words) {
         Ok(matches) => Ok(matches),
@@ -108,17 +104,16 @@ fn matches_of<'a>(
 }
 
 /// What the parser has to say of a line.
-fn line_fault(alloc: Global, error: &Error) -> Result<ArwenError, AllocError>
-    ensures memory { IfOk result (λ fault. kind_of error.now ≡ ErrorKind.OutOfMemory
-        → fault ≡ ArwenError.Memory) }
-    ensures kind { IfOk result (λ fault. IsOfLine fault) }
+fn line_fault(alloc: Global, error: &Error) -> Result<LineError, AllocError>
+    ensures { IfOk result (λ fault. kind_of error.now ≡ ErrorKind.OutOfMemory
+        → fault ≡ LineError.Memory) }
 {
     if error.kind() == ErrorKind::OutOfMemory {
-        return Ok(ArwenError::Memory);
+        return Ok(LineError::Memory);
     }
     let text = error.to_string(alloc)?;
     let status = if error.use_stderr() { 2 } else { 0 };
-    Ok(ArwenError::Line { text, status })
+    Ok(LineError::Text { text, status })
 }
 
 /// The lines of a first word, with the commands of a table.
@@ -322,12 +317,11 @@ fn row_values(
     rows: &'static [Row],
     name: &str,
     matches: &ArgMatches<'_>,
-) -> Result<(&'static str, Values), ArwenError>
+) -> Result<(&'static str, Values), LineError>
     ensures taken { IfOk result (λ taken. found_by (map row_model rows.entry.now) name.now
         (rows_of (found_of matches.now)) ≡ Some (taken_model taken)) }
     ensures refused { IfErr result (MayRefuseFound (found_by (map row_model rows.entry.now)
         name.now (rows_of (found_of matches.now)))) }
-    ensures err { IfErr result (λ error. IsOfLine error) }
 {
     let taken = read_row(alloc, rows, name, matches)?;
     or_usage(alloc, taken)

@@ -8,7 +8,8 @@ ghost use Rattle.elf_commands.specs.Meaning.{elf_command_model, elf_file_of};
 
 use crate::cli::Command;
 use crate::cli::error::{ArwenError, InnerCause};
-use crate::cli::line::parse_line;
+use crate::cli::line::read_line;
+use crate::cli::line_error::LineError;
 use arwen_cli_overlaps::overlap_text;
 use arwen_cli_show::{Told, bracket_of, elf_words, file_line, macho_words, rule_of};
 use arwen_macho::macho::MachoError;
@@ -32,7 +33,7 @@ pub fn fault_line<R: Files + AllocGlobal>(
     if is_of_line(error) {
         return causes_text(rt.alloc(), error);
     }
-    match parse_line(rt.alloc(), words) {
+    match read_line(rt.alloc(), words) {
         Ok(command) => named_line(rt, &command, error),
         Err(unread) => unread_line(rt.alloc(), &unread, error),
     }
@@ -49,14 +50,14 @@ fn is_of_line(error: &ArwenError) -> bool
 }
 
 /// The line of a fault of words that were not read, since they mean no command or there was no memory.
-fn unread_line(alloc: Global, unread: &ArwenError, error: &ArwenError) -> Result<String, AllocError>
-    ensures means { IfOk result (λ _. unread.now ≡ ArwenError.Memory → ⊥) }
+fn unread_line(alloc: Global, unread: &LineError, error: &ArwenError) -> Result<String, AllocError>
+    ensures means { IfOk result (λ _. unread.now ≡ LineError.Memory → ⊥) }
     ensures line { IfOk result (λ line. IsCausesText error.now (string_bytes line)) }
 {
-    if unread.is_memory() {
-        return Err(AllocError);
+    match unread {
+        LineError::Memory => Err(AllocError),
+        LineError::Text { .. } => causes_text(alloc, error),
     }
-    causes_text(alloc, error)
 }
 
 /// The causes of a fault.

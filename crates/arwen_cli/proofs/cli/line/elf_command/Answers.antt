@@ -18,4 +18,4 @@ returns-in-Ok-clause-refused c =
 
 pub returns-in-Err-clause-refused : goal.returns-in-Err-clause-refused
 returns-in-Err-clause-refused c meaning read =
-    c.no_value.ensures.memory (of_memory _ meaning c.in-Err.error c.in-Err.ensures.err read)
+    c.no_value.ensures (of_memory _ meaning c.in-Err.error c.in-Err.ensures.err read)

@@ -10,8 +10,8 @@ use Rattle.arwen_cli.specs.Parser.{IsTaken}
 use Rattle.arwen_cli.proofs.Meanings.{texts}
 use Rattle.arwen_cli.proofs.cli.line.parse_moving.Goals as goal
 
-pub returns-clause-means : goal.returns-clause-means
-returns-clause-means c =
+pub returns : goal.returns
+returns c =
     let name : Text = c.in_ok-name.name.now in
     let given : Given = given_model c.in_ok-name.values in
     let heard : texts c.as_slice.result.now ≡ without_move (texts c.args.words.now) = ap texts c.as_slice.ensures.value ∙ c.in_ok-heard.ensures in
