@@ -83,6 +83,8 @@ shows_edits edits_show batches edits file new read made views runs written =
       old = shown read;
       was_shown = views.0;
       is_edited = batches.shows edits read made runs ∙ ap (λ (m : ℕ). viewed m edits (shown read)) (sym machine);
+      at_read = written.read;
+      was_read = written.was_read;
       by_sections = written.by_sections;
       by_loader = written.by_loader;
     }

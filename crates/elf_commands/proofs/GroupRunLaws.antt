@@ -59,6 +59,8 @@ show_in_turn edits file new made makes was_shown written = record {
   is_read = makes.is_read;
   was_shown = was_shown;
   are_edited = makes.make;
+  at_read = written.read;
+  was_read = written.was_read;
   by_sections = written.by_sections;
   by_loader = written.by_loader;
 }

@@ -13,7 +13,6 @@ use Rattle.elf_edits.specs.Laws.{viewed}
 use Rattle.elf_edits.specs.declared.edit.ElfEdit.{ElfEdit}
 use Rattle.elf_image.specs.Image.{Image, image_of, shown}
 use Rattle.elf_image.specs.Views.{View, dynamic_symbol_count, loader_view, section_view}
-use Rattle.elf_image.specs.Kept.{image_at_read}
 use Rattle.elf_write_spec.specs.Final.{final_view}
 use Rattle.elf_write_spec.specs.WrittenFile.{IsWrittenOf}
 use Rattle.elf_commands_steps.specs.Groups.{GroupEdit, MakeInTurn, RefuseInTurn, group_model, symbols}
@@ -41,8 +40,11 @@ pub record ShowsEdits (edits : List Edit) (file new : List ℕ) (made : Image) :
   pub old : View
   pub was_shown : section_view file ≡ Some old
   pub is_edited : shown made ≡ viewed made.header.e_machine edits old
-  pub by_sections : section_view new ≡ Some (final_view (image_at_read made) made)
-  pub by_loader : loader_view new (dynamic_symbol_count new) ≡ Some (final_view (image_at_read made) made)
+  -- what was read of the bytes that the image comes from
+  pub at_read : Image
+  pub was_read : image_of made.source ≡ Ok at_read
+  pub by_sections : section_view new ≡ Some (final_view at_read made)
+  pub by_loader : loader_view new (dynamic_symbol_count new) ≡ Some (final_view at_read made)
 
 -- An answer to edits of a file: no bytes where its image is as it was, else those of the edited image, which show the edits.
 pub record IsEditedBy (edits : List Edit) (file : List ℕ) (answer : Option (Vec ℕ Global)) : Type 0 where
@@ -74,8 +76,11 @@ pub record ShowInTurn (edits : List GroupEdit) (file new : List ℕ) (made : Ima
   pub is_read : image_of file ≡ Ok read
   pub was_shown : section_view file ≡ Some (shown read)
   pub are_edited : MakeInTurn edits read made
-  pub by_sections : section_view new ≡ Some (final_view (image_at_read made) made)
-  pub by_loader : loader_view new (dynamic_symbol_count new) ≡ Some (final_view (image_at_read made) made)
+  -- what was read of the bytes that the image comes from
+  pub at_read : Image
+  pub was_read : image_of made.source ≡ Ok at_read
+  pub by_sections : section_view new ≡ Some (final_view at_read made)
+  pub by_loader : loader_view new (dynamic_symbol_count new) ≡ Some (final_view at_read made)
 
 -- An answer to them: no bytes where the image is as it was, else those of the edited image, which show the edits.
 pub record AreEditedInTurn (edits : List GroupEdit) (file : List ℕ) (answer : Option (Vec ℕ Global)) : Type 0 where

@@ -190,11 +190,11 @@ not_in_loads r p (l ∷ ls) are apart =
 
 all_sets : (r : Resized) (moved : List ℕ) → map flags_of_load (added_loads r moved) ≡ added_flags r moved
 unfolding added_loads
-all_sets r moved = sets_of_loads r moved (load_alignment r) (added_flags r moved) (kept_end r moved) (memory_end r)
+all_sets r moved = sets_of_loads r moved (load_alignment r.read r.image) (added_flags r moved) (kept_end r moved) (memory_end r)
 
 all_are_of : (r : Resized) (moved : List ℕ) → LoadsOf r (added_loads r moved)
 unfolding added_loads
-all_are_of r moved = loads_are_of r moved (load_alignment r) (added_flags r moved) (kept_end r moved) (memory_end r)
+all_are_of r moved = loads_are_of r moved (load_alignment r.read r.image) (added_flags r moved) (kept_end r moved) (memory_end r)
 
 -- ## The first section of a segment
 
@@ -243,7 +243,7 @@ module _ (r : Resized) (moved : List ℕ) (at : At) (f : ℕ) (before after : Li
   far_at : (ss : List SizedSection) → with_flags r f moved ≡ ss → 2 ^ 64 ≤ (load_of r moved at f).header.p_vaddr → IsPastField r moved
   far_at [] is far = absurd (some_needs is)
   far_at (s ∷ ss) is far =
-      let start : At = record { offset = at.offset; address = start_of_load (load_alignment r) at.offset at.address } in
+      let start : At = record { offset = at.offset; address = start_of_load (load_alignment r.read r.image) at.offset at.address } in
       let first = first_slot start s ss in
       let x : Slot = first.0 in
       let p : ℕ = s.kept.position in

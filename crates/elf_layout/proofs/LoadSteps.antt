@@ -56,10 +56,10 @@ end_in_file load = end_of (file_part load.header)
 
 -- those behind a place
 abbrev pub loads_behind : Resized → List ℕ → At → List ℕ → List AddedLoad
-loads_behind r moved at sets = loads_from r.image.moves_dynamic (load_alignment r) at.offset at.address sets (sections_at r moved)
+loads_behind r moved at sets = loads_from r.image.moves_dynamic (load_alignment r.read r.image) at.offset at.address sets (sections_at r moved)
 
 abbrev pub load_of : Resized → List ℕ → At → ℕ → AddedLoad
-load_of r moved at flags = load_here r moved (load_alignment r) at.offset at.address flags
+load_of r moved at flags = load_here r moved (load_alignment r.read r.image) at.offset at.address flags
 
 -- Some are placed, the sets of flags that are left give the others.
 pub record ArePlacedLoads (r : Resized) (moved : List ℕ) (old : List (Option At)) (at : At) (made : List SegmentHeader)
@@ -80,8 +80,8 @@ unfolding added_loads with_slots
 loads_start r moved old at made sets all none offset address near fits = record {
   before = [];
   all =
-      ap (λ (n : ℕ). loads_from r.image.moves_dynamic (load_alignment r) n (memory_end r) (added_flags r moved) (sections_at r moved)) (sym offset)
-      ∙ ap (λ (n : ℕ). loads_from r.image.moves_dynamic (load_alignment r) at.offset n (added_flags r moved) (sections_at r moved)) (sym address)
+      ap (λ (n : ℕ). loads_from r.image.moves_dynamic (load_alignment r.read r.image) n (memory_end r) (added_flags r moved) (sections_at r moved)) (sym offset)
+      ∙ ap (λ (n : ℕ). loads_from r.image.moves_dynamic (load_alignment r.read r.image) at.offset n (added_flags r moved) (sections_at r moved)) (sym address)
       ∙ ap (λ (l : List ℕ). loads_behind r moved at l) (sym all);
   loads = none;
   slots = refl;
@@ -98,8 +98,8 @@ pub next_load : (r : Resized) (moved : List ℕ) (at : At) (flags : ℕ) (rest :
 unfolding loads_from
 next_load r moved at flags rest next offset address =
     let load : AddedLoad = load_of r moved at flags in
-    ap (λ (n : ℕ). load ∷ loads_from r.image.moves_dynamic (load_alignment r) n (end_of (memory_part load.header)) rest (sections_at r moved)) (sym offset)
-    ∙ ap (λ (n : ℕ). load ∷ loads_from r.image.moves_dynamic (load_alignment r) next.offset n rest (sections_at r moved)) (sym address)
+    ap (λ (n : ℕ). load ∷ loads_from r.image.moves_dynamic (load_alignment r.read r.image) n (end_of (memory_part load.header)) rest (sections_at r moved)) (sym offset)
+    ∙ ap (λ (n : ℕ). load ∷ loads_from r.image.moves_dynamic (load_alignment r.read r.image) next.offset n rest (sections_at r moved)) (sym address)
 
 pub loads_more : (r : Resized) (moved : List ℕ) (old : List (Option At)) (at : At) (made : List SegmentHeader) (kept : List (Option At))
     (flags : ℕ) (rest : List ℕ)

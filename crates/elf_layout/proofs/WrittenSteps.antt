@@ -256,9 +256,9 @@ module _ (r : Resized) (moved : List ℕ) (marks : List Bool) (are : AreSized r)
   anchor_goes (OneSection s) there = one_goes (slice_get (places r moved) s.position)
   anchor_goes (Notes ns) there = notes_go r moved marks are h (places r moved) (as_many r moved are) begins begin p ns there
 
-  targets-are : targets_at (places r moved) begins (anchor_position p (anchor_of r p)) ≡ targets_of r moved p
+  targets-are : targets_at (places r moved) begins (anchor_position p (anchor_of r.read r.image p)) ≡ targets_of r moved p
   unfolding targets_of
-  targets-are = anchor_goes (anchor_of r p) (anchor-there r p are)
+  targets-are = anchor_goes (anchor_of r.read r.image p) (anchor-there r p are)
 
   table_sized : (l : Anchor) → sized_table table_bytes p (anchor_position p l) ≡ (elim l as (λ _. SegmentHeader) [ HeaderTable ↦ record p { p_filesz = table_bytes; p_memsz = table_bytes } | _ ↦ p ])
   table_sized Itself = refl
@@ -270,11 +270,11 @@ module _ (r : Resized) (moved : List ℕ) (marks : List Bool) (are : AreSized r)
   headings_of_targets alone [] = refl
   headings_of_targets alone (t ∷ ts) = refl
 
-  written-is : headings_for form (places r moved) begins table_bytes p (anchor_position p (anchor_of r p)) ≡ written_from r moved p
+  written-is : headings_for form (places r moved) begins table_bytes p (anchor_position p (anchor_of r.read r.image p)) ≡ written_from r moved p
   unfolding headings_for
   written-is =
-      ap (headings_at form p (sized_table table_bytes p (anchor_position p (anchor_of r p)))) targets-are
-      ∙ ap (λ q. headings_at form p q (targets_of r moved p)) (table_sized (anchor_of r p))
+      ap (headings_at form p (sized_table table_bytes p (anchor_position p (anchor_of r.read r.image p)))) targets-are
+      ∙ ap (λ q. headings_at form p q (targets_of r moved p)) (table_sized (anchor_of r.read r.image p))
       ∙ headings_of_targets (resized_table r moved p) (targets_of r moved p)
 
   -- what fits its fields was written well
@@ -289,13 +289,13 @@ module _ (r : Resized) (moved : List ℕ) (marks : List Bool) (are : AreSized r)
   targets_fit alone [] fits = refl
   targets_fit alone (t ∷ ts) fits = all_anchored_well form p (t ∷ ts) fits
 
-  fits-is : list_all (does_segment_fit form) (written_from r moved p) ≡ true → do_headings_fit form (places r moved) begins table_bytes p (anchor_position p (anchor_of r p)) ≡ true
+  fits-is : list_all (does_segment_fit form) (written_from r moved p) ≡ true → do_headings_fit form (places r moved) begins table_bytes p (anchor_position p (anchor_of r.read r.image p)) ≡ true
   unfolding do_headings_fit headings_for
   fits-is fits =
-      let k : AnchorPosition = anchor_position p (anchor_of r p) in
+      let k : AnchorPosition = anchor_position p (anchor_of r.read r.image p) in
       let made : list_all (does_segment_fit form) (headings_at form p (sized_table table_bytes p k) (targets_at (places r moved) begins k)) ≡ true = ap (list_all (does_segment_fit form)) written-is ∙ fits in
       and_from (does_table_fit table_bytes k) (list_all (is_anchored_well form p) (targets_at (places r moved) begins k))
-      (table_fits (anchor_of r p) made)
+      (table_fits (anchor_of r.read r.image p) made)
       (targets_fit (sized_table table_bytes p k) (targets_at (places r moved) begins k) made)
 
 -- ## Headers behind the last one that is loaded
@@ -341,13 +341,13 @@ plan_parts r moved rounds looked h =
 -- ## Steps of the walk over the program headers
 
 module _ (r : Resized) (moved : List ℕ) (marks : List Bool) (are : AreSized r) (h : AreMarks r moved marks) (begins : Begins) (begin : AreBegins r marks begins) (form : Form) (all : List Place) (size : ℕ) (k : AnchorPosition) (p : SegmentHeader)
-    (formed : form ≡ r.image.form) (stand : all ≡ places r moved) (sized : size ≡ header_count r moved * segment_header_size r.image.form) (lead : k ≡ anchor_position p (anchor_of r p)) where
+    (formed : form ≡ r.image.form) (stand : all ≡ places r moved) (sized : size ≡ header_count r moved * segment_header_size r.image.form) (lead : k ≡ anchor_position p (anchor_of r.read r.image p)) where
   pub heading_written : headings_for form all begins size p k ≡ written_from r moved p
   heading_written =
       ap (λ f. headings_for f all begins size p k) formed ∙ ap (λ l. headings_for r.image.form l begins size p k) stand ∙ ap (λ n. headings_for r.image.form (places r moved) begins n p k) sized
       ∙ ap (headings_for r.image.form (places r moved) begins (header_count r moved * segment_header_size r.image.form) p) lead ∙ written-is r moved marks are h begins begin p
 
-  fit_same : do_headings_fit form all begins size p k ≡ do_headings_fit r.image.form (places r moved) begins (header_count r moved * segment_header_size r.image.form) p (anchor_position p (anchor_of r p))
+  fit_same : do_headings_fit form all begins size p k ≡ do_headings_fit r.image.form (places r moved) begins (header_count r moved * segment_header_size r.image.form) p (anchor_position p (anchor_of r.read r.image p))
   fit_same =
       ap (λ f. do_headings_fit f all begins size p k) formed ∙ ap (λ l. do_headings_fit r.image.form l begins size p k) stand ∙ ap (λ n. do_headings_fit r.image.form (places r moved) begins n p k) sized
       ∙ ap (do_headings_fit r.image.form (places r moved) begins (header_count r moved * segment_header_size r.image.form) p) lead

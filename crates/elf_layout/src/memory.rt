@@ -93,7 +93,7 @@ fn greatest_align(segments: &[Segment<'_>]) -> u64
 // pages where they tell none.
 #[tactic(auto, unfolding(elf_layout_plan::specs::Added::load_alignment))]
 pub(crate) fn load_alignment(r: &Resizing<'_, '_>) -> u64
-    ensures { result ≡ align_of_loads r.now }
+    ensures { result ≡ align_of_loads r.now.read r.now.image }
 {
     if let Some(size) = r.image.page_size() {
         return u64::from(size);

@@ -78,7 +78,7 @@ either_at None b = refl
 either_at (Some s) b = refl
 
 -- where it stands
-under : (r : Resized) (p : SegmentHeader) → under_at p (indexed_sections r.image) ≡ option_map (λ (s : SectionAt). s.position) (option_map section_at (section_under r p))
+under : (r : Resized) (p : SegmentHeader) → under_at p (indexed_sections r.image) ≡ option_map (λ (s : SectionAt). s.position) (option_map section_at (section_under r.image p))
 under r p =
     let xs : List KeptSection = kept_sections r.image in
     let is_loaded : SectionAt → Bool = λ s. is_just_over_at p s && occupies_memory (place_at s) in
@@ -90,8 +90,8 @@ under r p =
     ∙ ap (λ o. option_map (λ (s : SectionAt). s.position) (option_map section_at (first_there o (find over xs)))) (sym (find-filter over (λ s. is_loaded_section s.section) xs))
     ∙ ap (λ o. option_map (λ (s : SectionAt). s.position) (option_map section_at (first_there (find (λ s. is_loaded_section s.section) (filter over xs)) o))) (sym (find-any over xs))
 
-anchored_under : (r : Resized) (p : SegmentHeader) → position_or_itself (under_at p (indexed_sections r.image)) ≡ anchor_position p (anchor_or_itself (section_under r p))
-anchored_under r p = ap position_or_itself (under r p) ∙ position_found p (section_under r p)
+anchored_under : (r : Resized) (p : SegmentHeader) → position_or_itself (under_at p (indexed_sections r.image)) ≡ anchor_position p (anchor_or_itself (section_under r.image p))
+anchored_under r p = ap position_or_itself (under r p) ∙ position_found p (section_under r.image p)
 
 table_found : (p : SegmentHeader) (o : Option KeptSection)
     → section_or_table_at (option_map (λ (s : SectionAt). s.position) (option_map section_at o)) ≡ anchor_position p (section_or_table o)
@@ -99,8 +99,8 @@ table_found p None = refl
 table_found p (Some s) = refl
 
 -- where there is none, the program header table
-table_or_under : (r : Resized) (p : SegmentHeader) → section_or_table_at (under_at p (indexed_sections r.image)) ≡ anchor_position p (section_or_table (section_under r p))
-table_or_under r p = ap section_or_table_at (under r p) ∙ table_found p (section_under r p)
+table_or_under : (r : Resized) (p : SegmentHeader) → section_or_table_at (under_at p (indexed_sections r.image)) ≡ anchor_position p (section_or_table (section_under r.image p))
+table_or_under r p = ap section_or_table_at (under r p) ∙ table_found p (section_under r.image p)
 
 -- ## Notes
 
@@ -122,7 +122,7 @@ and_assoc true b c = refl
 and_assoc false b c = refl
 
 over_notes : (r : Resized) (p : SegmentHeader)
-    → (is_one_of (PT_NOTE ∷ PT_GNU_PROPERTY ∷ []) p.p_type && are_notes_in p (indexed_sections r.read)) ≡ is_over_notes r p
+    → (is_one_of (PT_NOTE ∷ PT_GNU_PROPERTY ∷ []) p.p_type && are_notes_in p (indexed_sections r.read)) ≡ is_over_notes r.read p
 over_notes r p =
     let xs : List KeptSection = kept_sections r.read in
     let kind : Bool = is_one_of (PT_NOTE ∷ PT_GNU_PROPERTY ∷ []) p.p_type in
@@ -214,12 +214,12 @@ count_up r is i h =
     ap (λ ns. slice_index ns i) is.numbers ∙ slice_index-counted (length r.read.sections) i (omega (arith, long, h)) ∙ zero_add
 
 -- a note that is still there has the bytes that it had at read
-notes_same : (r : Resized) (p : SegmentHeader) → IsReadAgain r → notes_under r p ≡ filter (shares_bytes p) (kept_sections r.image)
-notes_same r p is = filter_same (λ s. is_one_of (map (λ n. n.number) (sharers r p)) s.number) (shares_bytes p) (kept_sections r.image)
+notes_same : (r : Resized) (p : SegmentHeader) → IsReadAgain r → notes_under r.read r.image p ≡ filter (shares_bytes p) (kept_sections r.image)
+notes_same r p is = filter_same (λ s. is_one_of (map (λ n. n.number) (sharers r.read p)) s.number) (shares_bytes p) (kept_sections r.image)
     (λ i d h. at i d h)
   where
     at : (i : ℕ) (d : KeptSection) → i < length (kept_sections r.image)
-        → is_one_of (map (λ n. n.number) (sharers r p)) (get_or (kept_sections r.image) i d).number ≡ shares_bytes p (get_or (kept_sections r.image) i d)
+        → is_one_of (map (λ n. n.number) (sharers r.read p)) (get_or (kept_sections r.image) i d).number ≡ shares_bytes p (get_or (kept_sections r.image) i d)
     at i d h =
         let picked = is.edited.is_edit.sections in
         let many : length (kept_sections r.image) ≡ length r.image.sections = length-kept r.image picked.numbered in
@@ -232,16 +232,16 @@ notes_same r p is = filter_same (λ s. is_one_of (map (λ n. n.number) (sharers 
         let test : ImageSection → Bool = λ t. shares_bytes p (record { position = i; number = m; section = t }) in
         let zero_add : m ≡ 0 + m = omega arith in
         let kept : get_or (kept_sections r.image) i d ≡ record { position = i; number = m; section = s } = kept-at r.image i d d.section picked.numbered within in
-        subst (λ (x : KeptSection). is_one_of (map (λ n. n.number) (sharers r p)) x.number ≡ shares_bytes p x) (sym kept)
-        (ap (is_one_of (map (λ n. n.number) (sharers r p))) zero_add
+        subst (λ (x : KeptSection). is_one_of (map (λ n. n.number) (sharers r.read p)) x.number ≡ shares_bytes p x) (sym kept)
+        (ap (is_one_of (map (λ n. n.number) (sharers r.read p))) zero_add
         ∙ passes_at test 0 0 m r.read.section_numbers r.read.sections old (count_up r is) long (slice_get_within r.read.sections m old read_there)
         ∙ ap test (get_or_from_slice_get r.read.sections m old old read_there)
         ∙ sym (ap test changed.1))
 
 -- the notes at read are loaded notes that the program header has all of
-notes_inside : (r : Resized) (p : SegmentHeader) → is_over_notes r p ≡ true → list_all (is_note_in p) (sharers r p) ≡ true
+notes_inside : (r : Resized) (p : SegmentHeader) → is_over_notes r.read p ≡ true → list_all (is_note_in p) (sharers r.read p) ≡ true
 notes_inside r p over =
-    (and_parts (is_one_of (PT_NOTE ∷ PT_GNU_PROPERTY ∷ []) p.p_type && nat_le 2 (length (sharers r p))) (list_all (is_note_in p) (sharers r p)) over).1
+    (and_parts (is_one_of (PT_NOTE ∷ PT_GNU_PROPERTY ∷ []) p.p_type && nat_le 2 (length (sharers r.read p))) (list_all (is_note_in p) (sharers r.read p)) over).1
 
 all_pass : {A : Type 0} → (p q : A → Bool) (xs : List A) → list_all q (filter p xs) ≡ true → All (λ x. p x ≡ true → q x ≡ true) xs
 all_pass p q [] e = All-nil (λ x. p x ≡ true → q x ≡ true)
@@ -255,7 +255,7 @@ all_pass {A} p q (x ∷ xs) e = by_test (p x) refl (λ f. all_pass p q xs f) e
     by_test false is others h = All-cons (λ y. p y ≡ true → q y ≡ true) x xs (λ g. absurd (true≢false (sym g ∙ is))) (others h)
 
 -- where a program header is over notes, those that are still there are the sections that begin in its bytes
-pub notes_begin : (r : Resized) (p : SegmentHeader) → IsReadAgain r → is_over_notes r p ≡ true → map (λ (s : KeptSection). s.position) (notes_under r p) ≡ positions_in (indexed_sections r.image) (file_part p)
+pub notes_begin : (r : Resized) (p : SegmentHeader) → IsReadAgain r → is_over_notes r.read p ≡ true → map (λ (s : KeptSection). s.position) (notes_under r.read r.image p) ≡ positions_in (indexed_sections r.image) (file_part p)
 notes_begin r p is over =
     ap (map (λ (s : KeptSection). s.position)) (notes_same r p is ∙ filter_same (shares_bytes p) (λ s. begins_in (file_part p) (section_at s)) (kept_sections r.image) (λ i d h. at i d h))
     ∙ sym (map-map section_at (λ (s : SectionAt). s.position) (filter (λ s. begins_in (file_part p) (section_at s)) (kept_sections r.image)))
@@ -291,13 +291,13 @@ notes_begin r p is over =
 
 -- ## All of them
 
-pub anchor_position-is : (r : Resized) (p : SegmentHeader) → anchor_position_of (searched_lists r) p ≡ anchor_position p (anchor_of r p)
+pub anchor_position-is : (r : Resized) (p : SegmentHeader) → anchor_position_of (searched_lists r) p ≡ anchor_position p (anchor_of r.read r.image p)
 unfolding anchor_position_of anchor_position_by_range is_over_notes_at anchor_of
 anchor_position-is r p =
     let xs : List KeptSection = kept_sections r.image in
     by_type (p.p_type == PT_LOAD) (p.p_type == PT_PHDR) (p.p_type == PT_DYNAMIC) (p.p_type == PT_INTERP) (does_relro_stay r.image.moves_dynamic p.p_type) (p.p_filesz == 0)
-    (is_one_of (PT_NOTE ∷ PT_GNU_PROPERTY ∷ []) p.p_type && are_notes_in p (indexed_sections r.read)) (is_over_notes r p) (over_notes r p)
-    _ _ _ _ (section_or_table (section_under r p)) (anchor_or_itself (kept_of_type SHT_DYNAMIC r.image)) (anchor_or_itself (find (is_numbered (interpreter_number r.read)) xs)) (anchor_or_itself (section_under r p)) (notes_under r p)
+    (is_one_of (PT_NOTE ∷ PT_GNU_PROPERTY ∷ []) p.p_type && are_notes_in p (indexed_sections r.read)) (is_over_notes r.read p) (over_notes r p)
+    _ _ _ _ (section_or_table (section_under r.image p)) (anchor_or_itself (kept_of_type SHT_DYNAMIC r.image)) (anchor_or_itself (find (is_numbered (interpreter_number r.read)) xs)) (anchor_or_itself (section_under r.image p)) (notes_under r.read r.image p)
     (table_or_under r p) (first_found p (OfType SHT_DYNAMIC) xs) (position_by_number p (interpreter_number r.read) xs) (anchored_under r p)
   where
     by_type : (loaded phdr dynamic interpreter stays empty a b : Bool) → a ≡ b → (t x y under_it : AnchorPosition) (ot ox oy over_it : Anchor) (ks : List KeptSection)
@@ -321,8 +321,8 @@ map_same f g e (x ∷ xs) = ap (λ y. y ∷ map f xs) (e x) ∙ ap (λ l. g x �
 
 -- what each program header that is seen goes by
 pub anchors-are : (r : Resized) (segments : List Segment) → map segment_model segments ≡ r.image.segments
-    → map (λ s. anchor_position_of (searched_lists r) (segment_model s)) segments ≡ map (λ p. anchor_position p (anchor_of r p)) r.image.segments
+    → map (λ s. anchor_position_of (searched_lists r) (segment_model s)) segments ≡ map (λ p. anchor_position p (anchor_of r.read r.image p)) r.image.segments
 anchors-are r segments seen =
     sym (map-map segment_model (anchor_position_of (searched_lists r)) segments)
     ∙ ap (map (anchor_position_of (searched_lists r))) seen
-    ∙ map_same (anchor_position_of (searched_lists r)) (λ p. anchor_position p (anchor_of r p)) (λ p. anchor_position-is r p) r.image.segments
+    ∙ map_same (anchor_position_of (searched_lists r)) (λ p. anchor_position p (anchor_of r.read r.image p)) (λ p. anchor_position-is r p) r.image.segments

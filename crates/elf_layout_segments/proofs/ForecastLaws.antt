@@ -19,7 +19,7 @@ unfolding headers_needed
 needed_is r moved flags splits a b = ap (λ (n : ℕ). n + splits) a ∙ ap (λ (n : ℕ). length (added_flags r moved) + n) b
 
 pub forecast_is : (r : Resized) → AreSized r → (f : Forecast) (limits : List ℕ) (anchors : List AnchorPosition) (flags splits joins : List ℕ) → AreLimits r f.from f.bound limits
-    → anchors ≡ map (λ p. anchor_position p (anchor_of r p)) r.image.segments → AreFlagsLimits r.image.moves_dynamic limits r.image.sections flags → AreSplitLimits limits (indexed_sections r.image) anchors splits joins
+    → anchors ≡ map (λ p. anchor_position p (anchor_of r.read r.image p)) r.image.segments → AreFlagsLimits r.image.moves_dynamic limits r.image.sections flags → AreSplitLimits limits (indexed_sections r.image) anchors splits joins
     → IsPermutation flags f.flags.numbers.items → IsPermutation splits f.splits.numbers.items → IsPermutation joins f.joins.numbers.items → IsForecast r f
 forecast_is r sized f limits anchors flags splits joins are same flags_are splits_are p q s = record {
   near = are.near;

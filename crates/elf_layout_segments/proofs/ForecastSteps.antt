@@ -320,13 +320,13 @@ module _ (r : Resized) (are : AreSized r) (limits moved : List ℕ) (end : ℕ) 
       ∙ ap (λ (t : Bool). list_any (is_moved moved) ns && t)
       (one_stays (file_part p) ∙ ap (list_any (λ position. not (is_marked marks position))) (sym there.begin) ∙ any_stay-is r moved marks are marks_are ns there.there)
 
-  pub splits_told : (ps : List SegmentHeader) → count_by (splits_with limits (indexed_sections r.image) end) (map (λ p. anchor_position p (anchor_of r p)) ps) ≡ count_by (is_split r moved) ps
+  pub splits_told : (ps : List SegmentHeader) → count_by (splits_with limits (indexed_sections r.image) end) (map (λ p. anchor_position p (anchor_of r.read r.image p)) ps) ≡ count_by (is_split r moved) ps
   unfolding is_split
   splits_told ps =
-      sym (length-filter (splits_with limits (indexed_sections r.image) end) (map (λ p. anchor_position p (anchor_of r p)) ps))
-      ∙ count_by-map (λ p. anchor_position p (anchor_of r p)) (splits_with limits (indexed_sections r.image) end) ps
-      ∙ ap length (filter_agree (λ p. splits_with limits (indexed_sections r.image) end (anchor_position p (anchor_of r p))) (λ p. is_parted moved (anchor_of r p)) (λ p. parted_is p (anchor_of r p) (anchor-there r p are)) ps)
-      ∙ length-filter (λ p. is_parted moved (anchor_of r p)) ps
+      sym (length-filter (splits_with limits (indexed_sections r.image) end) (map (λ p. anchor_position p (anchor_of r.read r.image p)) ps))
+      ∙ count_by-map (λ p. anchor_position p (anchor_of r.read r.image p)) (splits_with limits (indexed_sections r.image) end) ps
+      ∙ ap length (filter_agree (λ p. splits_with limits (indexed_sections r.image) end (anchor_position p (anchor_of r.read r.image p))) (λ p. is_parted moved (anchor_of r.read r.image p)) (λ p. parted_is p (anchor_of r.read r.image p) (anchor-there r p are)) ps)
+      ∙ length-filter (λ p. is_parted moved (anchor_of r.read r.image p)) ps
 
 -- ## One after the other
 

@@ -195,21 +195,21 @@ module _ (r : Resized) (p : SegmentHeader) where
   or_table_there None h = tt
   or_table_there (Some s) h = h
 
-  pub anchor-there : AreSized r → AreThere r p (anchor_of r p)
+  pub anchor-there : AreSized r → AreThere r p (anchor_of r.read r.image p)
   unfolding anchor_of
   anchor-there are =
       let xs : List KeptSection = kept_sections r.image in
       let all : All (IsThere r) xs = all_there r are in
       let over : List KeptSection = filter (is_just_over p) xs in
       let all_over : All (IsThere r) over = All-filter (is_just_over p) (IsThere r) xs all in
-      by_type (p.p_type == PT_LOAD) (p.p_type == PT_PHDR) (p.p_type == PT_DYNAMIC) (p.p_type == PT_INTERP) (does_relro_stay r.image.moves_dynamic p.p_type) (p.p_filesz == 0) (is_over_notes r p) refl
-      (kept_of_type SHT_DYNAMIC r.image) (find (is_numbered (interpreter_number r.read)) xs) (section_under r p) (notes_under r p)
+      by_type (p.p_type == PT_LOAD) (p.p_type == PT_PHDR) (p.p_type == PT_DYNAMIC) (p.p_type == PT_INTERP) (does_relro_stay r.image.moves_dynamic p.p_type) (p.p_filesz == 0) (is_over_notes r.read p) refl
+      (kept_of_type SHT_DYNAMIC r.image) (find (is_numbered (interpreter_number r.read)) xs) (section_under r.image p) (notes_under r.read r.image p)
       (anchored_there (λ s. s.section.sh_type == SHT_DYNAMIC) xs all) (anchored_there (is_numbered (interpreter_number r.read)) xs all)
       (either_there (find (λ s. is_loaded_section s.section) over) (find (λ _. true) over) (anchored_there (λ s. is_loaded_section s.section) over all_over) (anchored_there (λ _. true) over all_over))
-      (All-filter (λ s. is_one_of (map (λ n. n.number) (sharers r p)) s.number) (IsThere r) xs all) (are.notes p)
+      (All-filter (λ s. is_one_of (map (λ n. n.number) (sharers r.read p)) s.number) (IsThere r) xs all) (are.notes p)
     where
-      by_type : (loaded phdr dynamic interpreter stays empty over : Bool) → is_over_notes r p ≡ over → (a b c : Option KeptSection) (ns : List KeptSection) → AreThere r p (anchor_or_itself a) → AreThere r p (anchor_or_itself b)
-          → AreThere r p (anchor_or_itself c) → All (IsThere r) ns → (is_over_notes r p ≡ true → map (λ (s : KeptSection). s.position) ns ≡ positions_in (indexed_sections r.image) (file_part p))
+      by_type : (loaded phdr dynamic interpreter stays empty over : Bool) → is_over_notes r.read p ≡ over → (a b c : Option KeptSection) (ns : List KeptSection) → AreThere r p (anchor_or_itself a) → AreThere r p (anchor_or_itself b)
+          → AreThere r p (anchor_or_itself c) → All (IsThere r) ns → (is_over_notes r.read p ≡ true → map (λ (s : KeptSection). s.position) ns ≡ positions_in (indexed_sections r.image) (file_part p))
           → AreThere r p (if loaded then Itself else if phdr then section_or_table c else if dynamic then anchor_or_itself a else if interpreter then anchor_or_itself b else if stays then Itself else if empty then Itself else if over then Notes ns else anchor_or_itself c)
       by_type true phdr dynamic interpreter stays empty over is a b c ns ha hb hc hn begin = tt
       by_type false true dynamic interpreter stays empty over is a b c ns ha hb hc hn begin = or_table_there c hc
@@ -323,13 +323,13 @@ count_by-map {A} f q (x ∷ xs) = by_test (q (f x)) (count_by-map f q xs)
 
 -- as many program headers are split as anchors tell
 pub splits-are : (r : Resized) (moved : List ℕ) (marks : List Bool) → AreSized r → AreMarks r moved marks → (starts : Starts) → AreStarts (indexed_sections r.image) marks starts
-    → (ps : List SegmentHeader) → count_by (is_split_at starts) (map (λ p. anchor_position p (anchor_of r p)) ps) ≡ count_by (is_split r moved) ps
+    → (ps : List SegmentHeader) → count_by (is_split_at starts) (map (λ p. anchor_position p (anchor_of r.read r.image p)) ps) ≡ count_by (is_split r moved) ps
 unfolding is_split
 splits-are r moved marks are h starts begin ps =
-    sym (length-filter (is_split_at starts) (map (λ p. anchor_position p (anchor_of r p)) ps))
-    ∙ count_by-map (λ p. anchor_position p (anchor_of r p)) (is_split_at starts) ps
-    ∙ ap length (filter_agree (λ p. is_split_at starts (anchor_position p (anchor_of r p))) (λ p. is_parted moved (anchor_of r p)) (λ p. parted-is r moved marks are h starts begin p (anchor_of r p) (anchor-there r p are)) ps)
-    ∙ length-filter (λ p. is_parted moved (anchor_of r p)) ps
+    sym (length-filter (is_split_at starts) (map (λ p. anchor_position p (anchor_of r.read r.image p)) ps))
+    ∙ count_by-map (λ p. anchor_position p (anchor_of r.read r.image p)) (is_split_at starts) ps
+    ∙ ap length (filter_agree (λ p. is_split_at starts (anchor_position p (anchor_of r.read r.image p))) (λ p. is_parted moved (anchor_of r.read r.image p)) (λ p. parted-is r moved marks are h starts begin p (anchor_of r.read r.image p) (anchor-there r p are)) ps)
+    ∙ length-filter (λ p. is_parted moved (anchor_of r.read r.image p)) ps
 
 -- ## Ranges that are kept
 
@@ -402,8 +402,8 @@ module _ (r : Resized) (moved : List ℕ) (marks : List Bool) (starts : Starts) 
   anchor_keeps (OneSection s) there = section_keeps s there
   anchor_keeps (Notes ns) there = ap not (notes_move r moved marks are h starts begin p ns there)
 
-  pub keeps-is : keeps_at r marks starts headers p (anchor_position p (anchor_of r p)) ≡ keeps_range r moved p
-  keeps-is = anchor_keeps (anchor_of r p) (anchor-there r p are)
+  pub keeps-is : keeps_at r marks starts headers p (anchor_position p (anchor_of r.read r.image p)) ≡ keeps_range r moved p
+  keeps-is = anchor_keeps (anchor_of r.read r.image p) (anchor-there r p are)
 
 -- ## The end of what stays
 
@@ -448,13 +448,13 @@ kept_end-none r moved = refl
 
 -- as many anchors as program headers
 pub anchors-length : (r : Resized) (anchors : List AnchorAt) → AreAnchors r anchors → length anchors ≡ length r.image.segments
-anchors-length r anchors are = sym (length-map anchors anchor_model) ∙ ap length are ∙ length-map r.image.segments (λ q. anchor_position q (anchor_of r q))
+anchors-length r anchors are = sym (length-map anchors anchor_model) ∙ ap length are ∙ length-map r.image.segments (λ q. anchor_position q (anchor_of r.read r.image q))
 
 -- the anchor at a place is that of the program header there
 pub anchor-at : (r : Resized) (anchors : List AnchorAt) → AreAnchors r anchors → (i : ℕ) (l : AnchorAt) (p : SegmentHeader) → l ≡ get_or anchors i l
-    → slice_get r.image.segments i ≡ Some p → anchor_model l ≡ anchor_position p (anchor_of r p)
+    → slice_get r.image.segments i ≡ Some p → anchor_model l ≡ anchor_position p (anchor_of r.read r.image p)
 anchor-at r anchors are i l p is at =
-    let lead : SegmentHeader → AnchorPosition = λ q. anchor_position q (anchor_of r q) in
+    let lead : SegmentHeader → AnchorPosition = λ q. anchor_position q (anchor_of r.read r.image q) in
     let within : i < length r.image.segments = slice_get_within r.image.segments i p at in
     ap anchor_model is
     ∙ sym (get_or-map anchor_model anchors i l (anchor_model l) (omega (arith, anchors-length r anchors are, within)))

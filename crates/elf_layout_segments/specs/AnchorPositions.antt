@@ -37,7 +37,7 @@ anchor_model (at.Notes part) = notes part
 
 -- each anchor is that of the program header at its place
 abbrev pub AreAnchors : Resized → List AnchorAt → Type 0
-AreAnchors r anchors = map anchor_model anchors ≡ map (λ p. anchor_position p (anchor_of r p)) r.image.segments
+AreAnchors r anchors = map anchor_model anchors ≡ map (λ p. anchor_position p (anchor_of r.read r.image p)) r.image.segments
 
 -- ## Rounds
 

@@ -83,5 +83,5 @@ first_wanted wanted sections = first_at (is_wanted wanted) sections
 pub record AreSized (r : Resized) : Type 0 where
   pub numbered : length r.image.section_numbers ≡ length r.image.sections
   pub sized : length r.sizes ≡ length r.image.sections
-  pub notes : (p : SegmentHeader) → is_over_notes r p ≡ true
-      → map (λ (s : KeptSection). s.position) (notes_under r p) ≡ positions_in (indexed_sections r.image) (file_part p)
+  pub notes : (p : SegmentHeader) → is_over_notes r.read p ≡ true
+      → map (λ (s : KeptSection). s.position) (notes_under r.read r.image p) ≡ positions_in (indexed_sections r.image) (file_part p)

@@ -12,7 +12,7 @@ use Rattle.elf_format.specs.File.{loads_of}
 use Rattle.elf_format.specs.Image.{Image}
 use Rattle.elf_format.specs.Machine.{default_page_size}
 use Rattle.elf_format.specs.Options.{is_one_of}
-use Rattle.elf_image.specs.Kept.{kept_sections}
+use Rattle.elf_image.specs.Kept.{image_at_read, kept_sections}
 use Rattle.elf_image.specs.Segments.{loads_end}
 use Rattle.elf_layout_plan.specs.Added.{AddedLoad, Slot, added_loads, alignment_at_read, alignment_of, greatest, had_memory, kept_end, load_alignment, loads_from, memory_end, slots_from}
 use Rattle.elf_layout_plan.specs.Memory.{Resized, SizedSection, sized_sections}
@@ -75,7 +75,7 @@ found_by : (found pages : ℕ) → 0 < pages → (b : Bool) → (found == 0) ≡
 found_by found pages positive true none = positive
 found_by found pages positive false some = filled found some
 
-read_positive : (r : Resized) → 0 < alignment_at_read r
+read_positive : (r : Resized) → 0 < alignment_at_read r.read
 read_positive r =
     let found : ℕ = greatest 0 (map (λ p. p.p_align) (loads_of r.read.segments)) in
     found_by found (default_page_size r.read.header.e_machine) (pages_positive r.read.header.e_machine) (found == 0) refl
@@ -85,9 +85,9 @@ size_positive read positive None set = positive
 size_positive read positive (Some zero) set = absurd (set refl)
 size_positive read positive (Some (suc n)) set = omega arith
 
-align_positive : (r : Resized) → r.image.page_size ≢ Some 0 → 0 < load_alignment r
+align_positive : (r : Resized) → r.image.page_size ≢ Some 0 → 0 < load_alignment r.read r.image
 unfolding load_alignment
-align_positive r set = size_positive (alignment_at_read r) (read_positive r) r.image.page_size set
+align_positive r set = size_positive (alignment_at_read r.read) (read_positive r) r.image.page_size set
 
 -- ## Each of them
 
@@ -133,14 +133,14 @@ behind_less low high less [] h = tt
 behind_less low high less (q ∷ qs) h = (omega (arith, less, h.0), h.1)
 
 module _ (r : Resized) (moved : List ℕ) where
-  added_at : AllByRecursion (IsLoadAt (load_alignment r) (added_flags r moved)) (headers_added r moved)
+  added_at : AllByRecursion (IsLoadAt (load_alignment r.read r.image) (added_flags r moved)) (headers_added r moved)
   unfolding added_loads
   added_at =
-      loads_at r.image.moves_dynamic (load_alignment r) (added_flags r moved) (kept_end r moved) (memory_end r) (added_flags r moved) (sections_at r moved) (λ n h. h)
+      loads_at r.image.moves_dynamic (load_alignment r.read r.image) (added_flags r moved) (kept_end r moved) (memory_end r) (added_flags r moved) (sections_at r moved) (λ n h. h)
 
   added_behind : AreBehind (memory_end r) (headers_added r moved)
   unfolding added_loads
-  added_behind = loads_ordered r.image.moves_dynamic (load_alignment r) (kept_end r moved) (memory_end r) (added_flags r moved) (sections_at r moved)
+  added_behind = loads_ordered r.image.moves_dynamic (load_alignment r.read r.image) (kept_end r moved) (memory_end r) (added_flags r moved) (sections_at r moved)
 
   loads_before : loads_end r.image.segments ≤ memory_end r
   unfolding memory_end
@@ -161,7 +161,7 @@ once_back (m ∷ ms) n h = elim (has_cases n m (filter (λ k. not (k == m)) (eac
 ]
 
 module _ (image : Image) (sized : sized_sections (resized image) ≡ map (sized_of (resized image)) (kept_sections image)) (moved : List ℕ) where
-  load_is : (q : SegmentHeader) → IsLoadAt (load_alignment (resized image)) (added_flags (resized image) moved) q → IsAddedLoad image q
+  load_is : (q : SegmentHeader) → IsLoadAt (load_alignment (image_at_read image) image) (added_flags (resized image) moved) q → IsAddedLoad (image_at_read image) image q
   load_is q h =
       let r : Resized = resized image in
       let need = map-at (λ (s : SizedSection). flags_for r.image.moves_dynamic s.kept.section) (sections_at r moved) q.p_flags
@@ -180,10 +180,10 @@ module _ (image : Image) (sized : sized_sections (resized image) ≡ map (sized_
         congruent = h.congruent;
       }
 
-  pub added_each : AllByRecursion (IsAddedLoad image) (headers_added (resized image) moved)
+  pub added_each : AllByRecursion (IsAddedLoad (image_at_read image) image) (headers_added (resized image) moved)
   added_each =
       let r : Resized = resized image in
-      all_weaker (IsLoadAt (load_alignment r) (added_flags r moved)) (IsAddedLoad image) load_is (headers_added r moved) (added_at r moved)
+      all_weaker (IsLoadAt (load_alignment r.read r.image) (added_flags r moved)) (IsAddedLoad (image_at_read image) image) load_is (headers_added r moved) (added_at r moved)
 
 -- ## The sections in them
 
@@ -224,5 +224,5 @@ module _ (r : Resized) (sized : sized_sections r ≡ map (sized_of r) (kept_sect
   pub added_for : (moved : List ℕ) → Each (λ (load : AddedLoad). Each (IsSlotFor load.header.p_flags) load.slots) (added_loads r moved)
   unfolding added_loads
   added_for moved =
-      loads_for (load_alignment r) (kept_end r moved) (memory_end r) (added_flags r moved) (sections_at r moved)
+      loads_for (load_alignment r.read r.image) (kept_end r moved) (memory_end r) (added_flags r moved) (sections_at r moved)
       (each-more (IsMoved r sized moved) IsPlaced (λ t h. h.1) (sections_at r moved) (sections_move r sized moved))

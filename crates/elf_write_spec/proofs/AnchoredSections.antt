@@ -67,17 +67,17 @@ module _ (r : Resized) (p : SegmentHeader) where
   abbrev phdr : Bool
   phdr = p.p_type == PT_PHDR
 
-  under : AreFound ks phdr (section_under r p)
+  under : AreFound ks phdr (section_under r.image p)
   under =
       let over : KeptSection → Bool = is_just_over p in
       first_found ks phdr (find (λ s. is_loaded_section s.section) (filter over ks)) (find (λ _. true) (filter over ks))
       (found_over ks phdr over (λ s. is_loaded_section s.section)) (found_over ks phdr over (λ _. true))
 
-  over_section : AreAmong ks phdr (anchor_or_itself (section_under r p))
-  over_section = or_itself ks phdr (section_under r p) under
+  over_section : AreAmong ks phdr (anchor_or_itself (section_under r.image p))
+  over_section = or_itself ks phdr (section_under r.image p) under
 
-  over_notes : AreAmong ks phdr (Notes (notes_under r p))
-  over_notes = some (λ s here. (filter-at (λ (k : KeptSection). is_one_of (map (λ n. n.number) (sharers r p)) k.number) ks s here).0)
+  over_notes : AreAmong ks phdr (Notes (notes_under r.read r.image p))
+  over_notes = some (λ s here. (filter-at (λ (k : KeptSection). is_one_of (map (λ n. n.number) (sharers r.read p)) k.number) ks s here).0)
 
   list_section : AreAmong ks phdr (anchor_or_itself (kept_of_type SHT_DYNAMIC r.image))
   list_section = or_itself ks phdr (kept_of_type SHT_DYNAMIC r.image) (found ks phdr (λ s. s.section.sh_type == SHT_DYNAMIC))
@@ -86,11 +86,11 @@ module _ (r : Resized) (p : SegmentHeader) where
   name_section = or_itself ks phdr (find (is_numbered (interpreter_number r.read)) ks) (found ks phdr (is_numbered (interpreter_number r.read)))
 
   -- by its type, and by the bytes that it covers
-  pub anchors_among : AreAmong ks phdr (anchor_of r p)
+  pub anchors_among : AreAmong ks phdr (anchor_of r.read r.image p)
   unfolding anchor_of
   anchors_among =
       if_among ks phdr (p.p_type == PT_LOAD) itself
-      (if_so ks phdr phdr (or_table ks phdr (section_under r p) under)
+      (if_so ks phdr phdr (or_table ks phdr (section_under r.image p) under)
       (if_among ks phdr (p.p_type == PT_DYNAMIC) list_section
       (if_among ks phdr (p.p_type == PT_INTERP) name_section
       (search (if_among, itself, over_section, over_notes)))))

@@ -1,5 +1,5 @@
 -- A file that is written whole is one to which its image is written.
-use Rattle.std.proofs.Common.{◌≡◌, ℕ, true, ◌&&◌, List, [], ◌∷◌, ◌++◌, map, length, refl, sym, ap, ◌∙◌, subst, Option, Some}
+use Rattle.std.proofs.Common.{◌≡◌, ℕ, true, ◌&&◌, List, [], ◌∷◌, ◌++◌, map, length, refl, sym, ap, ◌∙◌, subst, Ok, Option, Some}
 use Rattle.std.specs.Prelude.{◌*◌, ◌==◌, filter, if◌then◌else◌, not, unwrap_or}
 use Rattle.std.specs.List.{list_all, list_any, slice_get}
 use Rattle.std.proofs.lemmas.Bool.{and_parts, cond-false, cond-true, not-true}
@@ -12,7 +12,7 @@ use Rattle.elf_format.specs.declared.records.EntryNumbers.{EntryNumbers}
 use Rattle.elf_format.specs.declared.records.SectionHeader.{SectionHeader}
 use Rattle.elf_format.specs.Dynamic.{entries_at}
 use Rattle.elf_format.specs.File.{has_file_bytes, section_bytes}
-use Rattle.elf_format.specs.Image.{ImageSection}
+use Rattle.elf_format.specs.Image.{Image, ImageSection, image_of}
 use Rattle.elf_format.specs.Options.{is_one_of, is_some_and}
 use Rattle.elf_format.specs.Rules.{text_users}
 use Rattle.elf_format.specs.Places.{Place, file_range, occupies_file, occupies_memory, place_of, places_of}
@@ -20,6 +20,7 @@ use Rattle.elf_format.specs.Ranges.{all_apart, range}
 use Rattle.elf_format.specs.Records.{section_header_size}
 use Rattle.elf_hashes.specs.Versions.{AreVersionsOf}
 use Rattle.elf_image.specs.Names.{are_names_changed}
+use Rattle.elf_image.specs.Edited.{IsEdited}
 use Rattle.elf_image.specs.Kept.{KeptSection, image_at_read, interpreter_number, is_numbered, kept_sections, place_at_read}
 use Rattle.elf_layout_plan.specs.Anchors.{is_loaded_section}
 use Rattle.elf_layout_plan.specs.Apart.{are_notes_shown, did_show_note, does_take_memory, header_addresses, is_loaded_note, is_memory_apart, is_note_shown, is_shown_by}
@@ -27,6 +28,7 @@ use Rattle.elf_layout_plan.specs.ApartLaws.{PlansAreApart, PlansShowNotes}
 use Rattle.elf_layout_plan.specs.FilePlaced.{written_headers}
 use Rattle.elf_layout_plan.specs.Memory.{Resized, is_movable, priority_of}
 use Rattle.elf_layout_plan.specs.Plan.{resized}
+use Rattle.elf_layout_plan.proofs.ForCallers.PlacedRead.{at_read}
 use Rattle.elf_layout_plan.proofs.ForCallers.ApartFixed.{fixed_sections_stay}
 use Rattle.elf_layout_plan.proofs.ForCallers.ApartLists.{at-map, map-at}
 use Rattle.elf_layout_plan.proofs.ForCallers.ApartSections.{kept-at}
@@ -68,7 +70,7 @@ module _ (w : Output) (is : IsPlannedOutput w) (f : ReadFacts w) (i : ℕ) (at :
   abbrev now : ImageSection
   now = rewritten_section at.section at.header at.bytes
 
-  section_kept : IsSectionKept w.image k now
+  section_kept : IsSectionKept (image_at_read w.image) w.image k now
   section_kept = ap (λ (h : SectionHeader). record at.section {
     sh_addr = at.header.sh_addr;
     sh_offset = at.header.sh_offset;
@@ -96,7 +98,7 @@ module _ (w : Output) (is : IsPlannedOutput w) (f : ReadFacts w) (i : ℕ) (at :
       (sym (at-map place_of w.headers i at.header at.is_header) ∙ ap (λ (ps : List Place). slice_get ps i) (places_are w is) ∙ at.is_place)
 
   -- what can't move stands at its address
-  fixed_at : is_fixed w.image k ≡ true → at.header.sh_addr ≡ at.section.sh_addr
+  fixed_at : is_fixed (image_at_read w.image) w.image k ≡ true → at.header.sh_addr ≡ at.section.sh_addr
   fixed_at h =
       let r : Resized = resized w.image in
       let both = and_parts (not (is_interpreter r.read k)) (not (is_movable w.image k)) h in
@@ -114,7 +116,7 @@ module _ (w : Output) (is : IsPlannedOutput w) (f : ReadFacts w) (i : ℕ) (at :
       let seen = section_seen w is f i at (ap occupies_memory (sym was) ∙ both.0) (ap occupies_file (sym was) ∙ both.1) in
       subst (λ (a : ℕ). IsSeenAt w.plan.segments (written_bytes w) a at.bytes) (sym at.address) seen
 
-  unchanged_told : IsTold (resized w.image) k (unchanged_for w.image k)
+  unchanged_told : IsTold (resized w.image) k (unchanged_for (image_at_read w.image) w.image k)
   unchanged_told = record {
     table = λ e. e;
     names = λ e. not-true (are_names_changed (image_at_read w.image) w.image) e;
@@ -125,12 +127,12 @@ module _ (w : Output) (is : IsPlannedOutput w) (f : ReadFacts w) (i : ℕ) (at :
     against_static = λ e. e;
   }
 
-  copied_at : is_copied w.image k ≡ true → at.bytes ≡ at.section.content
+  copied_at : is_copied (image_at_read w.image) w.image k ≡ true → at.bytes ≡ at.section.content
   copied_at h =
       let r : Resized = resized w.image in
       let strings : List ℕ = content_at_number w.image w.contents at.section.sh_link in
-      let both = and_parts (not (is_interpreter r.read k)) (is_kind_copied (unchanged_for w.image k) at.section.kind) h in
-      copied_by r w.plan w.raw strings k at.bytes (unchanged_for w.image k) unchanged_told at.section.kind both.1
+      let both = and_parts (not (is_interpreter r.read k)) (is_kind_copied (unchanged_for (image_at_read w.image) w.image k) at.section.kind) h in
+      copied_by r w.plan w.raw strings k at.bytes (unchanged_for (image_at_read w.image) w.image k) unchanged_told at.section.kind both.1
       (other_than (at.bytes ≡ unwrap_or w.image.interpreter at.section.content) (IsContentByKind r w.plan w.raw strings k at.bytes)
       (is_interpreter r.read k) (not-true (is_interpreter r.read k) both.0) at.written.content)
 
@@ -142,16 +144,16 @@ module _ (w : Output) (is : IsPlannedOutput w) (f : ReadFacts w) (i : ℕ) (at :
       sym (cond-true (has_file_bytes at.header) (field at.header.sh_size at.header.sh_offset (written_bytes w)) [] stored)
       ∙ (written_files_have_parts w is).contents i at.header at.bytes at.is_header at.is_bytes
 
-  stay_at : (is_fixed w.image k && is_copied w.image k && is_loaded_with_bytes at.section) ≡ true
+  stay_at : (is_fixed (image_at_read w.image) w.image k && is_copied (image_at_read w.image) w.image k && is_loaded_with_bytes at.section) ≡ true
       → IsSeenAt w.plan.segments (written_bytes w) at.section.sh_addr at.section.content
   stay_at h =
-      let outer = and_parts (is_fixed w.image k && is_copied w.image k) (is_loaded_with_bytes at.section) h in
-      let inner = and_parts (is_fixed w.image k) (is_copied w.image k) outer.0 in
+      let outer = and_parts (is_fixed (image_at_read w.image) w.image k && is_copied (image_at_read w.image) w.image k) (is_loaded_with_bytes at.section) h in
+      let inner = and_parts (is_fixed (image_at_read w.image) w.image k) (is_copied (image_at_read w.image) w.image k) outer.0 in
       subst (λ (bytes : List ℕ). IsSeenAt w.plan.segments (written_bytes w) at.section.sh_addr bytes) (copied_at inner.1)
       (subst (λ (a : ℕ). IsSeenAt w.plan.segments (written_bytes w) a at.bytes) (fixed_at inner.0) (loaded_at outer.1))
 
   note_at : PlansShowNotes → is_loaded_note k ≡ true
-      → list_all (λ p. is_shown_by w.plan.segments p.p_type (place_at_read now)) (filter (did_show_note (resized w.image) k) w.image.segments)
+      → list_all (λ p. is_shown_by w.plan.segments p.p_type (place_at_read now)) (filter (did_show_note (image_at_read w.image) k) w.image.segments)
       ≡ true
   unfolding are_notes_shown
   note_at show_notes note =
@@ -162,7 +164,7 @@ module _ (w : Output) (is : IsPlannedOutput w) (f : ReadFacts w) (i : ℕ) (at :
       (filter-from is_loaded_note (kept_sections w.image) k (slice_get-at (kept_sections w.image) i k at.is_kept) note) in
       let there : Some (place_at_read now) ≡ slice_get w.plan.places i = ap (λ (x : Place). Some x) place_planned ∙ sym at.is_place in
       ap (λ (o : Option Place). list_all (λ p. is_some_and (is_shown_by w.plan.segments p.p_type) o)
-      (filter (did_show_note r k) w.image.segments)) there
+      (filter (did_show_note r.read k) w.image.segments)) there
       ∙ shown
 
 -- ## All of them
@@ -267,6 +269,11 @@ files_by_plan w is = record {
   places = places_read_back w is (read_facts w is);
 }
 
+-- the source of an edited image was read
+source_is_read : (image : Image) → IsEdited image → image_of image.source ≡ Ok (image_at_read image)
+source_is_read image is =
+    is.is_read ∙ ap (λ (r : Image). Ok r) (sym (at_read (image_of image.source) is.read image is.is_read))
+
 pub files_are_written : PlansAreApart → PlansShowNotes → (w : Output) → IsPlannedOutput w → IsWrittenOf w.image (written_bytes w)
 unfolding rewritten_image is_memory_apart
 files_are_written are_apart show_notes w is =
@@ -274,6 +281,8 @@ files_are_written are_apart show_notes w is =
     let r : Resized = resized w.image in
     let places : places_in (rewritten_image w) ≡ w.plan.places = places_read_back w is f in
     record {
+      read = image_at_read w.image;
+      was_read = source_is_read w.image is.edited;
       again = rewritten_image w;
       is_read = image_read_back w is;
       source = refl;
@@ -283,29 +292,29 @@ files_are_written are_apart show_notes w is =
       header = refl;
       sections = record {
         count = count_read_back w is f ∙ (lengths w is f).headers ∙ sym (length-kept w is);
-        each = each_section w is f (IsSectionKept w.image) (section_kept w is f);
+        each = each_section w is f (IsSectionKept (image_at_read w.image) w.image) (section_kept w is f);
       };
       lists = record { symbols = refl; dynamic_symbols = refl; definitions = refl; needs = refl; entries = refl; interpreter = refl };
       segments = segments_kept w.image (rewritten_image w) w.plan is.edited is.planned refl refl places;
       kept_data = written_files_keep_data w is;
-      fixed = each_section w is f (λ s now. is_fixed w.image s ≡ true → now.sh_addr ≡ s.section.sh_addr) (fixed_at w is f);
+      fixed = each_section w is f (λ s now. is_fixed (image_at_read w.image) w.image s ≡ true → now.sh_addr ≡ s.section.sh_addr) (fixed_at w is f);
       loaded = each_section w is f
           (λ s now. is_loaded_with_bytes s.section ≡ true → IsSeenAt w.plan.segments (written_bytes w) now.sh_addr now.content)
           (loaded_at w is f);
-      copied = each_section w is f (λ s now. is_copied w.image s ≡ true → now.content ≡ s.section.content) (copied_at w is f);
+      copied = each_section w is f (λ s now. is_copied (image_at_read w.image) w.image s ≡ true → now.content ≡ s.section.content) (copied_at w is f);
       in_file = each_section w is f
           (λ s now. occupies_file (place_at_read s.section) ≡ true → field now.sh_size now.sh_offset (written_bytes w) ≡ now.content)
           (stored_at w is f);
       stay = each_section w is f
-          (λ s now. (is_fixed w.image s && is_copied w.image s && is_loaded_with_bytes s.section) ≡ true
+          (λ s now. (is_fixed (image_at_read w.image) w.image s && is_copied (image_at_read w.image) w.image s && is_loaded_with_bytes s.section) ≡ true
           → IsSeenAt w.plan.segments (written_bytes w) s.section.sh_addr s.section.content)
           (stay_at w is f);
       others = λ i p position at inside other. written_files_keep_others w is i p position at inside
-          (ap (λ (ps : List Place). list_any (has_position position) (written_places w.image (written_headers r w.plan) ps)) (sym places)
+          (ap (λ (ps : List Place). list_any (has_position position) (written_places (image_at_read w.image) w.image (written_headers r w.plan) ps)) (sym places)
           ∙ other);
       notes = each_section w is f
           (λ s now. is_loaded_note s ≡ true → list_all (λ p. is_shown_by w.plan.segments p.p_type (place_at_read now))
-          (filter (did_show_note r s) w.image.segments) ≡ true)
+          (filter (did_show_note r.read s) w.image.segments) ≡ true)
           (λ i at. note_at w is f i at show_notes);
       hashes = λ same raw list. subst (λ (numbers : List EntryNumbers). AreHashesSeen w.image w.plan.segments numbers (written_bytes w))
           (raw_read_back w is f raw list) (written_files_keep_hashes w is same);
@@ -314,7 +323,7 @@ files_are_written are_apart show_notes w is =
           (raw_read_back w is f raw list)
           (written_files_find_names w is changed lists (rewritten_image w) (image_read_back w is));
       symbols = written_files_keep_symbols w is (rewritten_image w) (image_read_back w is);
-      relocations = each_section w is f (λ s now. AreRelocationsKept w.image (rewritten_image w) s.section now)
+      relocations = each_section w is f (λ s now. AreRelocationsKept (image_at_read w.image) w.image (rewritten_image w) s.section now)
           (λ i at kind. relocations_kept w is f i at kind);
       symbol_versions = each_section w is f
           (λ s now. s.section.sh_type ≡ SHT_GNU_VERSYM

@@ -254,7 +254,7 @@ module _ (image again : Image) (moved : List ℕ) (same_places : places_in again
           ∙ ap (λ (form : Form). length again.segments * segment_header_size form) (sym same_form);
     }
 
-    become : (p : SegmentHeader) → Has p image.segments → (anchor : Anchor) → anchor_of r p ≡ anchor
+    become : (p : SegmentHeader) → Has p image.segments → (anchor : Anchor) → anchor_of r.read r.image p ≡ anchor
         → AreAmong (kept_sections image) (p.p_type == PT_PHDR) anchor
         → Become p anchor (written_by image moved p (table_by image moved p anchor) (targets_by image moved anchor))
     become p here Itself is among = (omega arith, omega arith, (stays_so p Itself refl, tt))
@@ -271,10 +271,10 @@ module _ (image again : Image) (moved : List ℕ) (same_places : places_in again
     become p here (Notes notes) is among =
         notes_by p notes (λ k k_here. planned k (notes_among among k k_here)) (list_any (is_moved moved) notes) refl
 
-    headers_of : (p : SegmentHeader) → Has p image.segments → AreHeadersOf again p (anchor_of r p) (written_from r moved p)
+    headers_of : (p : SegmentHeader) → Has p image.segments → AreHeadersOf again p (anchor_of r.read r.image p) (written_from r moved p)
     headers_of p here =
-        let made = subst (λ (qs : List SegmentHeader). Become p (anchor_of r p) qs) (sym (written_is image moved p))
-        (become p here (anchor_of r p) refl (anchors_among r p)) in
+        let made = subst (λ (qs : List SegmentHeader). Become p (anchor_of r.read r.image p) qs) (sym (written_is image moved p))
+        (become p here (anchor_of r.read r.image p) refl (anchors_among r p)) in
         record {
           loaded = λ h.
               written_is image moved p
@@ -286,7 +286,7 @@ module _ (image again : Image) (moved : List ℕ) (same_places : places_in again
 
     -- all of them, in their order
     pub in_order : (ps : List SegmentHeader) → ((p : SegmentHeader) → Has p ps → Has p image.segments)
-        → AreHeadersInOrder image again ps (flat_map (written_from r moved) ps)
+        → AreHeadersInOrder r.read image again ps (flat_map (written_from r moved) ps)
     in_order [] among = refl
     in_order (p ∷ ps) among = (
       written_from r moved p,

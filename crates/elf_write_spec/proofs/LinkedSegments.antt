@@ -55,7 +55,7 @@ table_plainly (Some s) = refl
 
 module _ (r : Resized) where
   table_anchor : SegmentHeader → Anchor
-  table_anchor p = section_or_table (section_under r p)
+  table_anchor p = section_or_table (section_under r.image p)
 
   dynamic_anchor : Anchor
   dynamic_anchor = anchor_or_itself (kept_of_type SHT_DYNAMIC r.image)
@@ -64,29 +64,29 @@ module _ (r : Resized) where
   interpreter_anchor = anchor_or_itself (find (is_numbered (interpreter_number r.read)) (kept_sections r.image))
 
   other_anchor : SegmentHeader → Anchor
-  other_anchor p = if does_relro_stay r.image.moves_dynamic p.p_type then Itself else anchor_by_range r p
+  other_anchor p = if does_relro_stay r.image.moves_dynamic p.p_type then Itself else anchor_by_range r.read r.image p
 
-  anchor_is : (p : SegmentHeader) → anchor_of r p ≡ by_type p.p_type (table_anchor p) dynamic_anchor interpreter_anchor (other_anchor p)
+  anchor_is : (p : SegmentHeader) → anchor_of r.read r.image p ≡ by_type p.p_type (table_anchor p) dynamic_anchor interpreter_anchor (other_anchor p)
   unfolding anchor_of table_anchor dynamic_anchor interpreter_anchor other_anchor
   anchor_is p = refl
 
   anchor_at : (p : SegmentHeader) (type : ℕ) → p.p_type ≡ type
-      → anchor_of r p ≡ by_type type (table_anchor p) dynamic_anchor interpreter_anchor (other_anchor p)
+      → anchor_of r.read r.image p ≡ by_type type (table_anchor p) dynamic_anchor interpreter_anchor (other_anchor p)
   anchor_at p type h = anchor_is p ∙ ap (λ n. by_type n (table_anchor p) dynamic_anchor interpreter_anchor (other_anchor p)) h
 
   -- a program header of these types isn't over several notes
-  plain-dynamic : (p : SegmentHeader) → p.p_type ≡ PT_DYNAMIC → is_notes (anchor_of r p) ≡ false
+  plain-dynamic : (p : SegmentHeader) → p.p_type ≡ PT_DYNAMIC → is_notes (anchor_of r.read r.image p) ≡ false
   unfolding dynamic_anchor
   plain-dynamic p h = ap is_notes (anchor_at p PT_DYNAMIC h) ∙ anchored_plainly (kept_of_type SHT_DYNAMIC r.image)
 
-  plain-interpreter : (p : SegmentHeader) → p.p_type ≡ PT_INTERP → is_notes (anchor_of r p) ≡ false
+  plain-interpreter : (p : SegmentHeader) → p.p_type ≡ PT_INTERP → is_notes (anchor_of r.read r.image p) ≡ false
   unfolding interpreter_anchor
   plain-interpreter p h =
       ap is_notes (anchor_at p PT_INTERP h) ∙ anchored_plainly (find (is_numbered (interpreter_number r.read)) (kept_sections r.image))
 
-  plain-table : (p : SegmentHeader) → p.p_type ≡ PT_PHDR → is_notes (anchor_of r p) ≡ false
+  plain-table : (p : SegmentHeader) → p.p_type ≡ PT_PHDR → is_notes (anchor_of r.read r.image p) ≡ false
   unfolding table_anchor
-  plain-table p h = ap is_notes (anchor_at p PT_PHDR h) ∙ table_plainly (section_under r p)
+  plain-table p h = ap is_notes (anchor_at p PT_PHDR h) ∙ table_plainly (section_under r.image p)
 
 -- ## What becomes of it
 
@@ -102,7 +102,7 @@ targets_by r moved anchor = elim anchor [
 abbrev written_by : Resized → List ℕ → SegmentHeader → List Target → List SegmentHeader
 written_by r moved p targets = elim targets [ [] ↦ resized_table r moved p ∷ [] | t ∷ ts ↦ map (anchored_to r.image.form p) (t ∷ ts) ]
 
-targets_are : (r : Resized) (moved : List ℕ) (p : SegmentHeader) → targets_of r moved p ≡ targets_by r moved (anchor_of r p)
+targets_are : (r : Resized) (moved : List ℕ) (p : SegmentHeader) → targets_of r moved p ≡ targets_by r moved (anchor_of r.read r.image p)
 unfolding targets_of
 targets_are r moved p = refl
 
@@ -124,7 +124,7 @@ module _ (r : Resized) (moved : List ℕ) (type : ℕ) where
   count-other p [] other = omega (
     arith,
     count-cons (λ (q : SegmentHeader). q.p_type == type) (resized_table r moved p) [],
-    ap one_if (ap (λ n. n == type) (table_type r moved p (anchor_of r p)) ∙ other),
+    ap one_if (ap (λ n. n == type) (table_type r moved p (anchor_of r.read r.image p)) ∙ other),
   )
   count-other p (t ∷ ts) other = count-anchored p (t ∷ ts) other
 
@@ -133,20 +133,20 @@ module _ (r : Resized) (moved : List ℕ) (type : ℕ) where
   length-one_made p [] few = omega arith
   length-one_made p (t ∷ ts) few = omega (arith, few, length-map (t ∷ ts) (anchored_to r.image.form p))
 
-  count-made : (p : SegmentHeader) → (p.p_type ≡ type → is_notes (anchor_of r p) ≡ false) → (b : Bool) → (p.p_type == type) ≡ b
+  count-made : (p : SegmentHeader) → (p.p_type ≡ type → is_notes (anchor_of r.read r.image p) ≡ false) → (b : Bool) → (p.p_type == type) ≡ b
       → count_of type (written_by r moved p (targets_of r moved p)) ≤ one_if b
   count-made p plain false e = omega (arith, count-other p (targets_of r moved p) e)
   count-made p plain true e =
       let few : length (targets_of r moved p) ≤ 1 =
       subst (λ (ts : List Target). length ts ≤ 1) (sym (targets_are r moved p))
-      (one_target (anchor_of r p) (plain (eqb-true p.p_type type e))) in
+      (one_target (anchor_of r.read r.image p) (plain (eqb-true p.p_type type e))) in
       omega (
         arith,
         count_by-le-length (λ (q : SegmentHeader). q.p_type == type) (written_by r moved p (targets_of r moved p)),
         length-one_made p (targets_of r moved p) few,
       )
 
-  count-from : ((p : SegmentHeader) → p.p_type ≡ type → is_notes (anchor_of r p) ≡ false) → (p : SegmentHeader)
+  count-from : ((p : SegmentHeader) → p.p_type ≡ type → is_notes (anchor_of r.read r.image p) ≡ false) → (p : SegmentHeader)
       → count_of type (written_from r moved p) ≤ one_if (p.p_type == type)
   count-from plain p = count-made p (plain p) (p.p_type == type) refl
 
@@ -176,7 +176,7 @@ count-added r moved type other = count-none (λ (p : SegmentHeader). p.p_type ==
     ap (λ n. n == type) (eqb-true p.p_type PT_LOAD loaded) ∙ other)
 
 count-written : (r : Resized) (moved : List ℕ) (type : ℕ) → (PT_LOAD == type) ≡ false
-    → ((p : SegmentHeader) → p.p_type ≡ type → is_notes (anchor_of r p) ≡ false)
+    → ((p : SegmentHeader) → p.p_type ≡ type → is_notes (anchor_of r.read r.image p) ≡ false)
     → count_of type (written_segments r moved) ≤ count_of type r.image.segments
 unfolding written_segments
 count-written r moved type other plain =
@@ -230,7 +230,7 @@ unfolding layout_for
 planned_segments r plan planned = ap (λ (l : Layout). l.segments) planned.follows
 
 pub count-planned : (r : Resized) (plan : Layout) → IsPlan r plan → (type : ℕ) → (PT_LOAD == type) ≡ false → (PT_GNU_STACK == type) ≡ false
-    → ((p : SegmentHeader) → p.p_type ≡ type → is_notes (anchor_of r p) ≡ false)
+    → ((p : SegmentHeader) → p.p_type ≡ type → is_notes (anchor_of r.read r.image p) ≡ false)
     → (table : ℕ) (read : List SegmentHeader) → AreSegments table r.image.page_size read r.image.segments
     → count_of type plan.segments ≤ count_of type read
 count-planned r plan planned type loaded stack plain table read whole =

@@ -24,7 +24,7 @@ use Rattle.elf_format.proofs.ForCallers.Placed.{held_ranges_are_seen}
 use Rattle.elf_tables.specs.Spelled.{spelled_file_header, spelled_section_header, spelled_segment_header}
 use Rattle.elf_layout_plan.specs.FilePlaced.{written_headers, written_size, written_table}
 use Rattle.elf_layout_plan.specs.Anchors.{is_loaded_section}
-use Rattle.elf_image.specs.Kept.{KeptSection, kept_sections, place_at_read}
+use Rattle.elf_image.specs.Kept.{KeptSection, image_at_read, kept_sections, place_at_read}
 use Rattle.elf_layout_plan.specs.Memory.{Resized}
 use Rattle.elf_layout_plan.specs.Plan.{Layout, layout_for, resized}
 use Rattle.elf_layout_plan.specs.Written.{written_segments}
@@ -165,7 +165,7 @@ same_kind w is j k x at_k at_x =
 
 module _ (w : Output) (is : IsPlannedOutput w) (i : ℕ) (p : SegmentHeader) (position : ℕ)
     (at : slice_get (loads_of w.image.segments) i ≡ Some p) (inside : has_position position (file_part p) ≡ true)
-    (other : list_any (has_position position) (written_places w.image (written_headers (resized w.image) w.plan) w.plan.places) ≡ false) where
+    (other : list_any (has_position position) (written_places (image_at_read w.image) w.image (written_headers (resized w.image) w.plan) w.plan.places) ≡ false) where
   abbrev r : Resized
   r = resized w.image
 

@@ -56,7 +56,7 @@ module _ (w : Output) (is : IsPlannedOutput w) (f : ReadFacts w) (i : ℕ) (at :
       (ap are_relocations (sym (ap (λ (x : ImageSection). x.kind) at.of_old.fields ∙ kind_is f.parts at.old)) ∙ kind)).0
 
   abbrev new : ℕ → ℕ
-  new = new_symbol_for w.image at.section
+  new = new_symbol_for (image_at_read w.image) w.image at.section
 
   new_by : (b c : Bool) → is_dynamic ≡ b → is_static ≡ c → (n : ℕ)
       → new n ≡ (if n == 0 then 0 else if b then new_dynamic_symbol read w.image n else if c then new_static_symbol w.image n else n)

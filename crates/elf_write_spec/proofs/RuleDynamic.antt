@@ -41,22 +41,22 @@ module _ (r : Resized) (p : SegmentHeader) where
   anchor_by : ℕ → Anchor
   anchor_by type =
       if type == PT_LOAD then Itself
-      else if type == PT_PHDR then section_or_table (section_under r p)
+      else if type == PT_PHDR then section_or_table (section_under r.image p)
       else if type == PT_DYNAMIC then anchor_or_itself (kept_of_type SHT_DYNAMIC r.image)
       else if type == PT_INTERP then anchor_or_itself (find (is_numbered (interpreter_number r.read)) (kept_sections r.image))
       else if does_relro_stay r.image.moves_dynamic type then Itself
-      else anchor_by_range r p
+      else anchor_by_range r.read r.image p
 
-  anchor_is : anchor_of r p ≡ anchor_by p.p_type
+  anchor_is : anchor_of r.read r.image p ≡ anchor_by p.p_type
   unfolding anchor_of anchor_by
   anchor_is = refl
 
-  dynamic_anchor : p.p_type ≡ PT_DYNAMIC → anchor_of r p ≡ anchor_or_itself (kept_of_type SHT_DYNAMIC r.image)
+  dynamic_anchor : p.p_type ≡ PT_DYNAMIC → anchor_of r.read r.image p ≡ anchor_or_itself (kept_of_type SHT_DYNAMIC r.image)
   unfolding anchor_by
   dynamic_anchor type = anchor_is ∙ ap anchor_by type
 
   interpreter_anchor : p.p_type ≡ PT_INTERP
-      → anchor_of r p ≡ anchor_or_itself (find (is_numbered (interpreter_number r.read)) (kept_sections r.image))
+      → anchor_of r.read r.image p ≡ anchor_or_itself (find (is_numbered (interpreter_number r.read)) (kept_sections r.image))
   unfolding anchor_by
   interpreter_anchor type = anchor_is ∙ ap anchor_by type
 
@@ -65,7 +65,7 @@ first_typed type ps p h = let (_, _, passes) = find-at (has_type type) ps p h in
 
 -- where its section goes
 becomes_at : (w : Output) (is : IsPlannedOutput w) (f : ReadFacts w) (i : ℕ) (at : SectionAt w f.parts i) (p : SegmentHeader)
-    → anchor_of (resized w.image) p ≡ OneSection (kept_as i at.number at.section)
+    → anchor_of (image_at_read w.image) w.image p ≡ OneSection (kept_as i at.number at.section)
     → becomes (resized w.image) is.planned.moved p ≡ anchored_to w.image.form p (target_at at.place)
 becomes_at w is f i at p anchor =
     becomes-section (resized w.image) is.planned.moved p (kept_as i at.number at.section) at.place anchor
@@ -143,7 +143,7 @@ dynamic_by w is has f (ASegment old p is_old is_p like now) (There i at type at_
     let allocated : is_allocated at.old ≡ true =
     (and_parts (old.p_offset == at.old.sh_offset && old.p_vaddr == at.old.sh_addr) (is_allocated at.old)
     (and_parts (old.p_offset == at.old.sh_offset && old.p_vaddr == at.old.sh_addr && is_allocated at.old) ends agreed).0).1 in
-    let anchor : anchor_of (resized w.image) p ≡ OneSection (kept_as i at.number at.section) =
+    let anchor : anchor_of (image_at_read w.image) w.image p ≡ OneSection (kept_as i at.number at.section) =
     dynamic_anchor (resized w.image) p (first_typed PT_DYNAMIC w.image.segments p is_p) ∙ ap anchor_or_itself at_kept in
     let goes = becomes_at w is f i at p anchor in
     both (dynamic_section_agrees (written_parts w)) (segment_of_type PT_DYNAMIC w.plan.segments) (section_of_type SHT_DYNAMIC w.headers)
@@ -252,7 +252,7 @@ module _ (w : Output) (is : IsPlannedOutput w) (f : ReadFacts w) where
   -- PT_INTERP goes by it
   pub goes_by : (i n : ℕ) (at : SectionAt w f.parts i) (p : SegmentHeader) → interpreter_number (image_at_read w.image) ≡ Some n
       → at.number ≡ n → p.p_type ≡ PT_INTERP
-      → anchor_of (resized w.image) p ≡ OneSection (kept_as i at.number at.section)
+      → anchor_of (image_at_read w.image) w.image p ≡ OneSection (kept_as i at.number at.section)
   goes_by i n at p number own type =
       interpreter_anchor (resized w.image) p type
       ∙ ap anchor_or_itself (ap (λ o. find (is_numbered o) (kept_sections w.image)) number

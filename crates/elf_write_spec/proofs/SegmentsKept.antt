@@ -13,7 +13,7 @@ use Rattle.elf_format.specs.Placement.{file_part, holds, sections_held, somethin
 use Rattle.elf_format.specs.Places.{Place, file_range, occupies_memory}
 use Rattle.elf_format.specs.Ranges.{lies_in}
 use Rattle.elf_image.specs.Edited.{IsEdited}
-use Rattle.elf_image.specs.Kept.{KeptSection, kept_sections, place_at_read}
+use Rattle.elf_image.specs.Kept.{KeptSection, image_at_read, kept_sections, place_at_read}
 use Rattle.elf_image.specs.Segments.{loads_end}
 use Rattle.elf_layout_plan.specs.Added.{AddedLoad, Slot, added_loads, alignment_of, header_count}
 use Rattle.elf_layout_plan.specs.Anchors.{is_loaded_section}
@@ -271,16 +271,16 @@ module _ (image again : Image) (plan : Layout) (edited : IsEdited image) (planne
 
   -- ## All of them
 
-  pub segments_kept : AreSegmentsKept image again
+  pub segments_kept : AreSegmentsKept (image_at_read image) image again
   segments_kept = record {
     front = put_in.front;
     added = put_in.added;
     behind = put_in.behind;
     are = same_segments ∙ planned_segments ∙ written_is ∙ put_in.are;
-    kept = subst (AreHeadersInOrder image again image.segments) (sym put_in.whole)
+    kept = subst (AreHeadersInOrder (image_at_read image) image again image.segments) (sym put_in.whole)
         (in_order image again moved (same_places ∙ planned_places) same_form planned_so table_fits image.segments (λ q here. here));
     last = put_in.last;
-    loads = of_added (AllByRecursion (IsAddedLoad image)) (added_each image (edited_facts image edited).sized moved) tt;
+    loads = of_added (AllByRecursion (IsAddedLoad (image_at_read image) image)) (added_each image (edited_facts image edited).sized moved) tt;
     order = of_added (AreBehind (loads_end image.segments)) (added_ordered r moved) tt;
     moved = λ i s now s_at now_at loaded away. moved_in i s now s_at now_at loaded away;
   }

@@ -87,7 +87,7 @@ module _ (r : Resized) (moved : List ℕ) where
   flags_by_targets : (p : SegmentHeader) (rest : List SegmentHeader) (targets : List Target)
       → stack_flags (written_by p targets ++ rest) ≡ stack_flags (p ∷ rest)
   unfolding written_by table_by
-  flags_by_targets p rest [] = flags_like p (table_by p (anchor_of r p)) [] rest (table_like p (anchor_of r p)) tt
+  flags_by_targets p rest [] = flags_like p (table_by p (anchor_of r.read r.image p)) [] rest (table_like p (anchor_of r.read r.image p)) tt
   flags_by_targets p rest (t ∷ ts) =
       flags_like p (anchored_to r.image.form p t) (map (anchored_to r.image.form p) ts) rest (record { type = refl; flags = refl }) (anchored_like p ts)
 

@@ -38,7 +38,7 @@ has_all w is = all_symbols (image_at_read w.image) w.image (read_facts w is)
 
 -- a final dynamic symbol is the one of the image that gets its number
 symbol_of : (image : Image) → HasSymbols (image_at_read image) image → (new : ℕ) (z : NamedSymbol)
-    → slice_get (final (image_at_read image) image).dynamic_symbols new ≡ Some z → IsDynamicSymbolOf image new z
+    → slice_get (final (image_at_read image) image).dynamic_symbols new ≡ Some z → IsDynamicSymbolOf (image_at_read image) image new z
 symbol_of image all new z at =
     let read : Image = image_at_read image in
     let order : List ℕ = dynamic_order read image in

@@ -51,11 +51,11 @@ module _ (image : Image) (moved : List ℕ) where
     | t ∷ ts ↦ map (anchored_to image.form p) (t ∷ ts)
   ]
 
-  targets_is : (p : SegmentHeader) → targets_of r moved p ≡ targets_by (anchor_of r p)
+  targets_is : (p : SegmentHeader) → targets_of r moved p ≡ targets_by (anchor_of r.read r.image p)
   unfolding targets_of
   targets_is p = refl
 
-  pub written_is : (p : SegmentHeader) → written_from r moved p ≡ written_by p (table_by p (anchor_of r p)) (targets_by (anchor_of r p))
+  pub written_is : (p : SegmentHeader) → written_from r moved p ≡ written_by p (table_by p (anchor_of r.read r.image p)) (targets_by (anchor_of r.read r.image p))
   written_is p = ap (λ (ts : List Target). elim ts as (λ _. List SegmentHeader) [
     | [] ↦ resized_table r moved p ∷ []
     | u ∷ us ↦ map (anchored_to image.form p) (u ∷ us)
@@ -108,7 +108,7 @@ module _ (image : Image) (moved : List ℕ) where
 
     length-from : (p : SegmentHeader) → length (written_from r moved p) ≡ 1 + one_if (is_split r moved p)
     unfolding is_split
-    length-from p = ap (λ (qs : List SegmentHeader). length qs) (written_is p) ∙ length_of p (anchor_of r p) (anchors_among r p)
+    length-from p = ap (λ (qs : List SegmentHeader). length qs) (written_is p) ∙ length_of p (anchor_of r.read r.image p) (anchors_among r p)
 
     pub length-all : (ps : List SegmentHeader) → length (flat_map (written_from r moved) ps) ≡ length ps + count_by (is_split r moved) ps
     length-all [] = refl

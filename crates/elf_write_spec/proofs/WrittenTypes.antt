@@ -49,11 +49,11 @@ module _ (r : Resized) (moved : List ℕ) where
   becomes-type p = by_targets (targets_of r moved p)
     where
       by_targets : (targets : List Target) → (becomes_by p targets).p_type ≡ p.p_type
-      by_targets [] = table_type r moved p (anchor_of r p)
+      by_targets [] = table_type r moved p (anchor_of r.read r.image p)
       by_targets (t ∷ ts) = refl
 
   -- a program header that goes by one section goes where that goes
-  pub becomes-section : (p : SegmentHeader) (s : KeptSection) (x : Place) → anchor_of r p ≡ OneSection s
+  pub becomes-section : (p : SegmentHeader) (s : KeptSection) (x : Place) → anchor_of r.read r.image p ≡ OneSection s
       → slice_get (places r moved) s.position ≡ Some x
       → becomes p ≡ anchored_to r.image.form p (target_at x)
   unfolding becomes_by
@@ -73,7 +73,7 @@ module _ (r : Resized) (moved : List ℕ) where
     unfolding becomes_by
     find-one p [] rest b h =
         let q : SegmentHeader = resized_table r moved p in
-        let same : has_type type q ≡ b = ap (λ n. n == type) (table_type r moved p (anchor_of r p)) ∙ h in
+        let same : has_type type q ≡ b = ap (λ n. n == type) (table_type r moved p (anchor_of r.read r.image p)) ∙ h in
         ap (λ c. cond c (Some q) (find (has_type type) rest)) same
     find-one p (t ∷ ts) rest true h = ap (λ c. cond c (Some (anchored_to r.image.form p t)) (find (has_type type) (map (anchored_to r.image.form p) ts ++ rest))) h
     find-one p (t ∷ ts) rest false h = anchored-none p (t ∷ ts) rest h
@@ -142,33 +142,33 @@ table-single (Some s) = tt
 
 module _ (r : Resized) (moved : List ℕ) where
   -- only a program header for notes or properties goes by several sections
-  range-single : (p : SegmentHeader) → is_one_of (PT_NOTE ∷ PT_GNU_PROPERTY ∷ []) p.p_type ≡ false → IsSingle (anchor_by_range r p)
+  range-single : (p : SegmentHeader) → is_one_of (PT_NOTE ∷ PT_GNU_PROPERTY ∷ []) p.p_type ≡ false → IsSingle (anchor_by_range r.read r.image p)
   unfolding IsSingle
   range-single p other =
-      let over : Anchor = if is_over_notes r p then Notes (notes_under r p) else anchor_or_itself (section_under r p) in
+      let over : Anchor = if is_over_notes r.read p then Notes (notes_under r.read r.image p) else anchor_or_itself (section_under r.image p) in
       cond_both (p.p_filesz == 0) Itself over IsSingle (λ _. tt) (λ _.
-      cond_both (is_over_notes r p) (Notes (notes_under r p)) (anchor_or_itself (section_under r p)) IsSingle
+      cond_both (is_over_notes r.read p) (Notes (notes_under r.read r.image p)) (anchor_or_itself (section_under r.image p)) IsSingle
       (λ notes. both_ways (is_one_of (PT_NOTE ∷ PT_GNU_PROPERTY ∷ []) p.p_type) other
-      (and_parts (is_one_of (PT_NOTE ∷ PT_GNU_PROPERTY ∷ []) p.p_type) (nat_le 2 (length (sharers r p)))
-      (and_parts (is_one_of (PT_NOTE ∷ PT_GNU_PROPERTY ∷ []) p.p_type && nat_le 2 (length (sharers r p))) (list_all (is_note_in p) (sharers r p)) notes).0).0)
-      (λ _. anchored-single (section_under r p)))
+      (and_parts (is_one_of (PT_NOTE ∷ PT_GNU_PROPERTY ∷ []) p.p_type) (nat_le 2 (length (sharers r.read p)))
+      (and_parts (is_one_of (PT_NOTE ∷ PT_GNU_PROPERTY ∷ []) p.p_type && nat_le 2 (length (sharers r.read p))) (list_all (is_note_in p) (sharers r.read p)) notes).0).0)
+      (λ _. anchored-single (section_under r.image p)))
 
-  anchor-single : (p : SegmentHeader) → is_one_of (PT_NOTE ∷ PT_GNU_PROPERTY ∷ []) p.p_type ≡ false → IsSingle (anchor_of r p)
+  anchor-single : (p : SegmentHeader) → is_one_of (PT_NOTE ∷ PT_GNU_PROPERTY ∷ []) p.p_type ≡ false → IsSingle (anchor_of r.read r.image p)
   unfolding anchor_of IsSingle
   anchor-single p other =
       let list : Anchor = anchor_or_itself (kept_of_type SHT_DYNAMIC r.image) in
       let name : Anchor = anchor_or_itself (find (is_numbered (interpreter_number r.read)) (kept_sections r.image)) in
-      let last : Anchor = if does_relro_stay r.image.moves_dynamic p.p_type then Itself else anchor_by_range r p in
+      let last : Anchor = if does_relro_stay r.image.moves_dynamic p.p_type then Itself else anchor_by_range r.read r.image p in
       let a : Anchor = if p.p_type == PT_INTERP then name else last in
       let b : Anchor = if p.p_type == PT_DYNAMIC then list else a in
-      let table : Anchor = section_or_table (section_under r p) in
+      let table : Anchor = section_or_table (section_under r.image p) in
       let c : Anchor = if p.p_type == PT_PHDR then table else b in
       cond_both (p.p_type == PT_LOAD) Itself c IsSingle (λ _. tt) (λ _.
-      cond_both (p.p_type == PT_PHDR) table b IsSingle (λ _. table-single (section_under r p)) (λ _.
+      cond_both (p.p_type == PT_PHDR) table b IsSingle (λ _. table-single (section_under r.image p)) (λ _.
       cond_both (p.p_type == PT_DYNAMIC) list a IsSingle (λ _. anchored-single (kept_of_type SHT_DYNAMIC r.image)) (λ _.
       cond_both (p.p_type == PT_INTERP) name last IsSingle
       (λ _. anchored-single (find (is_numbered (interpreter_number r.read)) (kept_sections r.image))) (λ _.
-      cond_both (does_relro_stay r.image.moves_dynamic p.p_type) Itself (anchor_by_range r p) IsSingle (λ _. tt) (λ _. range-single p other)))))
+      cond_both (does_relro_stay r.image.moves_dynamic p.p_type) Itself (anchor_by_range r.read r.image p) IsSingle (λ _. tt) (λ _. range-single p other)))))
 
   targets_by : Anchor → List Target
   targets_by anchor = elim anchor [
@@ -178,7 +178,7 @@ module _ (r : Resized) (moved : List ℕ) where
     | Notes notes ↦ targets_of_notes moved (places r moved) notes
   ]
 
-  targets-are : (p : SegmentHeader) → targets_of r moved p ≡ targets_by (anchor_of r p)
+  targets-are : (p : SegmentHeader) → targets_of r moved p ≡ targets_by (anchor_of r.read r.image p)
   unfolding targets_of targets_by
   targets-are p = refl
 
@@ -204,7 +204,7 @@ module _ (r : Resized) (moved : List ℕ) where
   pub one_written : (p : SegmentHeader) → is_one_of (PT_NOTE ∷ PT_GNU_PROPERTY ∷ []) p.p_type ≡ false → written_from r moved p ≡ becomes r moved p ∷ []
   one_written p other =
       one-by p (targets_of r moved p)
-      (subst (λ (ts : List Target). length ts ≤ 1) (sym (targets-are p)) (single-by (anchor_of r p) (anchor-single p other)))
+      (subst (λ (ts : List Target). length ts ≤ 1) (sym (targets-are p)) (single-by (anchor_of r.read r.image p) (anchor-single p other)))
 
 -- ## Those that were read
 

@@ -12,7 +12,6 @@ use Rattle.elf_image.specs.Kept.{KeptSection, kept_sections, place_at_read}
 use Rattle.elf_image.specs.Segments.{loads_end}
 use Rattle.elf_layout_plan.specs.Added.{load_alignment}
 use Rattle.elf_layout_plan.specs.Anchors.{Anchor, HeaderTable, Itself, Notes, OneSection, anchor_of, is_loaded_section}
-use Rattle.elf_layout_plan.specs.Plan.{resized}
 use Rattle.elf_layout_plan.specs.Rounds.{flags_for}
 use Rattle.elf_layout_plan.specs.Written.{memory_size, physical_for}
 
@@ -77,18 +76,18 @@ pub record AreHeadersOf (again : Image) (p : SegmentHeader) (anchor : Anchor) (q
   pub each : AllByRecursion (IsSameHeader again p anchor) qs
 
 -- what becomes of all of them, in their order
-abbrev pub AreHeadersInOrder : Image → Image → List SegmentHeader → List SegmentHeader → Type 0
-AreHeadersInOrder image again [] qs = qs ≡ []
-AreHeadersInOrder image again (p ∷ ps) qs =
+abbrev pub AreHeadersInOrder : Image → Image → Image → List SegmentHeader → List SegmentHeader → Type 0
+AreHeadersInOrder read image again [] qs = qs ≡ []
+AreHeadersInOrder read image again (p ∷ ps) qs =
     (here : List SegmentHeader) × (rest : List SegmentHeader) × (qs ≡ here ++ rest)
-    × AreHeadersOf again p (anchor_of (resized image) p) here × AreHeadersInOrder image again ps rest
+    × AreHeadersOf again p (anchor_of read image p) here × AreHeadersInOrder read image again ps rest
 
 -- ## Those that were added
 
 -- A loaded segment that was added, with the flags that a section needs. Its alignment is the page size that was set, else the greatest of
 -- the loaded segments that were read, else the machine's pages; it is 0 only if that was set. Its offset and its address leave the same
 -- rest (gABI, Program Header, p_align).
-pub record IsAddedLoad (image : Image) (q : SegmentHeader) : Type 0 where
+pub record IsAddedLoad (read image : Image) (q : SegmentHeader) : Type 0 where
   pub type : q.p_type ≡ PT_LOAD
   pub index : ℕ
   pub section : KeptSection
@@ -96,7 +95,7 @@ pub record IsAddedLoad (image : Image) (q : SegmentHeader) : Type 0 where
   pub flags : q.p_flags ≡ flags_for image.moves_dynamic section.section
   pub memory : q.p_memsz ≡ q.p_filesz
   pub physical : q.p_paddr ≡ q.p_vaddr
-  pub align : q.p_align ≡ load_alignment (resized image)
+  pub align : q.p_align ≡ load_alignment read image
   pub aligned : image.page_size ≢ Some 0 → 0 < q.p_align
   pub congruent : 0 < q.p_align → q.p_offset % q.p_align ≡ q.p_vaddr % q.p_align
 
@@ -118,16 +117,16 @@ pub record IsInAdded (image : Image) (added : List SegmentHeader) (s : KeptSecti
 -- ## All of them
 
 -- The program headers that are read of a written file.
-pub record AreSegmentsKept (image again : Image) : Type 0 where
+pub record AreSegmentsKept (read image again : Image) : Type 0 where
   pub front : List SegmentHeader
   pub added : List SegmentHeader
   pub behind : List SegmentHeader
   pub are : again.segments ≡ front ++ (added ++ behind)
   -- but for those that were added they are the image's
-  pub kept : AreHeadersInOrder image again image.segments (front ++ behind)
+  pub kept : AreHeadersInOrder read image again image.segments (front ++ behind)
   -- loaded ones that were added stand behind all others that are loaded, in the table as in memory
   pub last : list_any is_loaded behind ≡ false
-  pub loads : AllByRecursion (IsAddedLoad image) added
+  pub loads : AllByRecursion (IsAddedLoad read image) added
   pub order : AreBehind (loads_end image.segments) added
   -- each loaded section that stands at another address than it did is in one of them
   pub moved : (i : ℕ) (s : KeptSection) (now : ImageSection) → slice_get (kept_sections image) i ≡ Some s → slice_get again.sections i ≡ Some now

@@ -51,11 +51,11 @@ WrittenFilesShow = (w : Output) → IsPlannedOutput w → ShowsFinal w.image (wr
 
 -- Data stands at its address in a written file, and so does every other byte that isn't written anew.
 abbrev pub WrittenFilesKeepData : Type 0
-WrittenFilesKeepData = (w : Output) → IsPlannedOutput w → IsDataSeen w.image w.plan.segments (written_bytes w)
+WrittenFilesKeepData = (w : Output) → IsPlannedOutput w → IsDataSeen (image_at_read w.image) w.image w.plan.segments (written_bytes w)
 
 abbrev pub WrittenFilesKeepOthers : Type 0
 WrittenFilesKeepOthers = (w : Output) → IsPlannedOutput w
-    → AreOthersSeen w.image w.plan.segments (written_places w.image (written_headers (resized w.image) w.plan) w.plan.places) (written_bytes w)
+    → AreOthersSeen w.image w.plan.segments (written_places (image_at_read w.image) w.image (written_headers (resized w.image) w.plan) w.plan.places) (written_bytes w)
 
 -- The hash tables of the dynamic symbols, as they were read, stand in a written file where the dynamic list says, if the names are those
 -- that were read.
@@ -72,4 +72,4 @@ WrittenFilesFindNames = (w : Output) → IsPlannedOutput w → are_names_changed
 -- Each symbol of the image stands in a written file at its new number.
 abbrev pub WrittenFilesKeepSymbols : Type 0
 WrittenFilesKeepSymbols = (w : Output) → IsPlannedOutput w
-    → (again : Image) → image_of (written_bytes w) ≡ Ok again → AreSymbolsKept w.image again
+    → (again : Image) → image_of (written_bytes w) ≡ Ok again → AreSymbolsKept (image_at_read w.image) w.image again

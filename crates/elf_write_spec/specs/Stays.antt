@@ -12,7 +12,7 @@ use Rattle.elf_format.specs.Image.{Image}
 use Rattle.elf_format.specs.Placement.{file_part}
 use Rattle.elf_format.specs.Places.{Place, file_range, occupies_file}
 use Rattle.elf_format.specs.Views.{byte_at}
-use Rattle.elf_image.specs.Kept.{KeptSection, image_at_read, kept_of_type, kept_sections, place_at_read}
+use Rattle.elf_image.specs.Kept.{KeptSection, kept_of_type, kept_sections, place_at_read}
 use Rattle.elf_write_spec.specs.Base.{has_position, is_data, is_rewritten, old_places}
 
 -- bytes stand at an address in the memory that program headers load of a file
@@ -20,9 +20,9 @@ abbrev pub IsSeenAt : List SegmentHeader → List ℕ → ℕ → List ℕ → T
 IsSeenAt segments file address bytes = Keeps (memory_of bytes) (from (byte_at segments file) address)
 
 -- Each section of data has its bytes at its address.
-abbrev pub IsDataSeen : Image → List SegmentHeader → List ℕ → Type 0
-IsDataSeen image segments file = (i : ℕ) (s : KeptSection) → slice_get (kept_sections image) i ≡ Some s
-    → IsTrue (is_data (image_at_read image) s && occupies_file (place_at_read s.section))
+abbrev pub IsDataSeen : Image → Image → List SegmentHeader → List ℕ → Type 0
+IsDataSeen read image segments file = (i : ℕ) (s : KeptSection) → slice_get (kept_sections image) i ≡ Some s
+    → IsTrue (is_data read s && occupies_file (place_at_read s.section))
     → IsSeenAt segments file s.section.sh_addr s.section.content
 
 -- the new places of what takes memory and is written anew
@@ -33,9 +33,9 @@ new_places_from read (s ∷ ss) (p ∷ ps) =
     elim (is_rewritten read s) [ false ↦ new_places_from read ss ps | _ ↦ file_range p ∷ new_places_from read ss ps ]
 
 -- the old and the new ranges of headers and of what is written anew
-abbrev pub written_places : Image → List Range → List Place → List Range
-written_places image headers places =
-    old_places (image_at_read image) image ++ headers ++ new_places_from (image_at_read image) (kept_sections image) places
+abbrev pub written_places : Image → Image → List Range → List Place → List Range
+written_places read image headers places =
+    old_places read image ++ headers ++ new_places_from read (kept_sections image) places
 
 -- Every other byte that a loaded segment of the read file had keeps its value and its address, but for spare segments, which go with the
 -- leave that the dynamic section moves.

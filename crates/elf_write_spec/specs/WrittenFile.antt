@@ -24,7 +24,7 @@ use Rattle.elf_layout_plan.specs.Apart.{addresses_of, did_show_note, does_take_m
 use Rattle.elf_layout_plan.specs.Memory.{is_movable}
 use Rattle.elf_layout_plan.specs.Plan.{IsPlan, Layout, resized}
 use Rattle.elf_layout_plan.specs.Texts.{is_table_copied}
-use Rattle.elf_image.specs.Kept.{KeptSection, image_at_read, kept_of_type, kept_sections, place_at_read}
+use Rattle.elf_image.specs.Kept.{KeptSection, kept_of_type, kept_sections, place_at_read}
 use Rattle.elf_write_spec.specs.ReadBack.{HasWrittenParts, IsReadBack}
 use Rattle.elf_write_spec.specs.Base.{is_interpreter}
 use Rattle.elf_write_spec.specs.Contents.{AreDefinitionsSpelled, AreNeedsSpelled}
@@ -52,29 +52,29 @@ EachSection image again Holds = (i : ℕ) (s : KeptSection) (now : ImageSection)
     → slice_get (kept_sections image) i ≡ Some s → slice_get again.sections i ≡ Some now → Holds s now
 
 -- a section as it was, but for where it stands, its links, which are in new numbers, and its bytes
-abbrev pub IsSectionKept : Image → KeptSection → ImageSection → Type 0
-IsSectionKept image s now = now ≡ record s.section {
+abbrev pub IsSectionKept : Image → Image → KeptSection → ImageSection → Type 0
+IsSectionKept read image s now = now ≡ record s.section {
   sh_addr = now.sh_addr;
   sh_offset = now.sh_offset;
   sh_size = now.sh_size;
   sh_link = new_number image s.section.sh_link;
-  sh_info = written_info (image_at_read image) image s.section;
+  sh_info = written_info read image s.section;
   content = now.content;
 }
 
 -- as many sections, in their order
-pub record AreSectionsKept (image again : Image) : Type 0 where
+pub record AreSectionsKept (read image again : Image) : Type 0 where
   pub count : length again.sections ≡ length (kept_sections image)
-  pub each : EachSection image again (IsSectionKept image)
+  pub each : EachSection image again (IsSectionKept read image)
 
 -- the lists of the image in its final form
-pub record AreListsFinal (image again : Image) : Type 0 where
-  pub symbols : again.symbols ≡ (final (image_at_read image) image).symbols
-  pub dynamic_symbols : again.dynamic_symbols ≡ (final (image_at_read image) image).dynamic_symbols
-  pub definitions : again.definitions ≡ (final (image_at_read image) image).definitions
-  pub needs : again.needs ≡ (final (image_at_read image) image).needs
-  pub entries : again.entries ≡ (final (image_at_read image) image).entries
-  pub interpreter : again.interpreter ≡ (final (image_at_read image) image).interpreter
+pub record AreListsFinal (read image again : Image) : Type 0 where
+  pub symbols : again.symbols ≡ (final read image).symbols
+  pub dynamic_symbols : again.dynamic_symbols ≡ (final read image).dynamic_symbols
+  pub definitions : again.definitions ≡ (final read image).definitions
+  pub needs : again.needs ≡ (final read image).needs
+  pub entries : again.entries ≡ (final read image).entries
+  pub interpreter : again.interpreter ≡ (final read image).interpreter
 
 -- ## Where everything stands
 
@@ -102,8 +102,8 @@ pub record IsEverythingApart (again : Image) : Type 0 where
 -- ## What stays in memory
 
 -- the section can't move: something may point into it
-abbrev pub is_fixed : Image → KeptSection → Bool
-is_fixed image s = not (is_interpreter (image_at_read image) s) && not (is_movable image s)
+abbrev pub is_fixed : Image → Image → KeptSection → Bool
+is_fixed read image s = not (is_interpreter read s) && not (is_movable image s)
 
 -- the section is loaded, and has bytes of the file
 abbrev pub is_loaded_with_bytes : ImageSection → Bool
@@ -122,18 +122,16 @@ pub record Unchanged : Type 0 where
   pub numbers : Bool
   pub against_static : Bool
 
-abbrev pub unchanged_for : Image → KeptSection → Unchanged
-unchanged_for image s =
-    let read = image_at_read image in
-    record {
-      table = is_table_copied read image s.number;
-      names = not (are_names_changed read image);
-      versions = are_versions_kept read image;
-      against_dynamic = is_against (table_number SHT_DYNSYM image) s.section;
-      symbols = are_symbols_kept read image && is_table_copied read image s.section.sh_link;
-      numbers = not (is_static_renumbered read image);
-      against_static = is_against (table_number SHT_SYMTAB image) s.section;
-    }
+abbrev pub unchanged_for : Image → Image → KeptSection → Unchanged
+unchanged_for read image s = record {
+  table = is_table_copied read image s.number;
+  names = not (are_names_changed read image);
+  versions = are_versions_kept read image;
+  against_dynamic = is_against (table_number SHT_DYNSYM image) s.section;
+  symbols = are_symbols_kept read image && is_table_copied read image s.section.sh_link;
+  numbers = not (is_static_renumbered read image);
+  against_static = is_against (table_number SHT_SYMTAB image) s.section;
+}
 
 -- sections of that kind are written as they were read
 abbrev pub is_kind_copied : Unchanged → SectionData → Bool
@@ -155,13 +153,13 @@ is_kind_copied u kinds.GnuVerneed = false
 -- or the records of versions, nor a string table with a text that was added or changed; where names of dynamic symbols changed, it is no
 -- hash table and has no relocations against them; where their versions did, it doesn't hold these; where static symbols went, it has no
 -- relocations against them; and where something of these or of the table of their names changed, it doesn't hold them.
-abbrev pub is_copied : Image → KeptSection → Bool
-is_copied image s = not (is_interpreter (image_at_read image) s) && is_kind_copied (unchanged_for image s) s.section.kind
+abbrev pub is_copied : Image → Image → KeptSection → Bool
+is_copied read image s = not (is_interpreter read s) && is_kind_copied (unchanged_for read image s) s.section.kind
 
 -- the loaded note is shown, by a program header of the same type, for each one that is still there and showed it
-abbrev pub IsNoteShown : Image → Image → KeptSection → ImageSection → Type 0
-IsNoteShown image again s now = IsTrue (is_loaded_note s)
-    → IsTrue (list_all (λ p. is_shown_by again.segments p.p_type (place_at_read now)) (filter (did_show_note (resized image) s) image.segments))
+abbrev pub IsNoteShown : Image → Image → Image → KeptSection → ImageSection → Type 0
+IsNoteShown read image again s now = IsTrue (is_loaded_note s)
+    → IsTrue (list_all (λ p. is_shown_by again.segments p.p_type (place_at_read now)) (filter (did_show_note read s) image.segments))
 
 -- The records of defined and of needed versions are spelled, with their texts in the string table to which their section links.
 pub record AreVersionsSpelled (again : Image) (s : KeptSection) (now : ImageSection) : Type 0 where
@@ -196,51 +194,54 @@ pub record IsWrittenByPlan (image : Image) (plan : Layout) (file : List ℕ) : T
 
 -- A file to which an edited image is written.
 pub record IsWrittenOf (image : Image) (file : List ℕ) : Type 0 where
+  -- this is what was read of the bytes that the image comes from, before any edit
+  pub read : Image
+  pub was_read : image_of image.source ≡ Ok read
   -- the file is accepted, and this is what reading it gives
   pub again : Image
   pub is_read : image_of file ≡ Ok again
   pub source : again.source ≡ file
   -- by its section headers, and to a loader that knows its program headers alone, it shows the edited lists
-  pub by_sections : section_view file ≡ Some (final_view (image_at_read image) image)
-  pub by_loader : loader_view file (dynamic_symbol_count file) ≡ Some (final_view (image_at_read image) image)
+  pub by_sections : section_view file ≡ Some (final_view read image)
+  pub by_loader : loader_view file (dynamic_symbol_count file) ≡ Some (final_view read image)
   -- the header, the sections and the lists are those of the image
   pub form : again.form ≡ image.form
   pub header : IsHeaderKept image again
-  pub sections : AreSectionsKept image again
-  pub lists : AreListsFinal image again
+  pub sections : AreSectionsKept read image again
+  pub lists : AreListsFinal read image again
   -- the program headers are those of the image, in order, and loaded ones that were added
-  pub segments : AreSegmentsKept image again
+  pub segments : AreSegmentsKept read image again
   -- in the memory that the file's own program headers load, each section of data has its bytes at its address
-  pub kept_data : IsDataSeen image again.segments file
+  pub kept_data : IsDataSeen read image again.segments file
   -- each section that can't move stands at its address, loaded or not: relocations, the dynamic list, whatever isn't known
-  pub fixed : EachSection image again (λ s now. IsTrue (is_fixed image s) → now.sh_addr ≡ s.section.sh_addr)
+  pub fixed : EachSection image again (λ s now. IsTrue (is_fixed read image s) → now.sh_addr ≡ s.section.sh_addr)
   -- each loaded section has its bytes at its address
   pub loaded : EachSection image again (λ s now.
       IsTrue (is_loaded_with_bytes s.section) → IsSeenAt again.segments file now.sh_addr now.content)
   -- those are the bytes that it had, where it isn't written anew
-  pub copied : EachSection image again (λ s now. IsTrue (is_copied image s) → now.content ≡ s.section.content)
+  pub copied : EachSection image again (λ s now. IsTrue (is_copied read image s) → now.content ≡ s.section.content)
   -- each section, loaded or not, has its bytes in the file where its header says
   pub in_file : EachSection image again (λ s now.
       IsTrue (occupies_file (place_at_read s.section)) → field now.sh_size now.sh_offset file ≡ now.content)
   -- so what can't move and isn't written anew has its bytes at its address: relocations as much as data
   pub stay : EachSection image again (λ s now.
-      IsTrue (is_fixed image s && is_copied image s && is_loaded_with_bytes s.section)
+      IsTrue (is_fixed read image s && is_copied read image s && is_loaded_with_bytes s.section)
       → IsSeenAt again.segments file s.section.sh_addr s.section.content)
   -- every other byte that a loaded segment had which is still there keeps its value and its address, where nothing is written anew
   pub others : AreOthersSeen image again.segments
-      (written_places image (file_header_of again ∷ segment_table_of again ∷ []) (places_in again)) file
+      (written_places read image (file_header_of again ∷ segment_table_of again ∷ []) (places_in again)) file
   -- program headers that are still there show the notes that they showed
-  pub notes : EachSection image again (IsNoteShown image again)
+  pub notes : EachSection image again (IsNoteShown read image again)
   -- hash tables stand, as they were read, where the dynamic list says, if the names of the dynamic symbols are those that were read
-  pub hashes : are_names_changed (image_at_read image) image ≡ false
+  pub hashes : are_names_changed read image ≡ false
       → (raw : List EntryNumbers) → IsNumberedList image again raw → AreHashesSeen image again.segments raw file
   -- else look-ups in the tables that the list names find exactly the symbols that are defined and not local, by the names that they have now
-  pub found : are_names_changed (image_at_read image) image ≡ true
+  pub found : are_names_changed read image ≡ true
       → (raw : List EntryNumbers) → IsNumberedList image again raw → lists_tag DT_SYMTAB (list_at (λ es. es) image.entries) ≡ true
       → AreNamesFound again raw file
   -- each symbol stands at its new number, and relocations and versions follow
-  pub symbols : AreSymbolsKept image again
-  pub relocations : EachSection image again (λ s now. AreRelocationsKept image again s.section now)
+  pub symbols : AreSymbolsKept read image again
+  pub relocations : EachSection image again (λ s now. AreRelocationsKept read image again s.section now)
   pub symbol_versions : EachSection image again (λ s now.
       s.section.sh_type ≡ SHT_GNU_VERSYM → AreVersionsOf again.form again.dynamic_symbols now.content)
   -- the bytes of the version sections, with revisions, hashes and links, which no reader of the lists looks at

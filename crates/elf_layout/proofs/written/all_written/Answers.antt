@@ -30,7 +30,7 @@ loop-i-preserved c =
     let l : AnchorAt = get_or c.args.anchors.now c.loop-i.i at.Itself in
     let k : AnchorPosition = anchor_model l in
     let begins : Begins = begins_model c.in_ok-notes.notes in
-    let lead : k ≡ anchor_position p (anchor_of r p) = anchor-at r c.args.anchors.now c.requires.anchors c.loop-i.i l p (get_or_default c.args.anchors.now c.loop-i.i at.Itself l c.loop-i-test.true) c.segment_at-p.ensures in
+    let lead : k ≡ anchor_position p (anchor_of r.read r.image p) = anchor-at r c.args.anchors.now c.requires.anchors c.loop-i.i l p (get_or_default c.args.anchors.now c.loop-i.i at.Itself l c.loop-i-test.true) c.segment_at-p.ensures in
     let sized : size ≡ header_count r moved * segment_header_size r.image.form =
     ap (λ n. n * c.segment_header_size.result) c.requires.headers ∙ ap (λ n. header_count r moved * n) (c.segment_header_size.ensures ∙ ap segment_header_size c.form-form.ensures) in
     c.in-Ok.ensures.0
@@ -47,7 +47,7 @@ returns-in-Err-clause-fault c =
     let l : AnchorAt = get_or c.args.anchors.now c.loop-i.i at.Itself in
     let k : AnchorPosition = anchor_model l in
     let begins : Begins = begins_model c.in_ok-notes.notes in
-    let lead : k ≡ anchor_position p (anchor_of r p) = anchor-at r c.args.anchors.now c.requires.anchors c.loop-i.i l p (get_or_default c.args.anchors.now c.loop-i.i at.Itself l c.loop-i-test.true) c.segment_at-p.ensures in
+    let lead : k ≡ anchor_position p (anchor_of r.read r.image p) = anchor-at r c.args.anchors.now c.requires.anchors c.loop-i.i l p (get_or_default c.args.anchors.now c.loop-i.i at.Itself l c.loop-i-test.true) c.segment_at-p.ensures in
     let sized : size ≡ header_count r moved * segment_header_size r.image.form =
     ap (λ n. n * c.segment_header_size.result) c.requires.headers ∙ ap (λ n. header_count r moved * n) (c.segment_header_size.ensures ∙ ap segment_header_size c.form-form.ensures) in
     stands_too_far r moved (do_headings_fit c.form-form.result all begins size p k) c.in-Err.fault c.in-Err.ensures

@@ -55,7 +55,7 @@ overflow_cast-looked c =
     let r = c.args.r.now in
     let fits = few_there r c.renew.new.self c.loop-known.looked c.table_end_from-end.result c.needed-needed.result c.in_ok-renew.ensures.is c.in_ok-renew.ensures.covers c.table_end_from-end.ensures.value c.needed-needed.ensures in
     let many : length c.args.anchors.now ≡ length r.image.segments =
-    sym (length-map c.args.anchors.now anchor_model) ∙ ap length c.requires ∙ length-map r.image.segments (λ p. anchor_position p (anchor_of r p)) in
+    sym (length-map c.args.anchors.now anchor_model) ∙ ap length c.requires ∙ length-map r.image.segments (λ p. anchor_position p (anchor_of r.read r.image p)) in
     omega arith
 
 pub overflow_add-count : goal.overflow_add-count
@@ -63,7 +63,7 @@ overflow_add-count c =
     let r = c.args.r.now in
     let few_rounds = (few r c.loop-known.looked c.loop-known.count c.loop-known.invariant.so).1 in
     let many : length c.args.anchors.now ≡ length r.image.segments =
-    sym (length-map c.args.anchors.now anchor_model) ∙ ap length c.requires ∙ length-map r.image.segments (λ p. anchor_position p (anchor_of r p)) in
+    sym (length-map c.args.anchors.now anchor_model) ∙ ap length c.requires ∙ length-map r.image.segments (λ p. anchor_position p (anchor_of r.read r.image p)) in
     omega arith
 
 pub loop-known-preserved : goal.loop-known-preserved
