@@ -7,5 +7,3 @@ pub mod Sizes
 pub mod Versions
 pub mod Steps
 pub mod Rows
-pub use Rattle.elf_tables.specs.Strings
-pub use Rattle.elf_tables.specs.declared.fault.TableFault

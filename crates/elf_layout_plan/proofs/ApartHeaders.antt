@@ -13,6 +13,7 @@ use Rattle.elf_format.specs.declared.range.Range.{Range}
 use Rattle.elf_format.specs.declared.records.SegmentHeader.{SegmentHeader}
 use Rattle.elf_format.specs.File.{is_loaded, loads_of}
 use Rattle.elf_format.specs.Form.{by_class}
+use Rattle.elf_format.specs.Options.{list_at}
 use Rattle.elf_format.specs.Placement.{file_part}
 use Rattle.elf_format.specs.Ranges.{apart, end_of, lies_in, range}
 use Rattle.elf_format.specs.Records.{file_header_size, segment_header_size}
@@ -99,7 +100,7 @@ module _ (r : Resized) (facts : AreFacts r) (moved : List ℕ) where
     | Notes notes ↦ not (list_any (is_moved moved) notes)
   ]
 
-  keeps_is : (p : SegmentHeader) → keeps_range r moved p ≡ keeps_by p (anchor_of r p)
+  keeps_is : (p : SegmentHeader) → keeps_range r moved p ≡ keeps_by p (anchor_of r.read r.image p)
   unfolding keeps_by
   keeps_is p = refl
 
@@ -135,7 +136,7 @@ module _ (r : Resized) (facts : AreFacts r) (moved : List ℕ) where
   unfolding added_loads
   added_low =
       each-map (λ p. kept_end r moved ≤ p.p_offset) (λ (load : AddedLoad). load.header) (added_loads r moved)
-      (loads_from-headers r.image.moves_dynamic (load_alignment r) (kept_end r moved) (memory_end r) (added_flags r moved) (sections_at r moved))
+      (loads_from-headers r.image.moves_dynamic (load_alignment r.read r.image) (kept_end r moved) (memory_end r) (added_flags r moved) (sections_at r moved))
 
   segments_end-low : kept_end r moved ≤ segments_end r moved
   unfolding segments_end
@@ -185,7 +186,7 @@ module _ (r : Resized) (facts : AreFacts r) (moved : List ℕ) where
       part = range 0 (file_header_size r.read.form)
 
       by_option : (o : Option SegmentHeader) → loaded_over (range 0 (file_header_size r.read.form)) (written_segments r moved) ≡ o
-          → Each (IsUnder (file_header_blocks r)) (map (λ b. range b.start b.size) (block_in_load (range 0 (file_header_size r.read.form)) (file_header_size r.read.form) o))
+          → Each (IsUnder (file_header_blocks r)) (list_at (λ (p : SegmentHeader). range (p.p_vaddr + 0 - p.p_offset) (file_header_size r.read.form) ∷ []) o)
       by_option None e = tt
       by_option (Some q) e =
           let front = range 0 (file_header_size r.read.form) in
@@ -338,7 +339,7 @@ module _ (r : Resized) (facts : AreFacts r) (moved : List ℕ) where
     table_under = by_load (table_load r) refl (loaded_over plan_table plan_segments) refl
       where
         by_load : (o : Option SegmentHeader) → table_load r ≡ o → (found : Option SegmentHeader) → loaded_over plan_table plan_segments ≡ found
-            → Each (IsUnder (table_blocks r looked)) (map (λ b. range b.start b.size) (block_in_load plan_table (length plan_segments * entry) found))
+            → Each (IsUnder (table_blocks r looked)) (list_at (λ (p : SegmentHeader). range (p.p_vaddr + table_offset r moved - p.p_offset) (length plan_segments * entry) ∷ []) found)
         by_load o e None f = tt
         by_load None e (Some q) f = absurd (none-some q (sym (none_behind e) ∙ f))
         by_load (Some p) e (Some q) f = (table_found p e q f, tt)

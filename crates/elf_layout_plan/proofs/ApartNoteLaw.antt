@@ -118,17 +118,17 @@ module _ (r : Resized) (facts : AreFacts r) (moved : List ℕ) where
   kind : SegmentHeader → ℕ → Anchor
   kind p type =
       if type == PT_LOAD then Itself
-      else if type == PT_PHDR then section_or_table (section_under r p)
+      else if type == PT_PHDR then section_or_table (section_under r.image p)
       else if type == PT_DYNAMIC then anchor_or_itself (kept_of_type SHT_DYNAMIC r.image)
       else if type == PT_INTERP then anchor_or_itself (find (is_numbered (interpreter_number r.read)) (kept_sections r.image))
       else if does_relro_stay r.image.moves_dynamic type then Itself
-      else anchor_by_range r p
+      else anchor_by_range r.read r.image p
 
-  kind_is : (p : SegmentHeader) → anchor_of r p ≡ kind p p.p_type
+  kind_is : (p : SegmentHeader) → anchor_of r.read r.image p ≡ kind p p.p_type
   unfolding anchor_of kind
   kind_is p = refl
 
-  notes_by_range : (p : SegmentHeader) → is_for_notes p ≡ true → anchor_of r p ≡ anchor_by_range r p
+  notes_by_range : (p : SegmentHeader) → is_for_notes p ≡ true → anchor_of r.read r.image p ≡ anchor_by_range r.read r.image p
   unfolding kind
   notes_by_range p h = elim (note_types p h) [
     | inl e ↦ kind_is p ∙ ap (kind p) e
@@ -153,7 +153,7 @@ module _ (r : Resized) (facts : AreFacts r) (moved : List ℕ) where
   original_of k note = each-at (IsOriginal r.read) (kept_sections r.image) facts.originals note.place k note.is_there
 
   -- a note that the program header shows shares bytes with it
-  is_sharer : (p : SegmentHeader) (k : KeptSection) (note : IsNote k) → shows_place p (place_at_read k.section) ≡ true → (j : ℕ) × (slice_get (sharers r p) j ≡ Some (original_of k note).old)
+  is_sharer : (p : SegmentHeader) (k : KeptSection) (note : IsNote k) → shows_place p (place_at_read k.section) ≡ true → (j : ℕ) × (slice_get (sharers r.read p) j ≡ Some (original_of k note).old)
   is_sharer p k note shown =
       let original = original_of k note in
       let s = k.section in
@@ -172,20 +172,20 @@ module _ (r : Resized) (facts : AreFacts r) (moved : List ℕ) where
 
   -- ## Several notes
 
-  module _ (p : SegmentHeader) (for_notes : is_for_notes p ≡ true) (over : is_over_notes r p ≡ true) (all_shown : Each (λ k. shows_place p (place_at_read k.section) ≡ true) (sharers r p)) where
-    notes_in : Each (λ k. is_note_in p k ≡ true) (sharers r p)
-    notes_in = all-at (is_note_in p) (sharers r p) (and_parts (is_one_of (PT_NOTE ∷ PT_GNU_PROPERTY ∷ []) p.p_type && nat_le 2 (length (sharers r p))) (list_all (is_note_in p) (sharers r p)) over).1
+  module _ (p : SegmentHeader) (for_notes : is_for_notes p ≡ true) (over : is_over_notes r.read p ≡ true) (all_shown : Each (λ k. shows_place p (place_at_read k.section) ≡ true) (sharers r.read p)) where
+    notes_in : Each (λ k. is_note_in p k ≡ true) (sharers r.read p)
+    notes_in = all-at (is_note_in p) (sharers r.read p) (and_parts (is_one_of (PT_NOTE ∷ PT_GNU_PROPERTY ∷ []) p.p_type && nat_le 2 (length (sharers r.read p))) (list_all (is_note_in p) (sharers r.read p)) over).1
 
     -- what is known of each of them that is still there
     pub record IsFollowed (k : KeptSection) : Type 0 where
       pub note : IsNote k
       pub shown : shows_place p (place_at_read k.section) ≡ true
 
-    followed : (i : ℕ) (k : KeptSection) → slice_get (kept_sections r.image) i ≡ Some k → is_one_of (map (λ n. n.number) (sharers r p)) k.number ≡ true → IsFollowed k
+    followed : (i : ℕ) (k : KeptSection) → slice_get (kept_sections r.image) i ≡ Some k → is_one_of (map (λ n. n.number) (sharers r.read p)) k.number ≡ true → IsFollowed k
     followed i k at among =
         let original = each-at (IsOriginal r.read) (kept_sections r.image) facts.originals i k at in
-        let (j, n, at_n, same) = any-at (λ x. x == k.number) (map (λ n. n.number) (sharers r p)) among in
-        let (sharer, at_sharer, number) = map-at (λ (n : KeptSection). n.number) (sharers r p) j n at_n in
+        let (j, n, at_n, same) = any-at (λ x. x == k.number) (map (λ n. n.number) (sharers r.read p)) among in
+        let (sharer, at_sharer, number) = map-at (λ (n : KeptSection). n.number) (sharers r.read p) j n at_n in
         let (m, at_m, shares) = filter-at (shares_bytes p) (kept_sections r.read) j sharer at_sharer in
         let index : original.place ≡ m =
         sym (facts.numbers original.place original.old original.is_there) ∙ original.same_number ∙ sym (eqb-true n k.number same) ∙ sym number ∙ facts.numbers m sharer at_m in
@@ -193,7 +193,7 @@ module _ (r : Resized) (facts : AreFacts r) (moved : List ℕ) where
         let is_sharer : original.old ≡ sharer = same_at (kept_sections r.read) m original.old sharer at_old at_m in
         let as_read : place_at_read k.section ≡ place_at_read sharer.section = ap place_at_read original.same ∙ ap (λ (x : KeptSection). place_at_read x.section) is_sharer in
         let s = sharer.section in
-        let outer = and_parts (s.sh_type == SHT_NOTE && is_loaded_section s) (lies_in (file_range (place_at_read s)) (file_part p)) (each-at (λ k. is_note_in p k ≡ true) (sharers r p) notes_in j sharer at_sharer) in
+        let outer = and_parts (s.sh_type == SHT_NOTE && is_loaded_section s) (lies_in (file_range (place_at_read s)) (file_part p)) (each-at (λ k. is_note_in p k ≡ true) (sharers r.read p) notes_in j sharer at_sharer) in
         let inner = and_parts (s.sh_type == SHT_NOTE) (is_loaded_section s) outer.0 in
         let bytes = (and_parts (has_bytes s) (not (apart (file_range (place_at_read s)) (file_part p))) shares).0 in
         record {
@@ -204,77 +204,77 @@ module _ (r : Resized) (facts : AreFacts r) (moved : List ℕ) where
             loaded = ap occupies_memory as_read ∙ inner.1;
             filled = ap (λ (x : Place). occupies_file x && not (x.sh_size == 0)) as_read ∙ bytes;
           };
-          shown = ap (shows_place p) as_read ∙ each-at (λ k. shows_place p (place_at_read k.section) ≡ true) (sharers r p) all_shown j sharer at_sharer;
+          shown = ap (shows_place p) as_read ∙ each-at (λ k. shows_place p (place_at_read k.section) ≡ true) (sharers r.read p) all_shown j sharer at_sharer;
         }
 
-    all_followed : Each IsFollowed (notes_under r p)
+    all_followed : Each IsFollowed (notes_under r.read r.image p)
     all_followed =
-        each-from IsFollowed (notes_under r p) (λ j k at.
-        let (i, at_i, among) = filter-at (λ s. is_one_of (map (λ n. n.number) (sharers r p)) s.number) (kept_sections r.image) j k at in
+        each-from IsFollowed (notes_under r.read r.image p) (λ j k at.
+        let (i, at_i, among) = filter-at (λ s. is_one_of (map (λ n. n.number) (sharers r.read p)) s.number) (kept_sections r.image) j k at in
         followed i k at_i among)
 
     -- a note that it shows is one of them
-    is_under : (k : KeptSection) → IsNote k → shows_place p (place_at_read k.section) ≡ true → (j : ℕ) × (slice_get (notes_under r p) j ≡ Some k)
+    is_under : (k : KeptSection) → IsNote k → shows_place p (place_at_read k.section) ≡ true → (j : ℕ) × (slice_get (notes_under r.read r.image p) j ≡ Some k)
     is_under k note shown =
         let original = original_of k note in
         let (j, at_j) = is_sharer p k note shown in
-        let among : is_one_of (map (λ n. n.number) (sharers r p)) k.number ≡ true =
-        any-from (λ x. x == k.number) (map (λ n. n.number) (sharers r p)) j original.old.number (at-map (λ (n : KeptSection). n.number) (sharers r p) j original.old at_j) (eq-eqb original.old.number k.number original.same_number) in
-        at-filter (λ s. is_one_of (map (λ n. n.number) (sharers r p)) s.number) (kept_sections r.image) note.place k note.is_there among
+        let among : is_one_of (map (λ n. n.number) (sharers r.read p)) k.number ≡ true =
+        any-from (λ x. x == k.number) (map (λ n. n.number) (sharers r.read p)) j original.old.number (at-map (λ (n : KeptSection). n.number) (sharers r.read p) j original.old at_j) (eq-eqb original.old.number k.number original.same_number) in
+        at-filter (λ s. is_one_of (map (λ n. n.number) (sharers r.read p)) s.number) (kept_sections r.image) note.place k note.is_there among
 
-    anchor_notes : (k : KeptSection) → IsNote k → shows_place p (place_at_read k.section) ≡ true → anchor_of r p ≡ Notes (notes_under r p)
+    anchor_notes : (k : KeptSection) → IsNote k → shows_place p (place_at_read k.section) ≡ true → anchor_of r.read r.image p ≡ Notes (notes_under r.read r.image p)
     anchor_notes k note shown =
-        notes_by_range p for_notes ∙ ap (λ b. if b then Itself else if is_over_notes r p then Notes (notes_under r p) else anchor_or_itself (section_under r p)) (filled_part p k.section note.filled shown)
-        ∙ ap (λ b. if b then Notes (notes_under r p) else anchor_or_itself (section_under r p)) over
+        notes_by_range p for_notes ∙ ap (λ b. if b then Itself else if is_over_notes r.read p then Notes (notes_under r.read r.image p) else anchor_or_itself (section_under r.image p)) (filled_part p k.section note.filled shown)
+        ∙ ap (λ b. if b then Notes (notes_under r.read r.image p) else anchor_or_itself (section_under r.image p)) over
 
-    staying_at : Each (IsAt p.p_offset p.p_vaddr) (places_of_kept (places r moved) (staying_notes moved (notes_under r p)))
+    staying_at : Each (IsAt p.p_offset p.p_vaddr) (places_of_kept (places r moved) (staying_notes moved (notes_under r.read r.image p)))
     staying_at =
-        each-filter_map (IsAt p.p_offset p.p_vaddr) (λ (s : KeptSection). slice_get (places r moved) s.position) (staying_notes moved (notes_under r p))
+        each-filter_map (IsAt p.p_offset p.p_vaddr) (λ (s : KeptSection). slice_get (places r moved) s.position) (staying_notes moved (notes_under r.read r.image p))
         (each-more (λ k. (not (is_moved moved k) ≡ true) × IsFollowed k) (λ k. (x : Place) → slice_get (places r moved) k.position ≡ Some x → IsAt p.p_offset p.p_vaddr x)
         (λ k h x at. subst (IsAt p.p_offset p.p_vaddr) (same_Some (planned k) x (sym (place_there k h.1.note) ∙ at)) (still_at k h.1.note p h.1.shown (not-true (is_moved moved k) h.0)))
-        (staying_notes moved (notes_under r p)) (each-filter IsFollowed (λ s. not (is_moved moved s)) (notes_under r p) all_followed))
+        (staying_notes moved (notes_under r.read r.image p)) (each-filter IsFollowed (λ s. not (is_moved moved s)) (notes_under r.read r.image p) all_followed))
 
-    moving_at : Each (IsAt (distance_of r facts.sized moved PF_R).0 (distance_of r facts.sized moved PF_R).1) (places_of_kept (places r moved) (moved_notes moved (notes_under r p)))
+    moving_at : Each (IsAt (distance_of r facts.sized moved PF_R).0 (distance_of r facts.sized moved PF_R).1) (places_of_kept (places r moved) (moved_notes moved (notes_under r.read r.image p)))
     moving_at =
         let At : Place → Type 0 = IsAt (distance_of r facts.sized moved PF_R).0 (distance_of r facts.sized moved PF_R).1 in
-        each-filter_map At (λ (s : KeptSection). slice_get (places r moved) s.position) (moved_notes moved (notes_under r p))
+        each-filter_map At (λ (s : KeptSection). slice_get (places r moved) s.position) (moved_notes moved (notes_under r.read r.image p))
         (each-more (λ k. (is_moved moved k ≡ true) × IsFollowed k) (λ k. (x : Place) → slice_get (places r moved) k.position ≡ Some x → At x)
         (λ k h x at. subst At (same_Some (planned k) x (sym (place_there k h.1.note) ∙ at)) (moved_at k h.1.note h.0))
-        (moved_notes moved (notes_under r p)) (each-filter IsFollowed (is_moved moved) (notes_under r p) all_followed))
+        (moved_notes moved (notes_under r.read r.image p)) (each-filter IsFollowed (is_moved moved) (notes_under r.read r.image p) all_followed))
 
     several_shown : (k : KeptSection) → IsNote k → shows_place p (place_at_read k.section) ≡ true → IsShownIn p k
     several_shown k note shown =
-        let notes = notes_under r p in
+        let notes = notes_under r.read r.image p in
         let anchor = anchor_notes k note shown in
         let (i, at) = is_under k note shown in
         by_moved (list_any (is_moved moved) notes) refl (is_moved moved k) refl anchor i at
       where
-        by_moved : (any : Bool) → list_any (is_moved moved) (notes_under r p) ≡ any → (mine : Bool) → is_moved moved k ≡ mine → anchor_of r p ≡ Notes (notes_under r p)
-            → (i : ℕ) → slice_get (notes_under r p) i ≡ Some k → IsShownIn p k
+        by_moved : (any : Bool) → list_any (is_moved moved) (notes_under r.read r.image p) ≡ any → (mine : Bool) → is_moved moved k ≡ mine → anchor_of r.read r.image p ≡ Notes (notes_under r.read r.image p)
+            → (i : ℕ) → slice_get (notes_under r.read r.image p) i ≡ Some k → IsShownIn p k
         by_moved false none mine is anchor i at =
-            let stays = each-at (λ s. is_moved moved s ≡ false) (notes_under r p) (none-at (is_moved moved) (notes_under r p) none) i k at in
-            (0, p, ap (λ (l : List SegmentHeader). slice_get l 0) (notes_stay r moved p (notes_under r p) anchor none), refl, still_shown k note p shown stays)
+            let stays = each-at (λ s. is_moved moved s ≡ false) (notes_under r.read r.image p) (none-at (is_moved moved) (notes_under r.read r.image p) none) i k at in
+            (0, p, ap (λ (l : List SegmentHeader). slice_get l 0) (notes_stay r moved p (notes_under r.read r.image p) anchor none), refl, still_shown k note p shown stays)
         by_moved true some false stays anchor i at =
-            let staying = staying_notes moved (notes_under r p) in
-            let moving = moved_notes moved (notes_under r p) in
-            let (j, at_j) = at-filter (λ s. not (is_moved moved s)) (notes_under r p) i k at (ap (λ b. not b) stays) in
+            let staying = staying_notes moved (notes_under r.read r.image p) in
+            let moving = moved_notes moved (notes_under r.read r.image p) in
+            let (j, at_j) = at-filter (λ s. not (is_moved moved s)) (notes_under r.read r.image p) i k at (ap (λ b. not b) stays) in
             let (n, at_n) = at-filter_map (λ (s : KeptSection). slice_get (places r moved) s.position) staying j k (planned k) at_j (place_there k note) in
             let (m, t, at_t, shows_it) = targets_show r.image.form p p.p_offset p.p_vaddr (places_of_kept (places r moved) staying) staying_at n (planned k) at_n in
             let front = targets_over (places_of_kept (places r moved) staying) in
             let back = targets_over (places_of_kept (places r moved) moving) in
             let (l, at_l) = append-front_at front back m t at_t in
-            (l, anchored_to r.image.form p t, written-at r moved p (front ++ back) (notes_targets r moved p (notes_under r p) anchor some) l t at_l, refl, shows_it)
+            (l, anchored_to r.image.form p t, written-at r moved p (front ++ back) (notes_targets r moved p (notes_under r.read r.image p) anchor some) l t at_l, refl, shows_it)
         by_moved true some true moves anchor i at =
-            let staying = staying_notes moved (notes_under r p) in
-            let moving = moved_notes moved (notes_under r p) in
-            let (j, at_j) = at-filter (is_moved moved) (notes_under r p) i k at moves in
+            let staying = staying_notes moved (notes_under r.read r.image p) in
+            let moving = moved_notes moved (notes_under r.read r.image p) in
+            let (j, at_j) = at-filter (is_moved moved) (notes_under r.read r.image p) i k at moves in
             let (n, at_n) = at-filter_map (λ (s : KeptSection). slice_get (places r moved) s.position) moving j k (planned k) at_j (place_there k note) in
             let (offset, address, _) = distance_of r facts.sized moved PF_R in
             let (m, t, at_t, shows_it) = targets_show r.image.form p offset address (places_of_kept (places r moved) moving) moving_at n (planned k) at_n in
             let front = targets_over (places_of_kept (places r moved) staying) in
             let back = targets_over (places_of_kept (places r moved) moving) in
             let (l, at_l) = append-back_at front back m t at_t in
-            (l, anchored_to r.image.form p t, written-at r moved p (front ++ back) (notes_targets r moved p (notes_under r p) anchor some) l t at_l, refl, shows_it)
+            (l, anchored_to r.image.form p t, written-at r moved p (front ++ back) (notes_targets r moved p (notes_under r.read r.image p) anchor some) l t at_l, refl, shows_it)
 
   -- ## One note
 
@@ -306,7 +306,7 @@ module _ (r : Resized) (facts : AreFacts r) (moved : List ℕ) where
     old : KeptSection
     old = (original_of k note).old
 
-    sharers_apart : Pairs AreApart (sharers r p)
+    sharers_apart : Pairs AreApart (sharers r.read p)
     unfolding AreApart
     sharers_apart = pairs-filter AreApart (shares_bytes p) (kept_sections r.read) facts.read_apart
 
@@ -335,22 +335,22 @@ module _ (r : Resized) (facts : AreFacts r) (moved : List ℕ) where
           | inr apart_so ↦ apart-meet (bytes_of (original_of k note).old) (bytes_of x) s.sh_offset (apart_so stored_old stored) begins_old ends_old (omega arith) (omega (arith, some))
         ]
 
-    never_several : is_over_notes r p ≡ true → ⊥
+    never_several : is_over_notes r.read p ≡ true → ⊥
     unfolding old
     never_several over =
-        let outer = and_parts (is_one_of (PT_NOTE ∷ PT_GNU_PROPERTY ∷ []) p.p_type && nat_le 2 (length (sharers r p))) (list_all (is_note_in p) (sharers r p)) over in
-        let two = leb-true 2 (length (sharers r p)) (and_parts (is_one_of (PT_NOTE ∷ PT_GNU_PROPERTY ∷ []) p.p_type) (nat_le 2 (length (sharers r p))) outer.0).1 in
+        let outer = and_parts (is_one_of (PT_NOTE ∷ PT_GNU_PROPERTY ∷ []) p.p_type && nat_le 2 (length (sharers r.read p))) (list_all (is_note_in p) (sharers r.read p)) over in
+        let two = leb-true 2 (length (sharers r.read p)) (and_parts (is_one_of (PT_NOTE ∷ PT_GNU_PROPERTY ∷ []) p.p_type) (nat_le 2 (length (sharers r.read p))) outer.0).1 in
         let (j, at_j) = is_sharer p k note shown in
-        let (i, x, at_i, order) = elsewhere (sharers r p) two j in
+        let (i, x, at_i, order) = elsewhere (sharers r.read p) two j in
         let (_, _, shares) = filter-at (shares_bytes p) (kept_sections r.read) i x at_i in
-        let within = each-at (λ k. is_note_in p k ≡ true) (sharers r p) (all-at (is_note_in p) (sharers r p) outer.1) i x at_i in
+        let within = each-at (λ k. is_note_in p k ≡ true) (sharers r.read p) (all-at (is_note_in p) (sharers r.read p) outer.1) i x at_i in
         meet x within shares (elim order [
-          | inl less ↦ inl (pairs-less AreApart (sharers r p) sharers_apart i j x old less at_i at_j)
-          | inr less ↦ inr (pairs-less AreApart (sharers r p) sharers_apart j i old x less at_j at_i)
+          | inl less ↦ inl (pairs-less AreApart (sharers r.read p) sharers_apart i j x old less at_i at_j)
+          | inr less ↦ inr (pairs-less AreApart (sharers r.read p) sharers_apart j i old x less at_j at_i)
         ])
 
-    pub not_several : is_over_notes r p ≡ false
-    not_several = elim (cases_Bool (is_over_notes r p)) [
+    pub not_several : is_over_notes r.read p ≡ false
+    not_several = elim (cases_Bool (is_over_notes r.read p)) [
       | inl over ↦ absurd (never_several over)
       | inr e ↦ e
     ]
@@ -381,13 +381,13 @@ module _ (r : Resized) (facts : AreFacts r) (moved : List ℕ) where
             absurd (false≢true (sym (each-at (λ (x : KeptSection). is_loaded_section x.section ≡ false) (filter (is_just_over p) (kept_sections r.image))
             (find-misses (λ (x : KeptSection). is_loaded_section x.section) (filter (is_just_over p) (kept_sections r.image)) e) j k at) ∙ note.loaded))
 
-    under_is : section_under r p ≡ Some k
+    under_is : section_under r.image p ≡ Some k
     under_is = ap (λ (o : Option KeptSection). first_there o (find (λ _. true) (filter (is_just_over p) (kept_sections r.image)))) find_loaded
 
-    anchor_one : anchor_of r p ≡ OneSection k
+    anchor_one : anchor_of r.read r.image p ≡ OneSection k
     anchor_one =
-        notes_by_range p for_notes ∙ ap (λ b. if b then Itself else if is_over_notes r p then Notes (notes_under r p) else anchor_or_itself (section_under r p)) (filled_part p k.section note.filled shown)
-        ∙ ap (λ b. if b then Notes (notes_under r p) else anchor_or_itself (section_under r p)) (not_several p k note shown just) ∙ ap anchor_or_itself under_is
+        notes_by_range p for_notes ∙ ap (λ b. if b then Itself else if is_over_notes r.read p then Notes (notes_under r.read r.image p) else anchor_or_itself (section_under r.image p)) (filled_part p k.section note.filled shown)
+        ∙ ap (λ b. if b then Notes (notes_under r.read r.image p) else anchor_or_itself (section_under r.image p)) (not_several p k note shown just) ∙ ap anchor_or_itself under_is
 
     one_shown : IsShownIn p k
     one_shown = (
@@ -401,21 +401,21 @@ module _ (r : Resized) (facts : AreFacts r) (moved : List ℕ) where
   -- ## The law
 
   -- each program header for notes of the image that showed a note shows it
-  pub note_is_shown : (m : ℕ) (p : SegmentHeader) → slice_get r.image.segments m ≡ Some p → (k : KeptSection) → IsNote k → did_show_note r k p ≡ true
+  pub note_is_shown : (m : ℕ) (p : SegmentHeader) → slice_get r.image.segments m ≡ Some p → (k : KeptSection) → IsNote k → did_show_note r.read k p ≡ true
       → is_shown_by (written_segments r moved) p.p_type (planned k) ≡ true
   note_is_shown m p at k note did =
-      let outer = and_parts (is_for_notes p && shows_place p (place_at_read k.section)) (is_just_over p k || is_over_notes r p && shows_its_notes r p) did in
+      let outer = and_parts (is_for_notes p && shows_place p (place_at_read k.section)) (is_just_over p k || is_over_notes r.read p && shows_its_notes r.read p) did in
       let inner = and_parts (is_for_notes p) (shows_place p (place_at_read k.section)) outer.0 in
-      let (j, q, at_q, type, shows_it) = by_either (or_cases (is_just_over p k) (is_over_notes r p && shows_its_notes r p) outer.1) inner.0 inner.1 in
+      let (j, q, at_q, type, shows_it) = by_either (or_cases (is_just_over p k) (is_over_notes r.read p && shows_its_notes r.read p) outer.1) inner.0 inner.1 in
       let (n, at_n) = plan-at r moved m p j q at at_q in
       any-from (λ x. x.p_type == p.p_type && shows_place x (planned k)) (written_segments r moved) n q at_n
       (and_from (q.p_type == p.p_type) (shows_place q (planned k)) (eq-eqb q.p_type p.p_type type) shows_it)
     where
-      by_either : (is_just_over p k ≡ true) ⊎ ((is_over_notes r p && shows_its_notes r p) ≡ true) → is_for_notes p ≡ true → shows_place p (place_at_read k.section) ≡ true → IsShownIn p k
+      by_either : (is_just_over p k ≡ true) ⊎ ((is_over_notes r.read p && shows_its_notes r.read p) ≡ true) → is_for_notes p ≡ true → shows_place p (place_at_read k.section) ≡ true → IsShownIn p k
       by_either (inl just) for_notes shown = one_shown p for_notes k note shown just
       by_either (inr several) for_notes shown =
-          let (over, all) = and_parts (is_over_notes r p) (shows_its_notes r p) several in
-          several_shown p for_notes over (all-at (λ (s : KeptSection). shows_place p (place_at_read s.section)) (sharers r p) all) k note shown
+          let (over, all) = and_parts (is_over_notes r.read p) (shows_its_notes r.read p) several in
+          several_shown p for_notes over (all-at (λ (s : KeptSection). shows_place p (place_at_read s.section)) (sharers r.read p) all) k note shown
 
   note_of : (i : ℕ) (k : KeptSection) → slice_get (kept_sections r.image) i ≡ Some k → is_loaded_note k ≡ true → IsNote k
   note_of i k at passes =
@@ -431,8 +431,8 @@ module _ (r : Resized) (facts : AreFacts r) (moved : List ℕ) where
       let (i, at_i, passes) = filter-at is_loaded_note (kept_sections r.image) j k at in
       let note = note_of i k at_i passes in
       let shown : SegmentHeader → Bool = λ p. is_some_and (is_shown_by (written_segments r moved) p.p_type) (slice_get (places r moved) k.position) in
-      all-from shown (filter (did_show_note r k) r.image.segments) (each-from (λ p. shown p ≡ true) (filter (did_show_note r k) r.image.segments) (λ n p at_p.
-      let (m, at_m, did) = filter-at (did_show_note r k) r.image.segments n p at_p in
+      all-from shown (filter (did_show_note r.read k) r.image.segments) (each-from (λ p. shown p ≡ true) (filter (did_show_note r.read k) r.image.segments) (λ n p at_p.
+      let (m, at_m, did) = filter-at (did_show_note r.read k) r.image.segments n p at_p in
       ap (is_some_and (is_shown_by (written_segments r moved) p.p_type)) (place_there k note) ∙ note_is_shown m p at_m k note did))))
 
 pub plans_show_notes : PlansShowNotes

@@ -98,7 +98,7 @@ module _ (r : Resized) (sized : sized_sections r ≡ map (sized_of r) (kept_sect
     pub distance_of : (flags : ℕ) → (offset : ℕ) × (address : ℕ) × Each (λ x. HasFlags flags x → IsAtDistance offset address x.offset x.address) (all_slots (added_loads r moved))
     unfolding added_loads
     distance_of flags =
-        distance_from flags (load_alignment r) (kept_end r moved) (memory_end r) (added_flags r moved) (sections_at r moved)
+        distance_from flags (load_alignment r.read r.image) (kept_end r moved) (memory_end r) (added_flags r moved) (sections_at r moved)
         (each-more (IsMoved r sized moved) IsPlaced (λ t h. h.1) (sections_at r moved) (sections_move r sized moved)) (each_once-pairs (map (λ s. flags_for r.image.moves_dynamic s.kept.section) (sections_at r moved)))
 
     -- ## A section's slot, by whether it moves

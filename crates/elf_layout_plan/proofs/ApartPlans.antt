@@ -1,5 +1,5 @@
 -- In a plan headers and sections share no address.
-use Rattle.std.proofs.Common.{◌≡◌, ℕ, ◌*◌, ◌≤◌, Bool, true, false, not, ◌&&◌, ◌⊎◌, List, ◌++◌, map, length, refl, sym, ap, ◌∙◌, subst, inl, inr, arith, Option, Some, None}
+use Rattle.std.proofs.Common.{◌≡◌, ℕ, ◌+◌, ◌-◌, ◌*◌, ◌≤◌, Bool, true, false, not, ◌&&◌, ◌⊎◌, List, [], ◌∷◌, ◌++◌, map, length, refl, sym, ap, ◌∙◌, subst, inl, inr, arith, Option, Some, None}
 use Rattle.std.specs.Prelude.{◌==◌}
 use Rattle.std.specs.List.{flat_map, slice_get}
 use Rattle.std.proofs.lemmas.Bool.{and_parts, eqb-true, leb-true}
@@ -9,14 +9,14 @@ use Rattle.elf_format.specs.declared.constants.TheConstants.{SHF_ALLOC, SHF_TLS,
 use Rattle.elf_format.specs.declared.range.Range.{Range}
 use Rattle.elf_format.specs.declared.records.SegmentHeader.{SegmentHeader}
 use Rattle.elf_format.specs.File.{loads_of}
-use Rattle.elf_format.specs.Options.{is_one_of, is_some_and}
+use Rattle.elf_format.specs.Options.{is_one_of, is_some_and, list_at}
 use Rattle.elf_format.specs.Places.{Place, is_set}
 use Rattle.elf_format.specs.Ranges.{all_apart, apart, end_of, range}
 use Rattle.elf_format.specs.Records.{file_header_size, segment_header_size}
 use Rattle.elf_layout_plan.specs.Added.{Slot, added_loads, kept_end, load_alignment, memory_end}
 use Rattle.elf_layout_plan.specs.Apart.{addresses_of, does_take_memory, is_memory_apart}
 use Rattle.elf_layout_plan.specs.Blocks.{Block, have_causes, stay_apart}
-use Rattle.elf_layout_plan.specs.Memory.{Resized, SizedSection, block_in_load, blocks_with, edge_blocks, header_blocks, loaded_over, section_block, sized_sections, takes_memory}
+use Rattle.elf_layout_plan.specs.Memory.{Resized, SizedSection, blocks_with, edge_blocks, header_blocks, loaded_over, section_block, sized_sections, takes_memory}
 use Rattle.elf_layout_plan.specs.ApartLaws.{PlansAreApart}
 use Rattle.elf_layout_plan.specs.Plan.{Layout, layout_for, resized}
 use Rattle.elf_layout_plan.specs.Rounds.{added_flags, are_in_old_order, do_move, headers_needed, sections_at}
@@ -51,7 +51,7 @@ place_takes r moved t =
 one_alone : (part : Range) (segments : List SegmentHeader) → Pairs (λ a b. apart a b ≡ true) (addresses_of part segments)
 one_alone part segments = by_option (loaded_over part segments)
   where
-    by_option : (o : Option SegmentHeader) → Pairs (λ a b. apart a b ≡ true) (map (λ b. range b.start b.size) (block_in_load part part.size o))
+    by_option : (o : Option SegmentHeader) → Pairs (λ a b. apart a b ≡ true) (list_at (λ (p : SegmentHeader). range (p.p_vaddr + part.start - p.p_offset) part.size ∷ []) o)
     by_option None = tt
     by_option (Some p) = (tt, tt)
 
@@ -66,11 +66,11 @@ module _ (r : Resized) (facts : AreFacts r) (looked : ℕ) (moved : List ℕ) (m
 
   slots_high : Each (λ x. memory_end r ≤ x.address) slots
   unfolding added_loads slots
-  slots_high = loads_from-low r.image.moves_dynamic (load_alignment r) (kept_end r moved) (memory_end r) (added_flags r moved) (sections_at r moved)
+  slots_high = loads_from-low r.image.moves_dynamic (load_alignment r.read r.image) (kept_end r moved) (memory_end r) (added_flags r moved) (sections_at r moved)
 
   slots_behind : Pairs IsBehind slots
   unfolding added_loads slots
-  slots_behind = loads_from-pairs r.image.moves_dynamic (load_alignment r) (kept_end r moved) (memory_end r) (added_flags r moved) (sections_at r moved)
+  slots_behind = loads_from-pairs r.image.moves_dynamic (load_alignment r.read r.image) (kept_end r moved) (memory_end r) (added_flags r moved) (sections_at r moved)
 
   -- ## Where each section is
 

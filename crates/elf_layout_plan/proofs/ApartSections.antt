@@ -166,7 +166,7 @@ module _ (r : Resized) (sized : sized_sections r ≡ map (sized_of r) (kept_sect
     pub slots_move : Each IsSlot (all_slots (added_loads r moved))
     unfolding added_loads
     slots_move =
-        loads-each IsSlot r.image.moves_dynamic (load_alignment r) (kept_end r moved) (memory_end r) (added_flags r moved) (sections_at r moved)
+        loads-each IsSlot r.image.moves_dynamic (load_alignment r.read r.image) (kept_end r moved) (memory_end r) (added_flags r moved) (sections_at r moved)
         (each-more IsMoved (λ s. (o a : ℕ) → IsSlot (slot_at s o a)) (λ t h o a. (h.0, (t, h.1, refl))) (sections_at r moved) sections_move)
 
     -- each section that moves has a slot
@@ -177,5 +177,5 @@ module _ (r : Resized) (sized : sized_sections r ≡ map (sized_of r) (kept_sect
         let (i, n, at_i, same) = any-at (λ x. x == t.kept.position) moved among in
         let at_n : slice_get (sized_sections r) n ≡ Some t = subst (λ (m : ℕ). slice_get (sized_sections r) m ≡ Some t) (sym (eqb-true n t.kept.position same)) at in
         let picked : (j : ℕ) × (slice_get (sections_at r moved) j ≡ Some t) = at-filter_map (λ position. slice_get (sized_sections r) position) moved i n t at_i at_n in
-        loads-any t.kept.position r.image.moves_dynamic (load_alignment r) (kept_end r moved) (memory_end r) (added_flags r moved) (sections_at r moved) picked.0 t picked.1 refl
+        loads-any t.kept.position r.image.moves_dynamic (load_alignment r.read r.image) (kept_end r moved) (memory_end r) (added_flags r moved) (sections_at r moved) picked.0 t picked.1 refl
         (once-any (flags_for r.image.moves_dynamic t.kept.section) (map (λ s. flags_for r.image.moves_dynamic s.kept.section) (sections_at r moved)) picked.0 (at-map (λ s. flags_for r.image.moves_dynamic s.kept.section) (sections_at r moved) picked.0 t picked.1))

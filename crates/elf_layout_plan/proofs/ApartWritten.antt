@@ -43,7 +43,7 @@ module _ (r : Resized) (moved : List ℕ) where
     | Notes notes ↦ targets_of_notes moved (places r moved) notes
   ]
 
-  pub targets_are : (p : SegmentHeader) → targets_of r moved p ≡ targets_by (anchor_of r p)
+  pub targets_are : (p : SegmentHeader) → targets_of r moved p ≡ targets_by (anchor_of r.read r.image p)
   unfolding targets_of targets_by
   targets_are p = refl
 
@@ -54,7 +54,7 @@ module _ (r : Resized) (moved : List ℕ) where
   unfolding written_by
   written_is p = refl
 
-  pub load_anchor : (p : SegmentHeader) → is_loaded p ≡ true → anchor_of r p ≡ Itself
+  pub load_anchor : (p : SegmentHeader) → is_loaded p ≡ true → anchor_of r.read r.image p ≡ Itself
   unfolding anchor_of
   load_anchor p h = by_type (p.p_type == PT_LOAD) _ h
     where
@@ -65,7 +65,7 @@ module _ (r : Resized) (moved : List ℕ) where
   table_by : SegmentHeader → Anchor → SegmentHeader
   table_by p anchor = elim anchor [ HeaderTable ↦ with_table_size r moved p | _ ↦ p ]
 
-  table_is : (p : SegmentHeader) → resized_table r moved p ≡ table_by p (anchor_of r p)
+  table_is : (p : SegmentHeader) → resized_table r moved p ≡ table_by p (anchor_of r.read r.image p)
   unfolding table_by
   table_is p = refl
 
@@ -84,7 +84,7 @@ module _ (r : Resized) (moved : List ℕ) where
 
   written_type : (p : SegmentHeader) (targets : List Target) → Each (λ q. q.p_type ≡ p.p_type) (written_by p targets)
   unfolding written_by
-  written_type p [] = (ap (λ (q : SegmentHeader). q.p_type) (table_is p) ∙ table_type p (anchor_of r p), tt)
+  written_type p [] = (ap (λ (q : SegmentHeader). q.p_type) (table_is p) ∙ table_type p (anchor_of r.read r.image p), tt)
   written_type p (t ∷ ts) = each-map (λ (q : SegmentHeader). q.p_type ≡ p.p_type) (anchored_to r.image.form p) (t ∷ ts) (each-all (λ t. p.p_type ≡ p.p_type) (λ t. refl) (t ∷ ts))
 
   loads_from_one : (p : SegmentHeader) → loads_of (written_from r moved p) ≡ cond (is_loaded p) (p ∷ []) []
@@ -144,7 +144,7 @@ pub all_added_are_loaded : (r : Resized) (moved : List ℕ) → Each (λ p. is_l
 unfolding added_loads
 all_added_are_loaded r moved =
     each-map (λ p. is_loaded p ≡ true) (λ (load : AddedLoad). load.header) (added_loads r moved)
-    (added_are_loaded r.image.moves_dynamic (load_alignment r) (kept_end r moved) (memory_end r) (added_flags r moved) (sections_at r moved))
+    (added_are_loaded r.image.moves_dynamic (load_alignment r.read r.image) (kept_end r moved) (memory_end r) (added_flags r moved) (sections_at r moved))
 
 -- the loaded program headers of a plan: those of the image, perhaps with those that are added behind them
 pub plan_loads : (r : Resized) (moved : List ℕ)
@@ -236,7 +236,7 @@ length-written r moved p =
     let P : List SegmentHeader → Type 0 = λ l. length l ≤ 1 + cond (is_split r moved p) 1 0 in
     let Q : List Target → Type 0 = λ l. length l ≤ 1 + cond (is_split r moved p) 1 0 in
     subst P (sym (written_is r moved p)) (length-written_by r moved p (targets_of r moved p) (cond (is_split r moved p) 1 0)
-    (subst Q (sym (targets_are r moved p)) (length-targets r moved (anchor_of r p))))
+    (subst Q (sym (targets_are r moved p)) (length-targets r moved (anchor_of r.read r.image p))))
 
 count-more : (test : SegmentHeader → Bool) (p : SegmentHeader) (ps : List SegmentHeader) → count_by test (p ∷ ps) ≡ cond (test p) 1 0 + count_by test ps
 count-more test p ps = sym (length-filter test (p ∷ ps)) ∙ by_test (test p)
@@ -273,13 +273,13 @@ length-plan r moved =
       length-behind (added_headers r moved) (flat_map (written_from r moved) r.image.segments),
       length-all_written r moved r.image.segments,
       length-map (λ (load : AddedLoad). load.header) (added_loads r moved),
-      length-loads_from r.image.moves_dynamic (load_alignment r) (kept_end r moved) (memory_end r) (added_flags r moved) (sections_at r moved),
+      length-loads_from r.image.moves_dynamic (load_alignment r.read r.image) (kept_end r moved) (memory_end r) (added_flags r moved) (sections_at r moved),
     )
 
 -- ## A program header for notes
 
 -- where none of its notes moves it stays as it is
-pub notes_stay : (r : Resized) (moved : List ℕ) (p : SegmentHeader) (notes : List KeptSection) → anchor_of r p ≡ Notes notes → list_any (is_moved moved) notes ≡ false → written_from r moved p ≡ p ∷ []
+pub notes_stay : (r : Resized) (moved : List ℕ) (p : SegmentHeader) (notes : List KeptSection) → anchor_of r.read r.image p ≡ Notes notes → list_any (is_moved moved) notes ≡ false → written_from r moved p ≡ p ∷ []
 unfolding targets_by written_by table_by
 notes_stay r moved p notes anchor none =
     let targets : List Target = targets_over (places_of_kept (places r moved) (staying_notes moved notes)) ++ targets_over (places_of_kept (places r moved) (moved_notes moved notes)) in
@@ -298,14 +298,14 @@ written-at r moved p targets are j t at =
     ap (λ (l : List SegmentHeader). slice_get l j) (written_is r moved p ∙ ap (written_by r moved p) are) ∙ written_by-at r moved p targets j t at
 
 -- the targets of a program header over notes of which some move, and of one that is just over a section
-pub notes_targets : (r : Resized) (moved : List ℕ) (p : SegmentHeader) (notes : List KeptSection) → anchor_of r p ≡ Notes notes → list_any (is_moved moved) notes ≡ true
+pub notes_targets : (r : Resized) (moved : List ℕ) (p : SegmentHeader) (notes : List KeptSection) → anchor_of r.read r.image p ≡ Notes notes → list_any (is_moved moved) notes ≡ true
     → targets_of r moved p ≡ targets_over (places_of_kept (places r moved) (staying_notes moved notes)) ++ targets_over (places_of_kept (places r moved) (moved_notes moved notes))
 unfolding targets_by
 notes_targets r moved p notes anchor some =
     let targets : List Target = targets_over (places_of_kept (places r moved) (staying_notes moved notes)) ++ targets_over (places_of_kept (places r moved) (moved_notes moved notes)) in
     targets_are r moved p ∙ ap (targets_by r moved) anchor ∙ ap (λ b. if b then targets else []) some
 
-pub section_targets : (r : Resized) (moved : List ℕ) (p : SegmentHeader) (s : KeptSection) (x : Place) → anchor_of r p ≡ OneSection s → slice_get (places r moved) s.position ≡ Some x → targets_of r moved p ≡ target_at x ∷ []
+pub section_targets : (r : Resized) (moved : List ℕ) (p : SegmentHeader) (s : KeptSection) (x : Place) → anchor_of r.read r.image p ≡ OneSection s → slice_get (places r moved) s.position ≡ Some x → targets_of r moved p ≡ target_at x ∷ []
 unfolding targets_by
 section_targets r moved p s x anchor at = targets_are r moved p ∙ ap (targets_by r moved) anchor ∙ ap (λ o. map target_at (cons_option o [])) at
 

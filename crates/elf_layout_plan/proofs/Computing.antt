@@ -4,7 +4,7 @@ use Rattle.patch_bytes.specs.Memory.{bytes_at, number_in}
 use Rattle.patch_bytes.specs.Number.{number_at}
 use Rattle.elf_format.specs.Image.{counted}
 use Rattle.elf_format.specs.Hashes.{gnu_header}
-use Rattle.elf_hashes.specs.Strings.{table_length}
+use Rattle.elf_tables.specs.Strings.{table_length}
 use Rattle.elf_layout_plan.specs.Apart.{are_notes_shown, is_memory_apart}
 use Rattle.elf_layout_plan.specs.Added.{added_loads, kept_end, load_alignment, loads_from, memory_end, slots_from}
 use Rattle.elf_layout_plan.specs.Blocks.{in_order, movers, put_in, some_two}

@@ -293,19 +293,19 @@ once (m ∷ ms) n h = elim (has_cases n m ms h) [
 module _ (r : Resized) (moved : List ℕ) where
   pub is_added : (load : AddedLoad) → Has load (added_loads r moved) → IsAdded (kept_end r moved) (memory_end r) (sections_at r moved) load
   unfolding added_loads
-  is_added load h = added_at r.image.moves_dynamic (load_alignment r) (kept_end r moved) (memory_end r) (added_flags r moved) (sections_at r moved) load h
+  is_added load h = added_at r.image.moves_dynamic (load_alignment r.read r.image) (kept_end r moved) (memory_end r) (added_flags r moved) (sections_at r moved) load h
 
   pub added_apart : Pairs StandsBefore (added_loads r moved)
   unfolding added_loads
-  added_apart = added_pairs r.image.moves_dynamic (load_alignment r) (kept_end r moved) (memory_end r) (added_flags r moved) (sections_at r moved)
+  added_apart = added_pairs r.image.moves_dynamic (load_alignment r.read r.image) (kept_end r moved) (memory_end r) (added_flags r moved) (sections_at r moved)
 
   pub length-added : length (added_loads r moved) ≡ length (added_flags r moved)
   unfolding added_loads
-  length-added = length-loads r.image.moves_dynamic (load_alignment r) (kept_end r moved) (memory_end r) (added_flags r moved) (sections_at r moved)
+  length-added = length-loads r.image.moves_dynamic (load_alignment r.read r.image) (kept_end r moved) (memory_end r) (added_flags r moved) (sections_at r moved)
 
   slot_exists : (s : SizedSection) → Has s (sections_at r moved) → SlotThere (all_slots (added_loads r moved)) s.kept.position
   unfolding added_loads
-  slot_exists s h = slot_added r.image.moves_dynamic (load_alignment r) (kept_end r moved) (memory_end r) (added_flags r moved) (sections_at r moved) s h
+  slot_exists s h = slot_added r.image.moves_dynamic (load_alignment r.read r.image) (kept_end r moved) (memory_end r) (added_flags r moved) (sections_at r moved) s h
       (once (map (λ x. flags_for r.image.moves_dynamic x.kept.section) (sections_at r moved)) (flags_for r.image.moves_dynamic s.kept.section)
       (map-from (λ x. flags_for r.image.moves_dynamic x.kept.section) (sections_at r moved) s h))
 

@@ -77,7 +77,7 @@ module _ (r : Resized) (moved : List ℕ) where
 
   length-targets : (p : SegmentHeader) → length (targets_of r moved p) ≤ 1 + one_if (is_split r moved p)
   unfolding targets_of is_split
-  length-targets p = targets_by (anchor_of r p)
+  length-targets p = targets_by (anchor_of r.read r.image p)
 
   written_by : (p : SegmentHeader) (n : ℕ) (targets : List Target) → length targets ≤ 1 + n
       → length (elim targets as (λ _. List SegmentHeader) [ [] ↦ resized_table r moved p ∷ [] | t ∷ ts ↦ map (anchored_to r.image.form p) (t ∷ ts) ]) ≤ 1 + n

@@ -22,7 +22,7 @@ use Rattle.elf_layout_plan.proofs.PlacedWritten.{headers_added, anchor-load, no_
 module _ (r : Resized) (moved : List ℕ) (reads : ReadsPlaced r) where
   -- ## Where what was read ends
 
-  keeps-itself : (p : SegmentHeader) → anchor_of r p ≡ Itself → keeps_range r moved p ≡ true
+  keeps-itself : (p : SegmentHeader) → anchor_of r.read r.image p ≡ Itself → keeps_range r moved p ≡ true
   keeps-itself p h = ap (λ (l : Anchor). elim l as (λ _. Bool) [
     | Itself ↦ true
     | HeaderTable ↦ p.p_filesz == header_count r moved * segment_header_size r.image.form && p.p_memsz == p.p_filesz

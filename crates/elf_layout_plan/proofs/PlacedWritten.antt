@@ -55,7 +55,7 @@ module _ (r : Resized) (moved : List ℕ) where
       → Has q (elim targets as (λ _. List SegmentHeader) [ [] ↦ resized_table r moved p ∷ [] | t ∷ ts ↦ map (anchored_to r.image.form p) (t ∷ ts) ])
       → q.p_type ≡ p.p_type
   written_by p [] q h = elim (has_cases q (resized_table r moved p) [] h) [
-    | inl same ↦ ap (λ (x : SegmentHeader). x.p_type) (sym same) ∙ table_type p (anchor_of r p)
+    | inl same ↦ ap (λ (x : SegmentHeader). x.p_type) (sym same) ∙ table_type p (anchor_of r.read r.image p)
     | inr later ↦ absurd (has_none q later)
   ]
   written_by p (t ∷ ts) q h = let made = map-at (anchored_to r.image.form p) (t ∷ ts) q h in ap (λ (x : SegmentHeader). x.p_type) (sym made.made)
@@ -65,11 +65,11 @@ module _ (r : Resized) (moved : List ℕ) where
   same_type p q h = written_by p (targets_of r moved p) q h
 
   -- a loaded one stays as it is
-  pub anchor-load : (p : SegmentHeader) → (p.p_type == PT_LOAD) ≡ true → anchor_of r p ≡ Itself
+  pub anchor-load : (p : SegmentHeader) → (p.p_type == PT_LOAD) ≡ true → anchor_of r.read r.image p ≡ Itself
   unfolding anchor_of
   anchor-load p h = cond-true (p.p_type == PT_LOAD) Itself _ h
 
-  targets-itself : (p : SegmentHeader) → anchor_of r p ≡ Itself → targets_of r moved p ≡ []
+  targets-itself : (p : SegmentHeader) → anchor_of r.read r.image p ≡ Itself → targets_of r moved p ≡ []
   unfolding targets_of
   targets-itself p h = ap (λ (anchor : Anchor). elim anchor as (λ _. List Target) [
     | Itself ↦ []

@@ -35,7 +35,7 @@ keeps_section_range r moved p s =
 
 -- the program header keeps its range
 abbrev pub keeps_range : Resized → List ℕ → SegmentHeader → Bool
-keeps_range r moved p = elim (anchor_of r p) [
+keeps_range r moved p = elim (anchor_of r.read r.image p) [
   | Itself ↦ true
   | HeaderTable ↦ p.p_filesz == header_count r moved * segment_header_size r.image.form && p.p_memsz == p.p_filesz
   | OneSection s ↦ keeps_section_range r moved p s
@@ -63,14 +63,14 @@ memory_end r =
 -- ## The alignment of what is loaded
 
 -- the greatest alignment of the loaded segments that were read, or the machine's pages where they tell none
-abbrev pub alignment_at_read : Resized → ℕ
-alignment_at_read r =
-    let found = greatest 0 (map (λ p. p.p_align) (loads_of r.read.segments)) in
-    if found == 0 then default_page_size r.read.header.e_machine else found
+abbrev pub alignment_at_read : Image → ℕ
+alignment_at_read read =
+    let found = greatest 0 (map (λ p. p.p_align) (loads_of read.segments)) in
+    if found == 0 then default_page_size read.header.e_machine else found
 
 -- the page size that was set, or without one the alignment at read
-unfoldable pub load_alignment : Resized → ℕ
-load_alignment r = elim r.image.page_size [ Some size ↦ size | None ↦ alignment_at_read r ]
+unfoldable pub load_alignment : Image → Image → ℕ
+load_alignment read image = elim image.page_size [ Some size ↦ size | None ↦ alignment_at_read read ]
 
 -- ## The segments
 
@@ -122,4 +122,4 @@ loads_from leave align end memory (flags ∷ more) sections =
 
 -- The loaded segments that are added.
 unfoldable pub added_loads : Resized → List ℕ → List AddedLoad
-added_loads r moved = loads_from r.image.moves_dynamic (load_alignment r) (kept_end r moved) (memory_end r) (added_flags r moved) (sections_at r moved)
+added_loads r moved = loads_from r.image.moves_dynamic (load_alignment r.read r.image) (kept_end r moved) (memory_end r) (added_flags r moved) (sections_at r moved)

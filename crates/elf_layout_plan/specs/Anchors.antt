@@ -2,7 +2,7 @@
 use Rattle.std.specs.Prelude.{ℕ, List, [], ◌∷◌, length, map, filter, find, Bool, true, false, ◌&&◌, not, Option, Some, None, nat_le, ◌==◌, if◌then◌else◌}
 use Rattle.std.specs.List.{list_all, list_any}
 use Rattle.elf_format.specs.declared.constants.TheConstants.{PT_DYNAMIC, PT_GNU_PROPERTY, PT_GNU_RELRO, PT_INTERP, PT_LOAD, PT_NOTE, PT_PHDR, SHT_DYNAMIC, SHT_NOTE}
-use Rattle.elf_format.specs.Image.{ImageSection}
+use Rattle.elf_format.specs.Image.{Image, ImageSection}
 use Rattle.elf_format.specs.Options.{first_there, is_one_of}
 use Rattle.elf_format.specs.Placement.{file_part}
 use Rattle.elf_format.specs.Ranges.{apart, lies_in}
@@ -36,9 +36,9 @@ abbrev pub is_just_over : SegmentHeader → KeptSection → Bool
 is_just_over p s = has_bytes s.section && s.section.sh_offset == p.p_offset && s.section.sh_size == p.p_filesz
 
 -- the section that a program header is just over: of several one that is loaded
-abbrev pub section_under : Resized → SegmentHeader → Option KeptSection
-section_under r p =
-    let under = filter (is_just_over p) (kept_sections r.image) in
+abbrev pub section_under : Image → SegmentHeader → Option KeptSection
+section_under image p =
+    let under = filter (is_just_over p) (kept_sections image) in
     first_there (find (λ s. is_loaded_section s.section) under) (find (λ _. true) under)
 
 abbrev pub anchor_or_itself : Option KeptSection → Anchor
@@ -60,28 +60,28 @@ shares_bytes p s = has_bytes s.section && not (apart (file_range (place_at_read 
 abbrev pub is_note_in : SegmentHeader → KeptSection → Bool
 is_note_in p s = s.section.sh_type == SHT_NOTE && is_loaded_section s.section && lies_in (file_range (place_at_read s.section)) (file_part p)
 
--- the sections of the file that share bytes with the program header
-abbrev pub sharers : Resized → SegmentHeader → List KeptSection
-sharers r p = filter (shares_bytes p) (kept_sections r.read)
+-- the sections of the file, as it was read, that share bytes with the program header
+abbrev pub sharers : Image → SegmentHeader → List KeptSection
+sharers read p = filter (shares_bytes p) (kept_sections read)
 
 -- the program header is for notes or properties, and was over two note sections or more and over no other section
-abbrev pub is_over_notes : Resized → SegmentHeader → Bool
-is_over_notes r p =
+abbrev pub is_over_notes : Image → SegmentHeader → Bool
+is_over_notes read p =
     is_one_of (PT_NOTE ∷ PT_GNU_PROPERTY ∷ []) p.p_type
-    && nat_le 2 (length (sharers r p)) && list_all (is_note_in p) (sharers r p)
+    && nat_le 2 (length (sharers read p)) && list_all (is_note_in p) (sharers read p)
 
 -- those of them that are still there
-abbrev pub notes_under : Resized → SegmentHeader → List KeptSection
-notes_under r p = filter (λ s. is_one_of (map (λ n. n.number) (sharers r p)) s.number) (kept_sections r.image)
+abbrev pub notes_under : Image → Image → SegmentHeader → List KeptSection
+notes_under read image p = filter (λ s. is_one_of (map (λ n. n.number) (sharers read p)) s.number) (kept_sections image)
 
 -- ## All of them
 
 -- the anchor of a program header of no special type, by the bytes of the file that it covers
-abbrev pub anchor_by_range : Resized → SegmentHeader → Anchor
-anchor_by_range r p =
+abbrev pub anchor_by_range : Image → Image → SegmentHeader → Anchor
+anchor_by_range read image p =
     if p.p_filesz == 0 then Itself
-    else if is_over_notes r p then Notes (notes_under r p)
-    else anchor_or_itself (section_under r p)
+    else if is_over_notes read p then Notes (notes_under read image p)
+    else anchor_or_itself (section_under image p)
 
 -- Where the dynamic section has leave to move, a PT_GNU_RELRO keeps its range, whatever section it is just over. Linkers round its size
 -- in memory up to a page, of up to 64 KiB: where the section goes, it could reach past what is loaded, and a loader that makes it
@@ -89,15 +89,15 @@ anchor_by_range r p =
 abbrev pub does_relro_stay : Bool → ℕ → Bool
 does_relro_stay moves_dynamic type = type == PT_GNU_RELRO && moves_dynamic
 
--- What a program header of the image goes by.
-unfoldable pub anchor_of : Resized → SegmentHeader → Anchor
-anchor_of r p =
+-- What a program header of an image goes by, whose file was read as another.
+unfoldable pub anchor_of : Image → Image → SegmentHeader → Anchor
+anchor_of read image p =
     if p.p_type == PT_LOAD then Itself
-    else if p.p_type == PT_PHDR then section_or_table (section_under r p)
-    else if p.p_type == PT_DYNAMIC then anchor_or_itself (kept_of_type SHT_DYNAMIC r.image)
-    else if p.p_type == PT_INTERP then anchor_or_itself (find (is_numbered (interpreter_number r.read)) (kept_sections r.image))
-    else if does_relro_stay r.image.moves_dynamic p.p_type then Itself
-    else anchor_by_range r p
+    else if p.p_type == PT_PHDR then section_or_table (section_under image p)
+    else if p.p_type == PT_DYNAMIC then anchor_or_itself (kept_of_type SHT_DYNAMIC image)
+    else if p.p_type == PT_INTERP then anchor_or_itself (find (is_numbered (interpreter_number read)) (kept_sections image))
+    else if does_relro_stay image.moves_dynamic p.p_type then Itself
+    else anchor_by_range read image p
 
 -- ## Which of them move
 
@@ -123,4 +123,4 @@ is_parted moved (Notes notes) = are_parted moved notes
 
 -- a program header over several notes is split in two where only some of them move
 unfoldable pub is_split : Resized → List ℕ → SegmentHeader → Bool
-is_split r moved p = is_parted moved (anchor_of r p)
+is_split r moved p = is_parted moved (anchor_of r.read r.image p)

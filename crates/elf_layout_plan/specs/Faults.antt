@@ -1,6 +1,6 @@
 -- Which fault of a layout answers that of a table.
-use Rattle.elf_hashes.specs.TableFault.{TableFault}
-use Rattle.elf_hashes.specs.TableFault.TheVariants as table
+use Rattle.elf_tables.specs.declared.fault.TableFault.{TableFault}
+use Rattle.elf_tables.specs.declared.fault.TableFault.TheVariants as table
 use Rattle.elf_layout_plan.specs.declared.fault.LayoutFault.{LayoutFault}
 use Rattle.elf_layout_plan.specs.declared.fault.LayoutFault.TheVariants as layout
 

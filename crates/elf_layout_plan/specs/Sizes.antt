@@ -12,8 +12,8 @@ use Rattle.elf_format.specs.Options.{list_at}
 use Rattle.elf_format.specs.Records.{entry_size, symbol_size}
 use Rattle.elf_format.specs.Versions.{VersionDefinition, VersionNeeds}
 use Rattle.elf_format.specs.Views.{NamedSymbol}
-use Rattle.elf_hashes.specs.Strings.{table_length}
-pub use Rattle.elf_hashes.specs.Found.{is_found}
+use Rattle.elf_tables.specs.Strings.{table_length}
+pub use Rattle.elf_tables.specs.FoundSymbols.{is_found}
 use Rattle.elf_image.specs.Kept.{KeptSection, interpreter_number, is_numbered, kept_sections}
 use Rattle.elf_layout_plan.specs.Needs.{written_entries, written_needs}
 use Rattle.elf_layout_plan.specs.Texts.{are_names_changed, is_table_copied, texts_in_use}

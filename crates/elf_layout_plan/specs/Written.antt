@@ -92,7 +92,7 @@ targets_of_notes moved all notes =
 
 -- where a program header goes, to two places where it is split; none where it keeps its range
 unfoldable pub targets_of : Resized → List ℕ → SegmentHeader → List Target
-targets_of r moved p = elim (anchor_of r p) [
+targets_of r moved p = elim (anchor_of r.read r.image p) [
   | Itself ↦ []
   | HeaderTable ↦ []
   | OneSection s ↦ map target_at (places_of_kept (places r moved) (s ∷ []))
@@ -108,7 +108,7 @@ with_table_size r moved p =
     record p { p_filesz = size; p_memsz = size }
 
 abbrev pub resized_table : Resized → List ℕ → SegmentHeader → SegmentHeader
-resized_table r moved p = elim (anchor_of r p) [ HeaderTable ↦ with_table_size r moved p | _ ↦ p ]
+resized_table r moved p = elim (anchor_of r.read r.image p) [ HeaderTable ↦ with_table_size r moved p | _ ↦ p ]
 
 -- what becomes of a program header: one, or two where it is split
 abbrev pub written_from : Resized → List ℕ → SegmentHeader → List SegmentHeader

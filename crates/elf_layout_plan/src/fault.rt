@@ -2,7 +2,7 @@ ghost use Rattle.std.specs.Prelude.{◌≡◌};
 ghost use Rattle.elf_layout_plan.specs.declared.fault.LayoutFault.TheVariants.{Memory};
 ghost use Rattle.elf_layout_plan.specs.Faults.{fault_of_table};
 
-use elf_hashes::TableFault;
+use elf_tables::TableFault;
 use std::alloc::{AllocError, AllocFailed};
 use std::error::Error;
 use std::fmt;

@@ -1,5 +1,6 @@
 pub mod Fields
 pub mod Spelled
+pub mod FoundSymbols
 pub mod ReadBack
 pub mod Strings
 pub mod StringSteps
