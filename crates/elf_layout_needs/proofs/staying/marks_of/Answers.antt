@@ -1,5 +1,5 @@
 -- No version is marked, or those are that no symbol has any more.
-use Rattle.std.proofs.Common.{List, Bool, sym, ap, refl, ◌∙◌}
+use Rattle.std.proofs.Common.{List, Bool, sym, ap, ◌∙◌}
 use Rattle.std.specs.Prelude.{◌&&◌, not}
 use Rattle.elf_format.specs.Views.{NamedSymbol}
 use Rattle.elf_layout_plan.specs.Needs.{is_version_used}
