@@ -1,7 +1,7 @@
 -- What an error leaves open, by the bytes of its file.
 use Rattle.std.specs.Prelude.{ℕ, ◌≡◌, ◌++◌, List, [], Option, Some, None, codes, ⊤}
-use Rattle.elf_apply.specs.declared.error.ElfError.{ElfError}
-use Rattle.elf_apply.specs.declared.error.ElfError.TheVariants.{Parse}
+use Rattle.arwen_elf.specs.ElfError.{ElfError}
+use Rattle.arwen_elf.specs.ElfError.TheVariants.{Parse}
 use Rattle.elf_image_reasons.specs.Told.{reason_of}
 use Rattle.file_kinds.specs.Kinds.{kind_of}
 use Rattle.file_kinds.specs.Reasons.{Words, elf_reason, macho_reason}

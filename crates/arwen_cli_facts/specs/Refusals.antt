@@ -1,8 +1,8 @@
 -- Why nothing is told of a file.
 use Rattle.std.specs.Prelude.{ℕ, ◌≡◌, true, false, List}
-use Rattle.elf_apply.specs.Causes.{RefusesRead}
-use Rattle.elf_apply.specs.declared.error.ElfError.{ElfError}
-use Rattle.elf_apply.specs.declared.error.ElfError.TheVariants.{Memory as elf_memory}
+use Rattle.arwen_elf.specs.Causes.{RefusesRead}
+use Rattle.arwen_elf.specs.ElfError.{ElfError}
+use Rattle.arwen_elf.specs.ElfError.TheVariants.{Memory as elf_memory}
 use Rattle.elf_image.specs.Image.{image_of}
 use Rattle.elf_image.specs.Rules.{has_magic}
 use Rattle.macho_edits.specs.declared.error.MachoError.{MachoError}

@@ -3,7 +3,7 @@ ghost use Rattle.std.specs.Prelude.{◌≡◌, ◌∷◌, [], ◌++◌, IfOk, Ma
 ghost use Rattle.elf_image.specs.Answers.{borrowed};
 ghost use Rattle.elf_image.specs.Image.{image_of, shown};
 ghost use Rattle.elf_image.specs.ImageModel.{entry_model, name_model, needs_model, section_model};
-ghost use Rattle.elf_apply.specs.Causes.{RefusesRead};
+ghost use Rattle.arwen_elf.specs.Causes.{RefusesRead};
 ghost use Rattle.arwen_elf.specs.Prints.{before_nul as bytes_before_nul, lossily};
 ghost use Rattle.arwen_elf.specs.Reads.{entries_shown, needed_shown, soname_shown, text_if as text_if_told};
 ghost use Rattle.arwen_cli_facts.specs.ElfFacts.{AreElfFacts, NamesOf, elf_facts, elf_model, flags_1_of, has_pie_flag, kind_of as kind_told, library_facts, library_model, number_if_tagged, number_tagged, size_of_type as size_told, spare_entries as spare_told, text_tagged, versions_if, versions_needed as versions_told};

@@ -1,6 +1,6 @@
 //! What is told of a file of either format.
 ghost use Rattle.std.specs.Prelude.{◌≡◌, IfErr, IfOk, MatchResult, true};
-ghost use Rattle.elf_apply.specs.Causes.{RefusesRead};
+ghost use Rattle.arwen_elf.specs.Causes.{RefusesRead};
 ghost use Rattle.elf_image.specs.Image.{image_of};
 ghost use Rattle.elf_image.specs.Rules.{has_magic as has_elf_magic};
 ghost use Rattle.arwen_macho.specs.Found.{Finds, container_found};

@@ -3,8 +3,8 @@ use Rattle.std.specs.Prelude.{ℕ, ◌≡◌, ◌⊎◌, true, false, List, [], 
 use Rattle.std.specs.Io.KnownBytes.{Appends}
 use Rattle.std.specs.declared.io.Error.{Error}
 use Rattle.byte_store.specs.Known.{Stays}
-use Rattle.elf_apply.specs.declared.error.ElfError.{ElfError}
-use Rattle.elf_apply.specs.declared.error.ElfError.TheVariants as elf
+use Rattle.elf_commands.specs.ElfError.{ElfError}
+use Rattle.elf_commands.specs.ElfError.TheVariants as elf
 use Rattle.elf_image.specs.Image.{Image, image_of, shown}
 use Rattle.elf_image.specs.Views.{View}
 use Rattle.elf_format.specs.declared.fault.ElfFault.{ElfFault}

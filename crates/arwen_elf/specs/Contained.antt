@@ -2,11 +2,11 @@
 use Rattle.std.specs.Prelude.{◌≡◌, List, Result}
 use Rattle.elf_edits.specs.Edit.{Edit}
 use Rattle.arwen_elf.specs.declared.elf.container.ElfContainer.{ElfContainer}
-use Rattle.elf_apply.specs.declared.batch.ElfBatchError.{ElfBatchError}
-use Rattle.elf_apply.specs.declared.error.ElfError.{ElfError}
-use Rattle.elf_apply.specs.SymbolsTaken.{TakesSymbolEdit}
-use Rattle.elf_apply.specs.Taken.{TakesBatch, TakesEdit, TakesInPlace}
-use Rattle.elf_symbol_edits.specs.SymbolEdit.{SymbolEdit}
+use Rattle.arwen_elf_writer.specs.ElfBatchError.{ElfBatchError}
+use Rattle.arwen_elf_writer.specs.ElfError.{ElfError}
+use Rattle.arwen_elf_writer.specs.SymbolsTaken.{TakesSymbolEdit}
+use Rattle.arwen_elf_writer.specs.Taken.{TakesBatch, TakesEdit, TakesInPlace}
+use Rattle.arwen_elf_writer.specs.SymbolEdit.{SymbolEdit}
 
 abbrev pub EditTaken : {T : Type 0} → Edit → ElfContainer → ElfContainer → Result T ElfError → Type 0
 EditTaken edit old new answer = TakesEdit edit old.inner new.inner answer × (new.bytes ≡ old.bytes)

@@ -4,3 +4,11 @@ pub use Rattle.arwen_elf_writer.specs.Counted
 pub use Rattle.arwen_elf_writer.specs.Reads
 pub use Rattle.arwen_elf_writer.specs.WriterModel
 pub use Rattle.arwen_elf_writer.specs.Written
+pub use Rattle.arwen_elf_writer.specs.WrittenFile
+pub use Rattle.arwen_elf_writer.specs.Final
+pub use Rattle.arwen_elf_writer.specs.Causes
+pub use Rattle.arwen_elf_writer.specs.ElfError
+pub use Rattle.arwen_elf_writer.specs.SymbolsTaken
+pub use Rattle.arwen_elf_writer.specs.Taken
+pub use Rattle.arwen_elf_writer.specs.Told
+pub use Rattle.arwen_elf_writer.specs.ElfBatchError

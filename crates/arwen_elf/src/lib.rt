@@ -4,5 +4,8 @@
 
 pub mod elf;
 
-pub use arwen_elf_writer::{CountedWrite, Sink, write_all_counted};
+pub use arwen_elf_writer::{
+    CountedWrite, LayoutFault, Plan, Sink, image_bytes, image_pieces, image_pieces_from_read,
+    lay_out, write_all_counted,
+};
 pub use elf_image::machine_of;

@@ -4,7 +4,7 @@ use Rattle.std.proofs.lemmas.Bool.{true≢false}
 use Rattle.elf_image.specs.Image.{Image}
 use Rattle.elf_layout_plan.specs.declared.fault.LayoutFault.{LayoutFault}
 use Rattle.elf_layout_plan.specs.declared.fault.LayoutFault.TheVariants as layout
-use Rattle.elf_write_spec.specs.WrittenFile.{IsWrittenOf}
+use Rattle.elf_write.specs.WrittenFile.{IsWrittenOf}
 use Rattle.elf_apply.specs.declared.error.ElfError.{ElfError}
 use Rattle.arwen_elf_writer.specs.Written.{IsImageWritten, IsNoEdit, IsNoImage, IsTold}
 

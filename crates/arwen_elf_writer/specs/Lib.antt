@@ -4,3 +4,13 @@ pub mod PageSizes
 pub mod Written
 pub mod NewFile
 pub use Rattle.elf_write.specs.Counted
+pub use Rattle.elf_write.specs.WrittenFile
+pub use Rattle.elf_write.specs.Final
+pub use Rattle.elf_apply.specs.Causes
+pub use Rattle.elf_apply.specs.SymbolsTaken
+pub use Rattle.elf_apply.specs.Taken
+pub use Rattle.elf_apply.specs.declared.batch.ElfBatchError
+pub use Rattle.elf_apply.specs.declared.error.ElfError
+pub use Rattle.elf_apply.specs.Told
+pub use Rattle.elf_apply.specs.EditModel
+pub use Rattle.elf_apply.specs.SymbolEdit

@@ -11,8 +11,8 @@ use Rattle.elf_layout_plan.specs.declared.fault.LayoutFault.{LayoutFault}
 use Rattle.elf_layout_plan.specs.declared.fault.LayoutFault.TheVariants as layout
 use Rattle.elf_layout_plan.specs.Plan.{IsOverlapping, IsPlan, Layout, resized}
 use Rattle.elf_layout.specs.Refused.{IsNoLayout}
-use Rattle.elf_write_spec.specs.Output.{AreHeadersApart}
-use Rattle.elf_write_spec.specs.WrittenFile.{IsWrittenOf}
+use Rattle.elf_write.specs.Output.{AreHeadersApart}
+use Rattle.elf_write.specs.WrittenFile.{IsWrittenOf}
 use Rattle.elf_write.specs.Counted.{Stops}
 use Rattle.elf_write.specs.Numbers.{do_numbers_fit}
 use Rattle.elf_apply.specs.declared.error.ElfError.{ElfError}

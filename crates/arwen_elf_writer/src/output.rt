@@ -4,8 +4,8 @@ ghost use Rattle.byte_store.specs.Composed.{IsDifference, made_of};
 ghost use Rattle.elf_image.specs.Kept.{image_at_read};
 ghost use Rattle.elf_layout_plan.specs.Plan.{IsPlan, resized};
 ghost use Rattle.elf_layout_plan.specs.Refusals.{do_sizes_of_image_fit, sizes_of_image};
-ghost use Rattle.elf_layout_sizes.specs.MadeTables.{IsMadeOfDynamic};
-ghost use Rattle.elf_write_spec.specs.WrittenFile.{IsWrittenOf};
+ghost use Rattle.elf_layout.specs.MadeTables.{IsMadeOfDynamic};
+ghost use Rattle.elf_write.specs.WrittenFile.{IsWrittenOf};
 ghost use Rattle.arwen_elf_writer.specs.NewFile.{HoldsImage, IsNotStored};
 ghost use Rattle.arwen_elf_writer.specs.Written.{AnswersBytes, AnswersPieces, AnswersWrite, IsImageWritten, IsIo, IsNoDifference, IsNoEdit, IsNoImage, IsTold, MayNotWrite};
 
@@ -14,10 +14,10 @@ use crate::writer::Writer;
 use byte_store::{Creates, Difference, RuntimeFiles};
 use elf_apply::error::{ElfError, ModifyCause, Result};
 use elf_image::{Builder, ElfFault};
-use elf_layout::{lay_out_from_read, lay_out_from_sizes};
+use elf_layout::{
+    Finished, NewSizes, lay_out_from_read, lay_out_from_sizes, new_sizes_with_strings,
+};
 use elf_layout_plan::{LayoutFault, Plan, read_source};
-use elf_layout_sizes::{NewSizes, new_sizes_with_strings};
-use elf_tables::Finished;
 use elf_write::{
     CountedWrite, image_bytes_from_read, image_pieces_with_strings, write_all_counted,
 };

@@ -1,15 +1,14 @@
 //! Symbols and sections of a file's image that get other names, or go.
 ghost use Rattle.std.specs.HashSet.{keys};
 ghost use Rattle.elf_edits.specs.EditModel.{pairs_model, texts_model};
-ghost use Rattle.elf_symbol_edits.specs.EditModel.{edit_model};
-ghost use Rattle.elf_symbol_edits.specs.SymbolEdit.{DeleteAllSymbols, DeleteDynamicSymbols, DeleteSections, DeleteSymbols, RenameAllSymbols, RenameSections, RenameSymbols};
+ghost use Rattle.elf_apply.specs.EditModel.{edit_model};
+ghost use Rattle.elf_apply.specs.SymbolEdit.{DeleteAllSymbols, DeleteDynamicSymbols, DeleteSections, DeleteSymbols, RenameAllSymbols, RenameSections, RenameSymbols};
 ghost use Rattle.elf_apply.specs.SymbolsTaken.{TakesSymbolEdit};
 
 use crate::values::{copy_map, copy_set};
 use crate::writer::Writer;
 use elf_apply::error::ElfError;
-use elf_apply::symbols;
-use elf_symbol_edits::SymbolEdit;
+use elf_apply::{SymbolEdit, symbols};
 use std::alloc::Global;
 use std::collections::{HashMap, HashSet};
 

@@ -5,3 +5,7 @@ pub mod Taken
 pub mod Drafted
 pub mod Needs
 pub mod SymbolsTaken
+pub use Rattle.elf_edits_shrink.specs.Questions
+pub use Rattle.elf_edits_shrink.specs.ShrinkModel
+pub use Rattle.elf_symbol_edits.specs.EditModel
+pub use Rattle.elf_symbol_edits.specs.SymbolEdit

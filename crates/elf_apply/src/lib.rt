@@ -10,3 +10,6 @@ mod needs;
 mod refusals;
 pub mod steps;
 pub mod symbols;
+
+pub use elf_edits_shrink::{ProbeAnswer, Reason, Removed, shrink_questions};
+pub use elf_symbol_edits::SymbolEdit;

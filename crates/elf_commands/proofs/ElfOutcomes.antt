@@ -11,14 +11,14 @@ use Rattle.elf_edits.specs.Cause.{Cause}
 use Rattle.elf_edits.specs.Edit.{Edit}
 use Rattle.elf_edits.specs.Edited.{step}
 use Rattle.elf_edits.specs.Laws.{BatchesAreTheirEdits, EditsShow, viewed}
-use Rattle.elf_apply.specs.Causes.{FailsPrint}
-use Rattle.elf_apply.specs.Told.{RefusesAt, RefusesBatch}
+use Rattle.elf_commands_steps.specs.Causes.{FailsPrint}
+use Rattle.elf_commands_steps.specs.Told.{RefusesAt, RefusesBatch}
 use Rattle.elf_commands_steps.specs.WriterModel.{ShowsBothViews}
 use Rattle.elf_commands_steps.specs.Written.{IsImageWritten, IsNoImage}
-use Rattle.elf_write_spec.specs.WrittenFile.{IsWrittenOf}
-use Rattle.elf_apply.specs.declared.batch.ElfBatchError.{ElfBatchError}
-use Rattle.elf_apply.specs.declared.error.ElfError.{ElfError}
-use Rattle.elf_apply.specs.declared.error.ElfError.TheVariants as elf
+use Rattle.elf_commands_steps.specs.WrittenFile.{IsWrittenOf}
+use Rattle.elf_commands_steps.specs.ElfBatchError.{ElfBatchError}
+use Rattle.elf_commands_steps.specs.ElfError.{ElfError}
+use Rattle.elf_commands_steps.specs.ElfError.TheVariants as elf
 use Rattle.elf_commands.specs.ElfAsked.{ElfAsked, in_turn, of_symbols, one, printing, several, shrinking}
 use Rattle.elf_commands.specs.ElfStores.{ChangesNothing}
 use Rattle.byte_store.specs.Composed.{made_of}

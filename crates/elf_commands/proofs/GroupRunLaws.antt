@@ -10,11 +10,11 @@ use Rattle.elf_edits.specs.Laws.{EditsShow}
 use Rattle.elf_image.specs.Image.{Image, image_of, shown}
 use Rattle.elf_image.specs.ReadImage.{ReadImagesHoldParts}
 use Rattle.elf_image.specs.Views.{section_view}
-use Rattle.elf_apply.specs.declared.batch.ElfBatchError.{ElfBatchError}
-use Rattle.elf_apply.specs.declared.error.ElfError.{ElfError}
-use Rattle.elf_apply.specs.declared.error.ElfError.TheVariants as elf
+use Rattle.elf_commands_steps.specs.ElfBatchError.{ElfBatchError}
+use Rattle.elf_commands_steps.specs.ElfError.{ElfError}
+use Rattle.elf_commands_steps.specs.ElfError.TheVariants as elf
 use Rattle.elf_commands_steps.specs.Written.{IsImageWritten, IsNoImage}
-use Rattle.elf_write_spec.specs.WrittenFile.{IsWrittenOf}
+use Rattle.elf_commands_steps.specs.WrittenFile.{IsWrittenOf}
 use Rattle.elf_symbol_edits.specs.Laws.{SymbolEditsKeep}
 use Rattle.elf_symbol_edits.specs.SymbolEdit.{SymbolEdit}
 use Rattle.elf_commands_steps.specs.Groups.{GroupEdit, MakeInTurn, MakesNext, RefuseInTurn, TellsInTurn, has_symbols, plain, symbols}

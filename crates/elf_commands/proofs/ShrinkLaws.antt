@@ -12,17 +12,17 @@ use Rattle.elf_edits.specs.Batch.{answer_at, run, run_from, then_on}
 use Rattle.elf_edits.specs.Cause.{Cause}
 use Rattle.elf_edits.specs.Edit.{Answer, Edit, ShrinkRunPath}
 use Rattle.elf_edits.specs.Edited.{step}
-use Rattle.elf_edits_shrink.specs.ShrinkModel.{removal_model}
-use Rattle.elf_edits_shrink.specs.declared.removal.Removed.{Removed}
+use Rattle.elf_commands_steps.specs.ShrinkModel.{removal_model}
+use Rattle.elf_commands_steps.specs.Removed.{Removed}
 use Rattle.elf_edits.specs.Laws.{BatchesAreTheirEdits, EditsShow}
 use Rattle.elf_image.specs.Image.{Image, image_of, shown}
 use Rattle.elf_image.specs.ReadImage.{ReadImagesHoldParts}
-use Rattle.elf_apply.specs.Causes.{RefusesRead}
-use Rattle.elf_apply.specs.Told.{IsRefusedAt, IsRefusedFor, Refuses, RefusesAt, cause_told}
+use Rattle.elf_commands_steps.specs.Causes.{RefusesRead}
+use Rattle.elf_commands_steps.specs.Told.{IsRefusedAt, IsRefusedFor, Refuses, RefusesAt, cause_told}
 use Rattle.elf_commands_steps.specs.WriterModel.{ShowsBothViews}
 use Rattle.elf_commands_steps.specs.Written.{IsImageWritten, IsNoImage}
-use Rattle.elf_apply.specs.declared.error.ElfError.{ElfError}
-use Rattle.elf_apply.specs.declared.error.ElfError.TheVariants as elf
+use Rattle.elf_commands_steps.specs.ElfError.{ElfError}
+use Rattle.elf_commands_steps.specs.ElfError.TheVariants as elf
 use Rattle.elf_commands.specs.ElfAsked.{one, shrinking}
 use Rattle.elf_commands_steps.specs.Images.{AreChanged, TellsNoImage}
 use Rattle.elf_commands.specs.ElfEngine.{IsElfEdited, LeavesElf, MayFailAs, TellsEdit}

@@ -2,19 +2,19 @@
 use Rattle.std.specs.Prelude.{ℕ, ◌≡◌, ◌⊎◌, List, [], ◌∷◌, Option, Some, None, Ok, Err, false, true, map, ⊤}
 use Rattle.std.specs.declared.alloc.Global.{Global}
 use Rattle.std.specs.declared.vec.Vec.{Vec}
-use Rattle.elf_apply.specs.Told.{RefusesAt}
+use Rattle.elf_commands_steps.specs.Told.{RefusesAt}
 use Rattle.elf_commands_steps.specs.Written.{IsImageWritten, IsNoImage}
-use Rattle.elf_apply.specs.declared.batch.ElfBatchError.{ElfBatchError}
-use Rattle.elf_apply.specs.declared.error.ElfError.{ElfError}
-use Rattle.elf_apply.specs.declared.error.ElfError.TheVariants as elf
+use Rattle.elf_commands_steps.specs.ElfBatchError.{ElfBatchError}
+use Rattle.elf_commands_steps.specs.ElfError.{ElfError}
+use Rattle.elf_commands_steps.specs.ElfError.TheVariants as elf
 use Rattle.elf_edits.specs.Batch.{run}
 use Rattle.elf_edits.specs.Edit.{Answer, Edit}
 use Rattle.elf_edits.specs.Laws.{viewed}
 use Rattle.elf_edits.specs.declared.edit.ElfEdit.{ElfEdit}
 use Rattle.elf_image.specs.Image.{Image, image_of, shown}
 use Rattle.elf_image.specs.Views.{View, dynamic_symbol_count, loader_view, section_view}
-use Rattle.elf_write_spec.specs.Final.{final_view}
-use Rattle.elf_write_spec.specs.WrittenFile.{IsWrittenOf}
+use Rattle.elf_commands_steps.specs.Final.{final_view}
+use Rattle.elf_commands_steps.specs.WrittenFile.{IsWrittenOf}
 use Rattle.elf_commands_steps.specs.Groups.{GroupEdit, MakeInTurn, RefuseInTurn, group_model, symbols}
 use Rattle.elf_commands.specs.ElfAsked.{ElfAsked, answered, asks_edits, asks_in_turn, elf_asked, in_turn, of_symbols, one, printing, several, shrinking}
 use Rattle.elf_commands.specs.ElfWords.{edits_model}

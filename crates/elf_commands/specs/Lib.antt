@@ -13,3 +13,4 @@ pub mod Moving
 pub mod Noting
 pub mod Prints
 pub mod ShrinkRuns
+pub use Rattle.elf_commands_steps.specs.ElfError

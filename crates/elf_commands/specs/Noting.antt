@@ -3,8 +3,8 @@ use Rattle.std.specs.Prelude.{ℕ, ◌≡◌, ◌⊎◌, List, [], Option, Some,
 use Rattle.command_words.specs.Rows.{Text}
 use Rattle.command_words.specs.declared.noting.Notes.{Notes}
 use Rattle.command_words.specs.declared.noting.Notes.TheVariants.{LeftOut, Wanted}
-use Rattle.elf_apply.specs.Told.{RefusesBatch}
-use Rattle.elf_apply.specs.declared.batch.ElfBatchError.{ElfBatchError}
+use Rattle.elf_commands_steps.specs.Told.{RefusesBatch}
+use Rattle.elf_commands_steps.specs.ElfBatchError.{ElfBatchError}
 use Rattle.elf_edits.specs.Batch.{run}
 use Rattle.elf_edits.specs.Edit.{Edit}
 use Rattle.elf_image.specs.Image.{Image, image_of}

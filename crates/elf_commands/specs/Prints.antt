@@ -3,8 +3,8 @@ use Rattle.std.specs.Prelude.{◌≡◌, ℕ, List, [], Option, Some, Ok, Err, R
 use Rattle.std.specs.Io.KnownBytes.{Appends}
 use Rattle.elf_commands_steps.specs.Prints.{printed_exec_stack, printed_interpreter, printed_needed}
 use Rattle.elf_commands_steps.specs.Prints.{printed_os_abi, printed_runpath, printed_soname}
-use Rattle.elf_apply.specs.declared.error.ElfError.{ElfError}
-use Rattle.elf_apply.specs.declared.error.ElfError.TheVariants as elf
+use Rattle.elf_commands_steps.specs.ElfError.{ElfError}
+use Rattle.elf_commands_steps.specs.ElfError.TheVariants as elf
 use Rattle.elf_image.specs.Image.{Image, image_of, shown}
 use Rattle.elf_image.specs.Views.{View}
 use Rattle.elf_format.specs.declared.fault.ElfFault.{ElfFault}

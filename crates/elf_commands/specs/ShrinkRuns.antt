@@ -9,7 +9,7 @@ use Rattle.byte_store.specs.Fault.{IsLeft}
 use Rattle.byte_store.specs.declared.writing.Left.{Left}
 use Rattle.byte_store.specs.declared.composed.Difference.{Difference}
 use Rattle.elf_edits.specs.Edit.{Answer, Edit, ShrinkRunPath}
-use Rattle.elf_edits_shrink.specs.Removals.{removed_by}
+use Rattle.elf_commands_steps.specs.Removals.{removed_by}
 use Rattle.elf_format.specs.declared.fault.ElfFault.{ElfFault}
 use Rattle.elf_image.specs.Image.{Image, image_of, shown}
 use Rattle.elf_commands.specs.ElfAsked.{elf_asked, one}

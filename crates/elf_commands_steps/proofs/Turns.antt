@@ -1,7 +1,7 @@
 -- Edits in turn, seen from one of them on.
 use Rattle.std.proofs.Common.{◌≡◌, ◌∙◌, ◌+◌, ◌<◌, ◌++◌, [], ◌∷◌, ℕ, List, drop, get_or, length, map, arith, refl, sym, ap, subst, inl, inr}
 use Rattle.std.proofs.lemmas.List.{drop_more}
-use Rattle.elf_apply.specs.declared.error.ElfError.{ElfError}
+use Rattle.arwen_elf.specs.ElfError.{ElfError}
 use Rattle.elf_image.specs.Image.{Image, shown}
 use Rattle.elf_commands_steps.specs.Groups.{GroupEdit, MakeInTurn, MakesNext, RefuseInTurn, RefusesNext, group_model, plain, plain_of, shown_next, symbols}
 use Rattle.elf_commands_steps.specs.declared.groups.GroupEdit.{GroupEdit as GroupHeld}

@@ -1,7 +1,7 @@
 -- Which error of a command for an ELF file answers one of the libraries below: want of memory is always its own.
-use Rattle.elf_apply.specs.declared.error.ElfError.{ElfError}
-use Rattle.elf_apply.specs.declared.error.ElfError.TheVariants as elf
-use Rattle.elf_apply.specs.declared.batch.ElfBatchError.{ElfBatchError}
+use Rattle.arwen_elf.specs.ElfError.{ElfError}
+use Rattle.arwen_elf.specs.ElfError.TheVariants as elf
+use Rattle.arwen_elf.specs.ElfBatchError.{ElfBatchError}
 use Rattle.byte_store.specs.declared.reading.ReadError.{ReadError}
 use Rattle.byte_store.specs.declared.reading.ReadError.TheVariants as read
 use Rattle.byte_store.specs.declared.difference.ReplaceError.{ReplaceError}

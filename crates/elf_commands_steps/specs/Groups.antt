@@ -1,9 +1,9 @@
 -- Edits that groups of words name, and what they make of an image, one after the other.
 use Rattle.std.specs.Prelude.{ℕ, ◌≡◌, ◌+◌, ◌⊎◌, Bool, true, false, List, [], ◌∷◌, Ok}
-use Rattle.elf_apply.specs.SymbolsTaken.{RefusesSymbolEdit}
-use Rattle.elf_apply.specs.Told.{RefusesAt}
-use Rattle.elf_apply.specs.declared.batch.ElfBatchError.{ElfBatchError}
-use Rattle.elf_apply.specs.declared.error.ElfError.{ElfError}
+use Rattle.arwen_elf.specs.SymbolsTaken.{RefusesSymbolEdit}
+use Rattle.arwen_elf.specs.Told.{RefusesAt}
+use Rattle.arwen_elf.specs.ElfBatchError.{ElfBatchError}
+use Rattle.arwen_elf.specs.ElfError.{ElfError}
 use Rattle.elf_edits.specs.Batch.{run}
 use Rattle.elf_edits.specs.Edit.{Edit}
 use Rattle.elf_edits.specs.EditModel.{edit_model}

@@ -2,9 +2,9 @@
 use Rattle.std.specs.Prelude.{ℕ, ◌≡◌, Option, Some, None, false, true}
 use Rattle.std.specs.declared.alloc.Global.{Global}
 use Rattle.std.specs.declared.vec.Vec.{Vec}
-use Rattle.elf_apply.specs.declared.error.ElfError.{ElfError}
+use Rattle.arwen_elf.specs.ElfError.{ElfError}
 use Rattle.elf_image.specs.Image.{Image}
-use Rattle.elf_write_spec.specs.WrittenFile.{IsWrittenOf}
+use Rattle.arwen_elf.specs.WrittenFile.{IsWrittenOf}
 use Rattle.elf_commands_steps.specs.ElfErrors.{answer_to_elf}
 use Rattle.elf_commands_steps.specs.Written.{IsNoImage}
 use Rattle.elf_commands_steps.specs.declared.error.ElfCommandError.{ElfCommandError}

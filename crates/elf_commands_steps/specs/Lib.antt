@@ -12,3 +12,12 @@ pub mod Shrinking
 pub mod ShrunkImages
 pub mod Storing
 pub mod SymbolTexts
+pub use Rattle.arwen_elf.specs.Final
+pub use Rattle.arwen_elf.specs.WrittenFile
+pub use Rattle.arwen_elf.specs.Causes
+pub use Rattle.arwen_elf.specs.Told
+pub use Rattle.arwen_elf.specs.ElfError
+pub use Rattle.arwen_elf.specs.ElfBatchError
+pub use Rattle.elf_edits_shrink.specs.Removals
+pub use Rattle.elf_edits_shrink.specs.ShrinkModel
+pub use Rattle.elf_edits_shrink.specs.declared.removal.Removed

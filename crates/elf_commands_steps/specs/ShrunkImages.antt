@@ -6,8 +6,8 @@ use Rattle.std.specs.declared.vec.Vec.{Vec}
 use Rattle.byte_store.specs.Composed.{IsDifference, made_of}
 use Rattle.byte_store.specs.declared.composed.Difference.{Difference}
 use Rattle.command_words.specs.Rows.{Text}
-use Rattle.elf_apply.specs.Told.{Refuses}
-use Rattle.elf_apply.specs.declared.error.ElfError.{ElfError}
+use Rattle.arwen_elf.specs.Told.{Refuses}
+use Rattle.arwen_elf.specs.ElfError.{ElfError}
 use Rattle.elf_edits.specs.Edit.{Edit}
 use Rattle.elf_edits.specs.Edited.{step}
 use Rattle.elf_edits.specs.Shrunk.{Removal}

@@ -1,6 +1,6 @@
 //! Edits that groups of words name, of either kind.
 ghost use Rattle.std.specs.Prelude.{◌≡◌, ◌++◌, ◌∷◌, [], IfErr, IfOk, OnOk, map};
-ghost use Rattle.elf_apply.specs.Taken.{edits_model};
+ghost use Rattle.arwen_elf.specs.Taken.{edits_model};
 ghost use Rattle.elf_edits.specs.EditModel.{edit_model};
 ghost use Rattle.elf_commands_steps.specs.Groups.{MakeInTurn, MakesNext, RefusesNext, TellsInTurn, group_model, has_symbols as are_some_symbols, plain_of, shown_next};
 ghost use Rattle.elf_image.specs.Image.{shown};

@@ -1,7 +1,7 @@
 //! Run paths of images that shrink, and what tells which directories went.
 ghost use Rattle.std.specs.Prelude.{◌≡◌, IfErr, IfOk, map, string_bytes};
 ghost use Rattle.byte_store.specs.Composed.{IsDifference, made_of};
-ghost use Rattle.elf_apply.specs.Told.{Refuses};
+ghost use Rattle.arwen_elf.specs.Told.{Refuses};
 ghost use Rattle.elf_edits.specs.Edit.{ShrinkRunPath};
 ghost use Rattle.elf_edits.specs.Edited.{step};
 ghost use Rattle.elf_edits_shrink.specs.ShrinkModel.{answer_model, removal_model};

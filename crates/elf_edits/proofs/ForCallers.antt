@@ -30,3 +30,4 @@ pub use Rattle.elf_edits.proofs.LookupSteps.{is_some-map}
 pub use Rattle.elf_edits.proofs.ShrunkLaws.{none_gone}
 -- which segments are spare isn't changed by alignments and the stack's flags, and once they have gone no further one is
 pub use Rattle.elf_edits.proofs.SpareLaws.{others_found, reclaimed_again, reclaimed_aligned, reclaimed_flagged}
+pub use Rattle.elf_image_uses.proofs.ForCallers.{keeps_all, keeps_none, keeps_one, kept_firsts_rise}

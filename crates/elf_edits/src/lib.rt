@@ -22,3 +22,7 @@ pub use crate::facts::Facts;
 pub use crate::list::NewList;
 pub use crate::of_image::image_facts;
 pub use crate::symbols::edit_symbols;
+pub use elf_image_uses::{
+    can_renumber, has_opaque_user, is_section_used, is_symbol_used, remaining_segments,
+    symbols_along, table_number,
+};

@@ -38,3 +38,4 @@ pub use Rattle.elf_format.proofs.TableSteps
 pub use Rattle.elf_format.proofs.ViewsAgree
 -- how many records, headers and versions there are, and the numbers below a number
 pub use Rattle.elf_format.proofs.Lengths
+pub use Rattle.patch_bytes.proofs.MemoryLaws

@@ -17,3 +17,7 @@ pub mod ReadNumbers
 pub mod Answers
 pub mod Stages
 pub mod Seen
+pub use Rattle.patch_bytes.specs.Memory
+pub use Rattle.patch_bytes.specs.ByteString
+pub use Rattle.patch_bytes.specs.Number
+pub use Rattle.patch_bytes.specs.declared.number.Wide

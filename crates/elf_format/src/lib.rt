@@ -28,3 +28,4 @@ pub use crate::header::Header;
 pub use crate::section_data::SectionData;
 pub use crate::version_id::VersionId;
 pub use crate::view_fault::ViewFault;
+pub use patch_bytes::{ByteOrder2, ByteString, Wide};

@@ -7,7 +7,7 @@ use Rattle.elf_format.specs.declared.fault.ElfFault.TheVariants.{BadText}
 use Rattle.elf_format.specs.File.{Parts}
 use Rattle.elf_format.specs.Image.{Image, image_in, image_of}
 use Rattle.elf_format.specs.Stages.{last_rules, link_rules, parts_read}
-use Rattle.elf_image_rules.specs.Read.{Refuses}
+use Rattle.elf_image_versions.specs.Read.{Refuses}
 use Rattle.elf_format.specs.Rules.{◌>>=◌, accepted_parts, checked, do_texts_end, placement_rules, rule, there_or}
 use Rattle.elf_image.specs.ImageSteps.{TextsRead, image_by_groups}
 use Rattle.elf_image.proofs.ImageSteps.{image_in-groups}

@@ -14,7 +14,7 @@ use Rattle.elf_format.specs.Rules.{checked, data_of, file_of, there_or}
 use Rattle.elf_format.specs.Stages.{last_rules, link_rules, parts_read}
 use Rattle.elf_format.specs.Versions.{VersionDefinition, VersionNeeds}
 use Rattle.elf_format.specs.Views.{NamedSymbol}
-use Rattle.elf_image_rules.specs.Read.{Refuses}
+use Rattle.elf_image_versions.specs.Read.{Refuses}
 use Rattle.elf_image.specs.declared.read.Gathered.{Gathered}
 use Rattle.elf_image.specs.declared.read.Listed.{Listed}
 use Rattle.elf_image.specs.declared.read.Named.{Named}

@@ -40,3 +40,9 @@ pub mod Lookups
 pub mod ImageSteps
 pub mod Copies
 pub mod TextSteps
+pub use Rattle.elf_image_versions.specs.declared.version.VersionDef
+pub use Rattle.elf_image_symbol_edits.specs.FrontText
+pub use Rattle.elf_image_symbol_edits.specs.Loan
+pub use Rattle.elf_image_symbol_edits.specs.TableSymbols
+pub use Rattle.elf_image_parts.specs.declared.section.Section
+pub use Rattle.elf_image_symbol_edits.specs.EditedList

@@ -1,7 +1,7 @@
 -- What stands in a dynamic list before its DT_NULL, and changes of one (gABI, Dynamic Section).
 use Rattle.std.specs.Prelude.{ℕ, zero, suc, ◌≡◌, ◌≢◌, ◌-◌, List, [], ◌∷◌, length, map, filter, take, Bool, true, not, ◌&&◌, ◌||◌, ◌==◌, Option, Some, None, IsTrue, if◌then◌else◌}
 use Rattle.std.specs.List.{filter_map, list_any, slice_get}
-use Rattle.patch_bytes.specs.Memory.{◌>>=◌}
+use Rattle.elf_format.specs.Memory.{◌>>=◌}
 use Rattle.elf_format.specs.declared.constants.TheConstants.{DT_NULL}
 use Rattle.elf_format.specs.Dynamic.{Auto, Entry, Integer, Text, table_tags, text_tags}
 use Rattle.elf_format.specs.Image.{entry_tag}

@@ -1,7 +1,7 @@
 -- The parts of an image, seen without where their bytes lie.
 use Rattle.std.specs.Prelude.{ℕ, List, Option}
 use Rattle.std.specs.Option.{option_map}
-use Rattle.patch_bytes.specs.ByteString.{StringValue}
+use Rattle.elf_format.specs.ByteString.{StringValue}
 use Rattle.elf_image_parts.specs.declared.dynamic.Dynamic.{Dynamic}
 use Rattle.elf_image_parts.specs.declared.dynamic.Dynamic.TheVariants as kinds
 use Rattle.elf_image_parts.specs.declared.section.Section.{Section}

@@ -2,8 +2,8 @@
 -- An edit that moved sections added them, and the next one may lay those sections out anew in their place.
 use Rattle.std.specs.Prelude.{ℕ, ◌+◌, max, List, [], ◌∷◌, filter, fold, map, Bool, ◌&&◌, ◌||◌, not, Option, Some, find, nat_le, nat_lt, ◌==◌, if◌then◌else◌, count_by, sum_by}
 use Rattle.std.specs.List.{list_any}
-use Rattle.patch_bytes.specs.Memory.{◌>>=◌}
-use Rattle.patch_bytes.specs.Number.{field}
+use Rattle.elf_format.specs.Memory.{◌>>=◌}
+use Rattle.elf_format.specs.Number.{field}
 use Rattle.elf_format.specs.declared.constants.TheConstants.{PT_DYNAMIC, PT_GNU_PROPERTY, PT_GNU_STACK, PT_INTERP, PT_LOAD, PT_NOTE, SHF_ALLOC, SHT_DYNAMIC, SHT_DYNSYM, SHT_GNU_HASH, SHT_GNU_VERDEF, SHT_GNU_VERNEED, SHT_GNU_VERSYM, SHT_HASH, SHT_NOTE, SHT_PROGBITS, SHT_STRTAB}
 use Rattle.elf_format.specs.declared.records.SegmentHeader.{SegmentHeader}
 use Rattle.elf_format.specs.File.{is_loaded, segment_of_type}

@@ -1,7 +1,7 @@
 -- From where on segments are spare: what is kept of the facts once these were looked at.
 use Rattle.std.specs.Prelude.{ℕ, max, List, [], ◌∷◌, filter, fold, map, Bool, ◌&&◌, not, Option, Some, None, nat_le, nat_lt, ◌==◌, if◌then◌else◌, sum_by}
 use Rattle.std.specs.List.{list_any}
-use Rattle.patch_bytes.specs.Number.{field}
+use Rattle.elf_format.specs.Number.{field}
 use Rattle.elf_format.specs.declared.constants.TheConstants.{PT_DYNAMIC, PT_GNU_PROPERTY, PT_INTERP, PT_LOAD, PT_NOTE, SHF_ALLOC}
 use Rattle.elf_format.specs.declared.records.SegmentHeader.{SegmentHeader}
 use Rattle.elf_format.specs.File.{is_loaded}

@@ -1,6 +1,6 @@
 ghost use Rattle.std.specs.Prelude.{◌≡◌};
 
-use patch_bytes::ByteString;
+use elf_format::ByteString;
 use std::alloc::{AllocError, Global};
 
 /// An entry of the dynamic list (gABI, Dynamic Section).

@@ -1,7 +1,7 @@
 //! The entries of a dynamic list as they are read, and changes of the list (gABI, Dynamic Section).
 ghost use Rattle.std.specs.Prelude.{◌≡◌, ◌<◌, ◌≤◌, length, map, vec_len};
 ghost use Rattle.std.specs.List.{remove};
-ghost use Rattle.patch_bytes.specs.Memory.{memory_of};
+ghost use Rattle.elf_format.specs.Memory.{memory_of};
 ghost use Rattle.elf_format.specs.Answers.{Gives};
 ghost use Rattle.elf_format.specs.Dynamic.{shown_entry};
 ghost use Rattle.elf_format.specs.Options.{each};
@@ -10,10 +10,10 @@ ghost use Rattle.elf_image_parts.specs.DynamicList.{retagged, with_tag_at, witho
 ghost use Rattle.elf_image_parts.specs.PartModels.{entry_model};
 
 use crate::dynamic::Dynamic;
+use elf_format::ByteString;
 use elf_format::entries::{ShownEntry, show_entry};
 use elf_format::records::EntryNumbers;
 use elf_format::view_fault::ViewFault;
-use patch_bytes::ByteString;
 use std::alloc::Global;
 
 /// Removes the entry at a position. Takes no memory.

@@ -1,5 +1,5 @@
+use elf_format::ByteString;
 use elf_format::section_data::SectionData;
-use patch_bytes::ByteString;
 
 /// A section (gABI, Sections). Offsets and sizes are in bytes.
 #[derive(Debug, Drop)]

@@ -11,8 +11,8 @@ use Rattle.std.proofs.lemmas.List.Edits.{length-swap, swapped_from_swap}
 use Rattle.std.proofs.lemmas.List.Sorted.{IsPermutation-keeps, IsPermutation-sym}
 use Rattle.std.proofs.lemmas.List.Sums.{AllPass-from_list_all, list_all-from_AllPass}
 use Rattle.elf_image_placement.specs.PlacementSteps.{follows_end}
-use Rattle.elf_format.specs.declared.range.Range.{Range}
-use Rattle.elf_format.specs.Ranges.{all_apart, apart, end_of}
+use Rattle.elf_image_rules.specs.Range.{Range}
+use Rattle.elf_image_rules.specs.Ranges.{all_apart, apart, end_of}
 
 -- ## Two ranges
 

@@ -8,12 +8,12 @@ use Rattle.std.proofs.lemmas.List.{get_or_default}
 use Rattle.std.proofs.lemmas.List.Folds.{list_all-map, list_all_at}
 use Rattle.std.proofs.lemmas.List.Sorted.{list_any-IsPermutation}
 use Rattle.std.proofs.lemmas.List.Sums.{list_all-from_AllPass}
-use Rattle.elf_format.specs.File.{loads_of}
-use Rattle.elf_format.specs.Placement.{crosses_file_end, file_end, is_uninitialized, uninitialized_clear}
-use Rattle.elf_format.specs.Places.{Place, place_of, places_of}
+use Rattle.elf_image_rules.specs.File.{loads_of}
+use Rattle.elf_image_rules.specs.Placement.{crosses_file_end, file_end, is_uninitialized, uninitialized_clear}
+use Rattle.elf_image_rules.specs.Places.{Place, place_of, places_of}
 use Rattle.elf_image_placement.specs.PlacementSteps.{AreEndsInOrder, is_clear_if_uninitialized, lies_inside}
-use Rattle.elf_format.specs.declared.records.SectionHeader.{SectionHeader}
-use Rattle.elf_format.specs.declared.records.SegmentHeader.{SegmentHeader}
+use Rattle.elf_image_rules.specs.SectionHeader.{SectionHeader}
+use Rattle.elf_image_rules.specs.SegmentHeader.{SegmentHeader}
 use Rattle.elf_image_placement.proofs.PlacementHeld.{all_if_picked}
 
 -- ## Places in order

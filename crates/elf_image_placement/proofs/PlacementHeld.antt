@@ -10,15 +10,15 @@ use Rattle.std.proofs.lemmas.List.{get_or-map, get_or_default, length-map}
 use Rattle.std.proofs.lemmas.List.Folds.{list_all-map, list_any_at, list_any_none}
 use Rattle.std.proofs.lemmas.List.Sorted.{All-permutation, IsPermutation-map, list_any-IsPermutation}
 use Rattle.std.proofs.lemmas.List.Elements.{filter_passes}
-use Rattle.elf_format.specs.declared.constants.TheConstants.{PT_LOAD}
-use Rattle.elf_format.specs.File.{loads_of}
-use Rattle.elf_format.specs.Placement.{file_part, holds, is_stored, sections_held}
-use Rattle.elf_format.specs.Places.{Place, file_range, occupies_file, occupies_memory, place_of, places_of}
+use Rattle.elf_image_rules.specs.TheConstants.{PT_LOAD}
+use Rattle.elf_image_rules.specs.File.{loads_of}
+use Rattle.elf_image_rules.specs.Placement.{file_part, holds, is_stored, sections_held}
+use Rattle.elf_image_rules.specs.Places.{Place, file_range, occupies_file, occupies_memory, place_of, places_of}
 use Rattle.elf_image_placement.specs.PlacementSteps.{AreInTurn, AreLoadsInTurn, is_filled_load, is_held_if_stored}
-use Rattle.elf_format.specs.declared.range.Range.{Range}
-use Rattle.elf_format.specs.Ranges.{all_apart, apart, lies_in}
-use Rattle.elf_format.specs.declared.records.SectionHeader.{SectionHeader}
-use Rattle.elf_format.specs.declared.records.SegmentHeader.{SegmentHeader}
+use Rattle.elf_image_rules.specs.Range.{Range}
+use Rattle.elf_image_rules.specs.Ranges.{all_apart, apart, lies_in}
+use Rattle.elf_image_rules.specs.SectionHeader.{SectionHeader}
+use Rattle.elf_image_rules.specs.SegmentHeader.{SegmentHeader}
 use Rattle.elf_image_placement.proofs.PlacementApart.{all_apart-IsPermutation, apart-order, apart_at}
 
 -- ## The holder of a section

@@ -7,13 +7,13 @@ use Rattle.std.specs.List.Sorted.{IsNonDecreasingBy, IsPermutation}
 use Rattle.std.proofs.Math.Bool.{and-true}
 use Rattle.std.proofs.lemmas.List.Folds.{list_all-map}
 use Rattle.elf_image_placement.specs.PlacementSteps.{follows_end, sections_end_by, stored_of}
-use Rattle.elf_format.specs.File.{is_allocated, is_loaded, loads_of}
-use Rattle.elf_format.specs.Placement.{ends_by, file_part, is_stored, ranges_in_file, something_loaded, stored_clear_of, stored_ranges}
-use Rattle.elf_format.specs.Places.{file_range, occupies_file, occupies_memory, place_of, places_of}
-use Rattle.elf_format.specs.declared.range.Range.{Range}
-use Rattle.elf_format.specs.Ranges.{all_apart, apart}
-use Rattle.elf_format.specs.declared.records.SectionHeader.{SectionHeader}
-use Rattle.elf_format.specs.declared.records.SegmentHeader.{SegmentHeader}
+use Rattle.elf_image_rules.specs.File.{is_allocated, is_loaded, loads_of}
+use Rattle.elf_image_rules.specs.Placement.{ends_by, file_part, is_stored, ranges_in_file, something_loaded, stored_clear_of, stored_ranges}
+use Rattle.elf_image_rules.specs.Places.{file_range, occupies_file, occupies_memory, place_of, places_of}
+use Rattle.elf_image_rules.specs.Range.{Range}
+use Rattle.elf_image_rules.specs.Ranges.{all_apart, apart}
+use Rattle.elf_image_rules.specs.SectionHeader.{SectionHeader}
+use Rattle.elf_image_rules.specs.SegmentHeader.{SegmentHeader}
 use Rattle.elf_image_placement.proofs.PlacementApart.{all_apart-IsPermutation, follows_end-all_apart}
 
 -- after a sort by starts, neighbours tell whether all are apart

@@ -2,13 +2,13 @@
 use Rattle.std.specs.Prelude.{ℕ, ◌≤◌, List, [], ◌∷◌, filter, map, Bool, true, ◌&&◌, ◌||◌, not, nat_le, nat_lt, ◌==◌, if◌then◌else◌}
 use Rattle.std.specs.List.{AllPairs, list_all, list_any}
 use Rattle.std.specs.List.Sorted.{IsNonDecreasing, IsPermutation}
-use Rattle.elf_format.specs.File.{is_loaded, loads_of, has_file_bytes}
-use Rattle.elf_format.specs.Placement.{file_end, file_part, holds, is_stored, is_uninitialized, ends_by}
-use Rattle.elf_format.specs.Places.{Place, file_range, memory_range, place_of}
-use Rattle.elf_format.specs.declared.range.Range.{Range}
-use Rattle.elf_format.specs.Ranges.{end_of}
-use Rattle.elf_format.specs.declared.records.SectionHeader.{SectionHeader}
-use Rattle.elf_format.specs.declared.records.SegmentHeader.{SegmentHeader}
+use Rattle.elf_image_rules.specs.File.{is_loaded, loads_of, has_file_bytes}
+use Rattle.elf_image_rules.specs.Placement.{file_end, file_part, holds, is_stored, is_uninitialized, ends_by}
+use Rattle.elf_image_rules.specs.Places.{Place, file_range, memory_range, place_of}
+use Rattle.elf_image_rules.specs.Range.{Range}
+use Rattle.elf_image_rules.specs.Ranges.{end_of}
+use Rattle.elf_image_rules.specs.SectionHeader.{SectionHeader}
+use Rattle.elf_image_rules.specs.SegmentHeader.{SegmentHeader}
 
 -- from left to right each range that isn't empty begins where the one before it ends or later; the first, at
 -- this place or later

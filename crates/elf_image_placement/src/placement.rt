@@ -1,19 +1,19 @@
 ghost use Rattle.std.specs.Prelude.{◌≡◌, ◌∷◌, [], ◌+◌, ◌<◌, ◌==◌, IfOk, IsTrue, filter, map, not};
 ghost use Rattle.std.specs.List.{list_all, list_any};
 ghost use Rattle.std.specs.List.Sorted.{IsNonDecreasing};
-ghost use Rattle.elf_format.specs.File.{is_allocated, is_loaded, loads_of};
-ghost use Rattle.elf_format.specs.Placement.{ends_by, file_end, file_part, file_parts_fit as all_fit, header_table_loaded as is_table_loaded, holds, memory_part, ranges_in_file as all_in_file, sections_held as all_held, segments_apart as all_segments_apart, something_loaded as some_loaded, stored_apart as all_stored_apart, stored_clear_of, stored_ranges as all_stored, uninitialized_clear as all_clear};
-ghost use Rattle.elf_format.specs.Places.{file_range, place_of, places_of};
+ghost use Rattle.elf_image_rules.specs.File.{is_allocated, is_loaded, loads_of};
+ghost use Rattle.elf_image_rules.specs.Placement.{ends_by, file_end, file_part, file_parts_fit as all_fit, header_table_loaded as is_table_loaded, holds, memory_part, ranges_in_file as all_in_file, sections_held as all_held, segments_apart as all_segments_apart, something_loaded as some_loaded, stored_apart as all_stored_apart, stored_clear_of, stored_ranges as all_stored, uninitialized_clear as all_clear};
+ghost use Rattle.elf_image_rules.specs.Places.{file_range, place_of, places_of};
 ghost use Rattle.elf_image_placement.specs.PlacementSteps.{AreEndsInOrder, AreInTurn, AreLoadsInTurn, follows_end, is_clear_if_uninitialized, is_filled_load, is_held_if_stored, lies_inside, sections_end_by, stored_of};
-ghost use Rattle.elf_format.specs.Ranges.{all_apart as no_two_meet, apart, lies_in};
+ghost use Rattle.elf_image_rules.specs.Ranges.{all_apart as no_two_meet, apart, lies_in};
 ghost use Rattle.elf_image_rules.specs.Read.{Passes, parts_model};
-ghost use Rattle.elf_format.specs.Rules.{are_sections_loaded as all_loaded, checked, header_ranges, placement_rules, segment_table_range};
+ghost use Rattle.elf_image_rules.specs.Rules.{are_sections_loaded as all_loaded, checked, header_ranges, placement_rules, segment_table_range};
 
-use elf_format::constants::PT_PHDR;
-use elf_format::fault::ElfFault;
-use elf_format::range::Range;
-use elf_format::records::{SectionHeader, SegmentHeader};
+use elf_image_rules::constants::PT_PHDR;
+use elf_image_rules::fault::ElfFault;
 use elf_image_rules::headers::Headers;
+use elf_image_rules::range::Range;
+use elf_image_rules::records::{SectionHeader, SegmentHeader};
 use std::alloc::{AllocError, Global};
 
 // Whether the bytes of each section lie in a file of that length.

@@ -1,7 +1,7 @@
 -- The steps of looking for DT_NULL without keeping the entries before it.
 use Rattle.std.proofs.Common.{◌≡◌, ◌≤◌, ◌<◌, ℕ, ◌+◌, ◌-◌, true, false, List, [], ◌∷◌, length, take, drop, refl, sym, ap, ◌∙◌, Option, Some, None}
 use Rattle.std.specs.Prelude.{is_some}
-use Rattle.patch_bytes.specs.Memory.{memory_of}
+use Rattle.elf_format.specs.Memory.{memory_of}
 use Rattle.elf_format.specs.Dynamic.{entries_at}
 use Rattle.elf_format.specs.declared.form.Form.{Form}
 use Rattle.elf_format.specs.declared.records.EntryNumbers.{EntryNumbers}

@@ -1,2 +1,11 @@
 pub mod Read
 pub mod LinkSteps
+pub use Rattle.elf_format.specs.Rules
+pub use Rattle.elf_format.specs.File
+pub use Rattle.elf_format.specs.Placement
+pub use Rattle.elf_format.specs.Places
+pub use Rattle.elf_format.specs.Ranges
+pub use Rattle.elf_format.specs.declared.constants.TheConstants
+pub use Rattle.elf_format.specs.declared.range.Range
+pub use Rattle.elf_format.specs.declared.records.SectionHeader
+pub use Rattle.elf_format.specs.declared.records.SegmentHeader

@@ -4,7 +4,7 @@
 pub(crate) mod tables;
 
 ghost use Rattle.std.specs.Prelude.{◌≡◌, ◌≢◌, IfErr, IfOk, is_some};
-ghost use Rattle.patch_bytes.specs.Memory.{memory_of};
+ghost use Rattle.elf_format.specs.Memory.{memory_of};
 ghost use Rattle.elf_format.specs.declared.fault.ElfFault.TheVariants.{Memory};
 ghost use Rattle.elf_format.specs.Dynamic.{entries_at};
 ghost use Rattle.elf_format.specs.Stages.{link_rules};

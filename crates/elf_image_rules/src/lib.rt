@@ -7,3 +7,5 @@ pub mod dynamic;
 pub mod headers;
 mod kind;
 pub mod linked;
+
+pub use elf_format::{constants, fault, range, records};

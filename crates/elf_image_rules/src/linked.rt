@@ -8,6 +8,7 @@ ghost use Rattle.elf_format.specs.Rules.{are_linked as all_linked, are_tables_li
 
 use crate::headers::Headers;
 use crate::kind::{Run, covered, no_index_within, records_from};
+use elf_format::Wide;
 use elf_format::constants::{
     EM_MIPS, PT_DYNAMIC, PT_INTERP, PT_PHDR, SHN_LORESERVE, SHT_DYNAMIC, SHT_DYNSYM, SHT_GNU_HASH,
     SHT_GNU_VERDEF, SHT_GNU_VERNEED, SHT_GNU_VERSYM, SHT_HASH, SHT_NOBITS, SHT_NOTE, SHT_STRTAB,
@@ -18,7 +19,6 @@ use elf_format::lookups::{linked_section, section_bytes};
 use elf_format::numbers::read_field;
 use elf_format::records::{SectionHeader, SegmentHeader};
 use elf_format::section_data::SectionData;
-use patch_bytes::Wide;
 use std::alloc::{AllocError, Global};
 
 /// Whether what comes once comes once, and tables are linked to tables of the right kinds (gABI, Sections,

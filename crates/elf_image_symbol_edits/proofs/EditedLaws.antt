@@ -5,9 +5,9 @@ use Rattle.std.specs.List.{All}
 use Rattle.std.proofs.lemmas.List.{get_or-map, length-map}
 use Rattle.std.proofs.lemmas.List.Edits.{get_or-insert_at, get_or-insert_below, length-insert}
 use Rattle.std.proofs.lemmas.Option.{get_or_from_slice_get, slice_get-map, slice_get_within}
-use Rattle.elf_format.specs.Image.{counted}
-use Rattle.elf_format.specs.Views.{NamedSymbol}
-use Rattle.elf_format.proofs.ForCallers.Lengths.{length-counted}
+use Rattle.elf_image_symbols.specs.Image.{counted}
+use Rattle.elf_image_symbols.specs.Views.{NamedSymbol}
+use Rattle.elf_image_symbols.proofs.ForCallers.Lengths.{length-counted}
 use Rattle.elf_image_symbol_edits.specs.declared.change.Change.{Change}
 use Rattle.elf_image_symbol_edits.specs.declared.edited_symbols.EditedSymbols.TheInside.{Inside}
 use Rattle.elf_image_symbol_edits.specs.Changes.{AreChanges, HasName, IsGapFor, IsPlaceOf, Leaves, changed_by, number_of, read_at, symbol_now}

@@ -4,3 +4,4 @@ pub mod ChangeLaws
 pub mod SymbolLaws
 pub mod EditedLaws
 pub mod SpreadLaws
+pub mod ForCallers

@@ -5,7 +5,7 @@ use Rattle.std.specs.List.{All, items_where_true}
 use Rattle.std.proofs.lemmas.Bool.{cases_lt, eq-eqb, ne_eqb, or_from, or_left, or_right}
 use Rattle.std.proofs.lemmas.List.{drop-map, map-append, take-map}
 use Rattle.std.proofs.lemmas.List.Elements.{All-append, All-cons, All-drop, All-head, All-nil, All-tail, All-take}
-use Rattle.elf_format.specs.Options.{is_one_of}
+use Rattle.elf_image_symbols.specs.Options.{is_one_of}
 use Rattle.elf_image_symbol_edits.specs.EditedList.{changed_at}
 
 -- ## One element is changed

@@ -3,9 +3,9 @@ use Rattle.std.proofs.Common.{◌≡◌, ◌≢◌, ℕ, zero, suc, ◌+◌, ◌
 use Rattle.std.specs.Prelude.{not, remove}
 use Rattle.std.proofs.lemmas.List.{append-nil, ext_get_or}
 use Rattle.std.proofs.lemmas.List.Elements.{filter-append}
-use Rattle.elf_format.specs.Image.{counted}
-use Rattle.elf_format.specs.Options.{is_one_of}
-use Rattle.elf_format.proofs.ForCallers.Lengths.{length-counted, slice_index-counted}
+use Rattle.elf_image_symbols.specs.Image.{counted}
+use Rattle.elf_image_symbols.specs.Options.{is_one_of}
+use Rattle.elf_image_symbols.proofs.ForCallers.Lengths.{length-counted, slice_index-counted}
 use Rattle.elf_image_symbol_edits.specs.EditedList.{changed_at, stays}
 use Rattle.elf_image_symbol_edits.specs.Rising.{AreRising, numbers_there}
 

@@ -5,9 +5,9 @@ use Rattle.std.specs.List.{All}
 use Rattle.std.proofs.lemmas.Bool.{cases_lt, cond-false, cond-true, eqb-false, eqb-true, ne_eqb}
 use Rattle.std.proofs.lemmas.List.{get_or-map, length-map, map-append}
 use Rattle.std.proofs.lemmas.List.Elements.{All-cons, All-nil}
-use Rattle.elf_format.specs.Image.{counted}
-use Rattle.elf_format.specs.Views.{NamedSymbol}
-use Rattle.elf_format.proofs.ForCallers.Lengths.{length-counted, slice_index-counted}
+use Rattle.elf_image_symbols.specs.Image.{counted}
+use Rattle.elf_image_symbols.specs.Views.{NamedSymbol}
+use Rattle.elf_image_symbols.proofs.ForCallers.Lengths.{length-counted, slice_index-counted}
 use Rattle.elf_image_symbol_edits.specs.declared.change.Change.{Change}
 use Rattle.elf_image_symbol_edits.specs.declared.edited_symbols.EditedSymbols.TheInside.{Inside}
 use Rattle.elf_image_symbol_edits.specs.Changes.{AreChanges, HasName, change_at, change_of, changed, changed_by, idle_change, number_of, read_at, starts_at, symbol_now}

@@ -6,10 +6,10 @@ use Rattle.std.proofs.lemmas.Bool.{both_ways, cases_eq}
 use Rattle.std.proofs.lemmas.List.{ext_get_or, get_or-map, length-map}
 use Rattle.std.proofs.lemmas.Option.{same_Some, slice_get-get_or}
 use Rattle.std.proofs.lemmas.Slice.Eq.{bytes_eq-Decides}
-use Rattle.elf_format.specs.declared.version_id.VersionId.{VersionId}
-use Rattle.elf_format.specs.Image.{counted}
-use Rattle.elf_format.specs.Views.{NamedSymbol}
-use Rattle.elf_format.proofs.ForCallers.Lengths.{length-counted, slice_index-counted}
+use Rattle.elf_image_symbols.specs.VersionId.{VersionId}
+use Rattle.elf_image_symbols.specs.Image.{counted}
+use Rattle.elf_image_symbols.specs.Views.{NamedSymbol}
+use Rattle.elf_image_symbols.proofs.ForCallers.Lengths.{length-counted, slice_index-counted}
 use Rattle.elf_image_symbols.specs.TableSymbols.{symbol_with}
 use Rattle.elf_image_symbol_edits.specs.declared.change.Change.{Change}
 use Rattle.elf_image_symbol_edits.specs.Changes.{HasName, IsGapFor, IsPlaceOf, Leaves, change_of, changed, changed_by, no_symbol, number_of, read_at, symbol_now, version_by}

@@ -1,8 +1,8 @@
 -- The changes of symbols.
 use Rattle.std.specs.Prelude.{ℕ, ◌≡◌, ◌<◌, ◌≤◌, ◌⊎◌, List, [], ◌∷◌, length, map, Bool, false, ◌==◌, if◌then◌else◌, Option, Some, None, All, find, slice_index_or, unwrap_or}
-use Rattle.patch_bytes.specs.ByteString.{borrowed_string}
-use Rattle.elf_format.specs.declared.version_id.VersionId.{VersionId}
-use Rattle.elf_format.specs.Views.{NamedSymbol}
+use Rattle.elf_image_symbols.specs.ByteString.{borrowed_string}
+use Rattle.elf_image_symbols.specs.VersionId.{VersionId}
+use Rattle.elf_image_symbols.specs.Views.{NamedSymbol}
 use Rattle.elf_image_symbol_edits.specs.declared.change.Change.{Change}
 use Rattle.elf_image_symbol_edits.specs.EditedList.{IsName, as_global}
 use Rattle.elf_image_symbol_edits.specs.Rising.{AreRising}

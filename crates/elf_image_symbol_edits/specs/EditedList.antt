@@ -1,10 +1,10 @@
 -- The symbols of a section, and what edits make of them.
 use Rattle.std.specs.Prelude.{ℕ, zero, suc, ◌≡◌, ◌<◌, ◌⊎◌, List, [], ◌∷◌, length, map, filter, Bool, false, not, ◌==◌, IsTrue, Option, Some, option_map, slice_get, slice_index}
 use Rattle.std.specs.List.{items_where_true, list_any}
-use Rattle.elf_format.specs.declared.version_id.VersionId.{VersionId}
-use Rattle.elf_format.specs.Image.{counted}
-use Rattle.elf_format.specs.Options.{is_one_of}
-use Rattle.elf_format.specs.Views.{NamedSymbol}
+use Rattle.elf_image_symbols.specs.VersionId.{VersionId}
+use Rattle.elf_image_symbols.specs.Image.{counted}
+use Rattle.elf_image_symbols.specs.Options.{is_one_of}
+use Rattle.elf_image_symbols.specs.Views.{NamedSymbol}
 
 -- The symbols as they were read; the numbers at read of those that are there, in order; and these symbols as they are now.
 pub record EditedList : Type 0 where

@@ -5,3 +5,6 @@ pub mod Changes
 pub mod EditedModel
 pub mod Loan
 pub mod Rows
+pub use Rattle.elf_image_symbols.specs.SymbolModel
+pub use Rattle.elf_image_symbols.specs.TableSymbols
+pub use Rattle.elf_image_symbols.specs.FrontText

@@ -1,6 +1,6 @@
 -- What a loan of symbols shows.
 use Rattle.std.specs.Prelude.{ℕ, List}
-use Rattle.elf_format.specs.Views.{NamedSymbol}
+use Rattle.elf_image_symbols.specs.Views.{NamedSymbol}
 use Rattle.elf_image_symbol_edits.specs.declared.symbols_now.SymbolsNow.{SymbolsNow}
 
 -- the symbols that are there, as they are now

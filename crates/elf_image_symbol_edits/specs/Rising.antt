@@ -1,6 +1,6 @@
 -- Numbers that rise.
 use Rattle.std.specs.Prelude.{ℕ, ◌+◌, ◌<◌, ◌≤◌, List, [], ◌∷◌, Bool, if◌then◌else◌}
-use Rattle.elf_format.specs.Image.{counted}
+use Rattle.elf_image_symbols.specs.Image.{counted}
 
 -- the numbers rise; none is below the first bound, and all are below the second
 abbrev pub AreRising : ℕ → ℕ → List ℕ → Type 0

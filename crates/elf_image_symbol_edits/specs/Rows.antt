@@ -1,8 +1,8 @@
 -- Symbols under edits: examples that were worked out by hand.
 use Rattle.std.specs.Prelude.{ℕ, ◌≡◌, List, [], ◌∷◌, map, true, false, Option, Some, None, remove}
-use Rattle.patch_bytes.specs.ByteString.{borrowed_string, owned_string}
-use Rattle.elf_format.specs.declared.version_id.VersionId.{VersionId}
-use Rattle.elf_format.specs.Views.{NamedSymbol}
+use Rattle.elf_image_symbols.specs.ByteString.{borrowed_string, owned_string}
+use Rattle.elf_image_symbols.specs.VersionId.{VersionId}
+use Rattle.elf_image_symbols.specs.Views.{NamedSymbol}
 use Rattle.elf_image_symbol_edits.specs.declared.change.Change.{Change}
 use Rattle.elf_image_symbol_edits.specs.Changes.{change_at, symbol_now}
 use Rattle.elf_image_symbol_edits.specs.EditedList.{EditedList, as_read, changed_at, with_global_version, with_name, without_numbers}

@@ -4,9 +4,8 @@ ghost use Rattle.elf_image_symbols.specs.SymbolModel.{symbol_model};
 ghost use Rattle.elf_image_symbol_edits.specs.Changes.{Leaves, changed_by, idle_change, version_by};
 ghost use Rattle.elf_image_symbol_edits.specs.EditedList.{as_global};
 
-use elf_format::version_id::VersionId;
-use elf_image_symbols::{Symbol, Symbols};
-use patch_bytes::ByteString;
+use elf_image_symbols::version_id::VersionId;
+use elf_image_symbols::{ByteString, Symbol, Symbols};
 use std::alloc::{AllocError, Global};
 
 // What edits made of one symbol.

@@ -1,14 +1,13 @@
 //! The changes of symbols, in the order of their numbers.
 ghost use Rattle.std.specs.Prelude.{◌≡◌, ◌+◌, ◌<◌, ◌≤◌, ◌↔◌, ℕ, All, IfOk, IsTrue, MatchResult, insert, length, map, option_copied, true, vec_capacity};
 ghost use Rattle.std.specs.List.Sorted.{IsNonDecreasingBy};
-ghost use Rattle.elf_format.specs.Image.{counted};
+ghost use Rattle.elf_image_symbols.specs.Image.{counted};
 ghost use Rattle.elf_image_symbol_edits.specs.Changes.{AreChanges, IsGapFor, IsPlaceOf, Leaves, change_at, change_of, number_of, starts_at as do_start_at, symbol_now};
 ghost use Rattle.elf_image_symbol_edits.specs.EditedList.{changed_at};
 ghost use Rattle.elf_image_symbol_edits.specs.Rising.{AreRising};
 
 use crate::change::Change;
-use elf_image_symbols::Symbols;
-use patch_bytes::ByteString;
+use elf_image_symbols::{ByteString, Symbols};
 use std::alloc::{AllocError, Global};
 
 // Where the change of the symbol with a number stands, or else where it would.

@@ -5,8 +5,7 @@ use crate::changes::{
 };
 use crate::numbers::{copy_numbers, list_all, list_others};
 use crate::symbols_now::SymbolsNow;
-use elf_image_symbols::Symbols;
-use patch_bytes::ByteString;
+use elf_image_symbols::{ByteString, Symbols};
 use std::alloc::{AllocError, Global};
 use std::marker::Model;
 
@@ -39,7 +38,7 @@ impl<'data> Model for EditedSymbols<'data> {
 impl<'data> EditedSymbols<'data> {
     ghost use Rattle.std.specs.Prelude.{◌≡◌, ◌<◌, ◌↔◌, IfOk, IsOk, IsTrue, Some, filter, length, map, remove, slice_get};
     ghost use Rattle.std.specs.List.Sorted.{IsNonDecreasing};
-    ghost use Rattle.elf_format.specs.Image.{counted};
+    ghost use Rattle.elf_image_symbols.specs.Image.{counted};
     ghost use Rattle.elf_image_symbol_edits.specs.EditedList.{ArePicked, IsName, as_read, changed_at, with_global_version, with_name, without_numbers};
     ghost use Rattle.elf_image_symbol_edits.specs.Loan.{numbers_now, symbols_now};
 

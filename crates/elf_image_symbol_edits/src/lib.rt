@@ -11,3 +11,4 @@ pub mod symbols_now;
 
 pub use crate::edited_symbols::EditedSymbols;
 pub use crate::symbols_now::SymbolsNow;
+pub use elf_image_symbols::{Symbol, Symbols};

@@ -1,8 +1,8 @@
 //! The numbers at read of symbols.
 ghost use Rattle.std.specs.Prelude.{◌≡◌, ◌≤◌, IfOk, filter, length, vec_capacity};
 ghost use Rattle.std.specs.List.Sorted.{IsNonDecreasing};
-ghost use Rattle.elf_format.specs.Image.{counted};
-ghost use Rattle.elf_format.specs.Options.{is_one_of};
+ghost use Rattle.elf_image_symbols.specs.Image.{counted};
+ghost use Rattle.elf_image_symbols.specs.Options.{is_one_of};
 ghost use Rattle.elf_image_symbol_edits.specs.EditedList.{stays};
 ghost use Rattle.elf_image_symbol_edits.specs.Rising.{numbers_there};
 

@@ -8,8 +8,8 @@ ghost use Rattle.elf_image_symbol_edits.specs.Loan.{numbers_now, symbols_now};
 
 use crate::changes::find;
 use crate::edited_symbols::EditedSymbols;
-use elf_format::records::SymbolNumbers;
 use elf_image_symbols::Symbol;
+use elf_image_symbols::records::SymbolNumbers;
 
 /// The symbols of a section that are there, as they are now (gABI, Symbol Table; GNU symbol versioning): a loan of
 /// `EditedSymbols`. Each is read when it is asked for. Where none was edited, that costs two tests more than to read

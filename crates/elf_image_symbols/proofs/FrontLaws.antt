@@ -3,7 +3,7 @@ use Rattle.std.proofs.Common.{◌≡◌, ◌≢◌, ℕ, zero, suc, false, List,
 use Rattle.std.specs.Prelude.{◌==◌, unwrap_or}
 use Rattle.std.specs.List.{list_any}
 use Rattle.std.proofs.lemmas.Bool.{eqb-false, or_parts}
-use Rattle.patch_bytes.specs.Memory.{◌>>=◌, memory_of, text_at}
+use Rattle.elf_format.specs.Memory.{◌>>=◌, memory_of, text_at}
 use Rattle.elf_format.proofs.ForCallers.ReadingSteps.{text_at-in, text_in, text_missing}
 use Rattle.elf_image_symbols.specs.FrontText.{front_text}
 use Rattle.elf_image_symbols.proofs.NameSteps.{text_stands}

@@ -2,3 +2,4 @@ pub mod NameSteps
 pub mod ShownSteps
 pub mod SeenSteps
 pub mod FrontLaws
+pub mod ForCallers

@@ -5,8 +5,8 @@ use Rattle.std.proofs.lemmas.List.{drop_more, get_or-drop, get_or-take, length-d
 use Rattle.std.proofs.lemmas.Bool.{cases_lt, eqb-true, ne_eqb, true≢false}
 use Rattle.std.proofs.lemmas.Option.{none-some, same_Some}
 use Rattle.memchr.specs.Find.{Nowhere, Passes, is_byte}
-use Rattle.patch_bytes.specs.Memory.{◌>>=◌, memory_of, text_at}
-use Rattle.patch_bytes.proofs.MemoryLaws.{bind_some}
+use Rattle.elf_format.specs.Memory.{◌>>=◌, memory_of, text_at}
+use Rattle.elf_format.proofs.ForCallers.MemoryLaws.{bind_some}
 use Rattle.elf_format.specs.Form.{records}
 use Rattle.elf_format.specs.Options.{each}
 use Rattle.elf_format.specs.declared.records.SymbolNumbers.{SymbolNumbers}

@@ -2,11 +2,11 @@
 use Rattle.std.proofs.Common.{◌≡◌, ◌<◌, ◌*◌, ◌/◌, ◌^◌, ℕ, List, drop, length, take, sym, ap, ◌∙◌, subst, Option, None, Some, [], get_or, arith}
 use Rattle.std.specs.Prelude.{option_map, slice_get}
 use Rattle.std.proofs.lemmas.Option.{slice_get-get_or}
-use Rattle.patch_bytes.specs.Memory.{memory_of, text_at}
+use Rattle.elf_format.specs.Memory.{memory_of, text_at}
 use Rattle.elf_format.specs.declared.records.SymbolNumbers.{SymbolNumbers}
 use Rattle.elf_format.specs.declared.version_id.VersionId.{VersionId}
-use Rattle.patch_bytes.specs.declared.number.Wide.{Wide}
-use Rattle.patch_bytes.specs.declared.number.Wide.TheVariants.{W32, W64}
+use Rattle.elf_format.specs.Wide.{Wide}
+use Rattle.elf_format.specs.Wide.TheVariants.{W32, W64}
 use Rattle.elf_format.specs.Answers.{borrowed}
 use Rattle.elf_format.specs.Form.{by_class}
 use Rattle.elf_format.specs.Records.{symbol_numbers, symbol_size}

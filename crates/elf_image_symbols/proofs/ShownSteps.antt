@@ -6,8 +6,8 @@ use Rattle.std.proofs.Math.Nat.{add_comm, suc-mul, zero-mul}
 use Rattle.std.proofs.lemmas.List.{drop-drop}
 use Rattle.std.proofs.lemmas.Bool.{true≢false}
 use Rattle.std.proofs.lemmas.Option.{same_Some}
-use Rattle.patch_bytes.specs.Memory.{◌>>=◌, Memory, memory_of, text_at}
-use Rattle.patch_bytes.proofs.MemoryLaws.{bind_some}
+use Rattle.elf_format.specs.Memory.{◌>>=◌, Memory, memory_of, text_at}
+use Rattle.elf_format.proofs.ForCallers.MemoryLaws.{bind_some}
 use Rattle.elf_format.specs.declared.form.Form.{Form}
 use Rattle.elf_format.specs.declared.records.SymbolNumbers.{SymbolNumbers}
 use Rattle.elf_format.specs.declared.version_id.VersionId.{VersionId}

@@ -1,6 +1,6 @@
 -- The text at the front of bytes.
 use Rattle.std.specs.Prelude.{ℕ, List, length, unwrap_or}
-use Rattle.patch_bytes.specs.Memory.{memory_of, text_at}
+use Rattle.elf_format.specs.Memory.{memory_of, text_at}
 
 -- the bytes up to the first NUL, or all of them where there is none
 unfoldable pub front_text : List ℕ → List ℕ

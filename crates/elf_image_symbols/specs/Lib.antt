@@ -2,3 +2,10 @@ pub mod TableSymbols
 pub mod SymbolModel
 pub mod SymbolsModel
 pub mod FrontText
+pub use Rattle.elf_format.specs.ByteString
+pub use Rattle.elf_format.specs.Memory
+pub use Rattle.elf_format.specs.Image
+pub use Rattle.elf_format.specs.Options
+pub use Rattle.elf_format.specs.Views
+pub use Rattle.elf_format.specs.declared.records.SymbolNumbers
+pub use Rattle.elf_format.specs.declared.version_id.VersionId

@@ -1,6 +1,6 @@
 -- What a reader of symbols holds, seen as a list of them.
 use Rattle.std.specs.Prelude.{◌≡◌, List, [], length, Option, Some, option_map, unwrap_or}
-use Rattle.patch_bytes.specs.Memory.{memory_of}
+use Rattle.elf_format.specs.Memory.{memory_of}
 use Rattle.elf_format.specs.Answers.{borrowed}
 use Rattle.elf_format.specs.Views.{NamedSymbol}
 use Rattle.elf_image_symbols.specs.declared.symbols.Symbols.TheInside.{Inside}

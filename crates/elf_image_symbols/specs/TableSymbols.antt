@@ -1,7 +1,7 @@
 -- The symbols of a table with their names and versions, and the numbers of their records.
 use Rattle.std.specs.Prelude.{ℕ, zero, suc, ◌+◌, ◌*◌, List, [], ◌∷◌, take, drop, length, replicate, Option, Some, None}
-use Rattle.patch_bytes.specs.Memory.{◌>>=◌, Memory, text_at}
-use Rattle.patch_bytes.specs.Number.{field}
+use Rattle.elf_format.specs.Memory.{◌>>=◌, Memory, text_at}
+use Rattle.elf_format.specs.Number.{field}
 use Rattle.elf_format.specs.declared.form.Form.{Form}
 use Rattle.elf_format.specs.declared.records.SymbolNumbers.{SymbolNumbers}
 use Rattle.elf_format.specs.declared.version_id.VersionId.{VersionId}

@@ -7,3 +7,4 @@ pub mod symbols;
 
 pub use crate::symbol::Symbol;
 pub use crate::symbols::Symbols;
+pub use elf_format::{ByteString, records, version_id};

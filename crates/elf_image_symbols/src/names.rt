@@ -1,7 +1,7 @@
 //! The names of symbols in a string table (gABI, String Table).
 ghost use Rattle.std.specs.Prelude.{◌≡◌, ◌≤◌, ℕ, Some, is_some, length, nat_lt, option_map, true};
 ghost use Rattle.std.specs.Str.{bytes_eq};
-ghost use Rattle.patch_bytes.specs.Memory.{memory_of, text_at};
+ghost use Rattle.elf_format.specs.Memory.{memory_of, text_at};
 ghost use Rattle.elf_format.specs.Records.{symbol_numbers, symbols_in};
 ghost use Rattle.elf_format.specs.Views.{names_of};
 

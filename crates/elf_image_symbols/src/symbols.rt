@@ -10,7 +10,7 @@ use elf_format::form::Form;
 use elf_format::numbers::{part, read_symbol_numbers, read_version_id};
 use elf_format::records::SymbolNumbers;
 use elf_format::version_id::VersionId;
-use patch_bytes::{ByteOrder2, Wide};
+use elf_format::{ByteOrder2, Wide};
 use std::marker::Model;
 
 /// The symbols of a section in their order (gABI, Symbol Table). Each is read from the file's bytes when it is
@@ -61,7 +61,7 @@ fn record_at(form: Form, bytes: &[u8], i: usize) -> &[u8]
 impl<'data> Symbols<'data> {
     ghost use Rattle.std.specs.Prelude.{◌≡◌, ◌<◌, ◌≤◌, ◌==◌, ℕ, [], Some, length, not, option_map, slice_get};
     ghost use Rattle.std.specs.Str.{bytes_eq};
-    ghost use Rattle.patch_bytes.specs.Memory.{memory_of, text_at};
+    ghost use Rattle.elf_format.specs.Memory.{memory_of, text_at};
     ghost use Rattle.elf_format.specs.Answers.{borrowed};
     ghost use Rattle.elf_image_symbols.specs.SymbolModel.{symbol_model};
     ghost use Rattle.elf_image_symbols.specs.TableSymbols.{symbol_with, table_symbols};

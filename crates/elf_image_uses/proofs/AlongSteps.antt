@@ -19,7 +19,7 @@ use Rattle.elf_format.specs.Options.{is_one_of, is_some_and}
 use Rattle.elf_format.specs.Views.{NamedSymbol}
 use Rattle.elf_image.specs.Edited.{IsEdited}
 use Rattle.elf_image.specs.Kept.{KeptSection, interpreter_number, kept_sections}
-use Rattle.elf_image_symbols.specs.TableSymbols.{symbol_with}
+use Rattle.elf_image.specs.TableSymbols.{symbol_with}
 use Rattle.elf_image_uses.specs.Along.{begins_in, is_deserted, is_in_memory, is_within}
 use Rattle.elf_image_uses.specs.Staying.{goes, going, staying, stays}
 use Rattle.elf_image_uses.specs.Steps.{begins_of, deserted_by, is_begin}

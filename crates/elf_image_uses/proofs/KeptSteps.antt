@@ -7,7 +7,7 @@ use Rattle.std.proofs.lemmas.List.{length-map}
 use Rattle.std.proofs.lemmas.Option.{get_or_from_slice_get, slice_get-get_or, slice_get-map, slice_get_read, slice_get_within}
 use Rattle.elf_format.specs.Image.{Image, ImageSection}
 use Rattle.elf_format.specs.Options.{is_none_or}
-use Rattle.elf_image_parts.specs.declared.section.Section.{Section}
+use Rattle.elf_image.specs.Section.{Section}
 use Rattle.elf_image.specs.Edited.{IsEdited}
 use Rattle.elf_image.specs.ImageModel.{section_model}
 use Rattle.elf_image.specs.Kept.{KeptSection, kept_from, kept_of_type, kept_sections}

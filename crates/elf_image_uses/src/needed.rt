@@ -3,7 +3,7 @@ ghost use Rattle.std.specs.Prelude.{◌≡◌, [], ◌∷◌, ◌&&◌, ◌||◌
 ghost use Rattle.std.specs.List.{list_any};
 ghost use Rattle.std.specs.List.Sorted.{IsNonDecreasing};
 ghost use Rattle.elf_format.specs.Options.{is_one_of};
-ghost use Rattle.elf_image_symbol_edits.specs.Loan.{symbols_now};
+ghost use Rattle.elf_image.specs.Loan.{symbols_now};
 ghost use Rattle.elf_image.specs.ImageModel.{section_model};
 ghost use Rattle.elf_image.specs.Kept.{dynamic_strings_number as number_of_strings};
 ghost use Rattle.elf_image_uses.specs.Needed.{is_info_number as has_section_number, is_lasting, is_section_used as are_sections_used, lasting_types, names_section};

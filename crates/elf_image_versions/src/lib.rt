@@ -12,3 +12,5 @@ pub mod rule;
 pub mod texts;
 pub mod version;
 pub mod walks;
+
+pub use elf_image_rules::{dynamic, headers, linked};

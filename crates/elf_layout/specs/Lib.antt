@@ -6,3 +6,4 @@ pub mod Reaches
 pub mod Refused
 pub mod Slots
 pub mod Targets
+pub use Rattle.elf_layout_sizes.specs.MadeTables

@@ -21,5 +21,5 @@ mod written;
 
 pub use crate::layout::{lay_out, lay_out_from_read, lay_out_from_sizes};
 pub use crate::moving::{find_move_sections, move_sections};
-pub use elf_layout_plan::{LayoutFault, Plan, SectionPlace};
-pub use elf_layout_sizes::sizes_of;
+pub use elf_layout_plan::{Finished, LayoutFault, Plan, SectionPlace};
+pub use elf_layout_sizes::{NewSizes, new_sizes_with_strings, sizes_of};

@@ -9,8 +9,8 @@ use Rattle.elf_format.specs.Image.{Image, image_of}
 use Rattle.elf_format.specs.Options.{is_some_and}
 use Rattle.elf_format.specs.Versions.{VersionName, VersionNeeds}
 use Rattle.elf_format.specs.Views.{NamedSymbol}
-use Rattle.elf_image.specs.Edited.{IsEdited}
-use Rattle.elf_image.specs.Kept.{image_at_read}
+use Rattle.elf_layout_plan.specs.Edited.{IsEdited}
+use Rattle.elf_layout_plan.specs.Kept.{image_at_read}
 use Rattle.elf_layout_plan.specs.Needs.{are_needs_gone, is_empty, is_version_dropped, is_version_used, lists_needs, staying_needs, written_entries, written_needs}
 use Rattle.elf_layout_needs.specs.Staying.{is_of_needs, mark_of, staying_entries, unmarked_needs}
 use Rattle.elf_layout_needs.specs.Written.{AreWritten}

@@ -2,12 +2,12 @@
 ghost use Rattle.std.specs.Prelude.{◌≡◌, length, map};
 ghost use Rattle.elf_format.specs.Image.{lists_tag as is_tag_listed};
 ghost use Rattle.elf_format.specs.Options.{is_some_and};
-ghost use Rattle.elf_image.specs.ImageModel.{entry_model};
+ghost use Rattle.elf_layout_plan.specs.ImageModel.{entry_model};
 ghost use Rattle.elf_layout_plan.specs.Needs.{lists_needs as name_needs};
 ghost use Rattle.elf_layout_needs.specs.Staying.{is_of_needs as is_entry_of_needs, staying_entries};
 
-use elf_image::constants::{DT_SYMTAB, DT_VERNEED, DT_VERNEEDNUM, DT_VERSYM};
-use elf_image::{Builder, Dynamic};
+use elf_layout_plan::format_constants::{DT_SYMTAB, DT_VERNEED, DT_VERNEEDNUM, DT_VERSYM};
+use elf_layout_plan::{Builder, Dynamic};
 
 // Whether an entry of the dynamic list has a tag.
 fn lists_tag(entries: &[Dynamic<'_>], tag: u64) -> bool

@@ -1,11 +1,11 @@
 //! Marks of versions that go.
 ghost use Rattle.std.specs.Prelude.{◌≡◌, ℕ, ◌&&◌, ◌==◌, false, length, not, IfOk, if◌then◌else◌};
 ghost use Rattle.elf_format.specs.Options.{is_some_and};
-ghost use Rattle.elf_image_symbol_edits.specs.Loan.{symbols_now};
+ghost use Rattle.elf_layout_plan.specs.Loan.{symbols_now};
 ghost use Rattle.elf_layout_plan.specs.Needs.{is_version_used};
 ghost use Rattle.elf_layout_needs.specs.Staying.{mark_of};
 
-use elf_image::{SymbolsNow, VersionId};
+use elf_layout_plan::{SymbolsNow, VersionId};
 use std::alloc::{AllocError, Global};
 
 // How many marks there are: one for each index that a version may have.

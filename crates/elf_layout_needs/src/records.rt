@@ -1,11 +1,11 @@
 //! The records of needed versions of which some version stays.
 ghost use Rattle.std.specs.Prelude.{◌≡◌, ◌&&◌, length, map, not};
-ghost use Rattle.elf_image.specs.ImageModel.{name_model, needs_model};
+ghost use Rattle.elf_layout_plan.specs.ImageModel.{name_model, needs_model};
 ghost use Rattle.elf_layout_plan.specs.Needs.{is_empty};
 ghost use Rattle.elf_layout_needs.specs.Staying.{is_unmarked, unmarked_names, unmarked_needs};
 
 use crate::marks::is_marked;
-use elf_image::{VersionNeed, VersionNeedName};
+use elf_layout_plan::{VersionNeed, VersionNeedName};
 
 // How many versions stay.
 pub(crate) fn count_unmarked(names: &[VersionNeedName<'_>], marks: &[bool]) -> usize

@@ -1,15 +1,15 @@
 //! What is known once of the needed versions of an edited image.
 ghost use Rattle.std.specs.Prelude.{◌≡◌, ◌&&◌, IfOk, IsTrue, false, not, true};
 ghost use Rattle.elf_format.specs.Options.{is_some_and};
-ghost use Rattle.elf_image.specs.Kept.{image_at_read};
-ghost use Rattle.elf_image.specs.SymbolsRead.{OfRead};
+ghost use Rattle.elf_layout_plan.specs.Kept.{image_at_read};
+ghost use Rattle.elf_layout_plan.specs.SymbolsRead.{OfRead};
 ghost use Rattle.elf_layout_plan.specs.Needs.{is_empty, lists_needs, written_needs};
 ghost use Rattle.elf_layout_needs.specs.Staying.{unmarked_needs};
 
 use crate::entries::{count_staying, is_of_needs, leads_to_needs};
 use crate::marks::{dropped_marks, is_marked};
 use crate::records::{are_needs_gone, count_needs, count_unmarked, does_need_stay};
-use elf_image::{Builder, Dynamic, VersionNeed};
+use elf_layout_plan::{Builder, Dynamic, VersionNeed};
 use std::alloc::{AllocError, Global};
 use std::marker::Model;
 
@@ -68,8 +68,8 @@ impl Model for StayingNeeds {
 impl StayingNeeds {
     ghost use Rattle.std.specs.Prelude.{◌≡◌, IfOk, length, map};
     ghost use Rattle.elf_format.specs.Image.{Image};
-    ghost use Rattle.elf_image.specs.Kept.{image_at_read};
-    ghost use Rattle.elf_image.specs.ImageModel.{entry_model, needs_model};
+    ghost use Rattle.elf_layout_plan.specs.Kept.{image_at_read};
+    ghost use Rattle.elf_layout_plan.specs.ImageModel.{entry_model, needs_model};
     ghost use Rattle.elf_layout_needs.specs.Staying.{does_entry_stay, does_version_stay, is_unmarked, staying_entries, unmarked_names, unmarked_needs};
     ghost use Rattle.elf_layout_needs.specs.Written.{AreWritten};
 

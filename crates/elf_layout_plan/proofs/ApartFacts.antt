@@ -9,10 +9,10 @@ use Rattle.elf_format.specs.Placement.{file_part, is_stored, shows_at}
 use Rattle.elf_format.specs.declared.range.Range.{Range}
 use Rattle.elf_format.specs.Ranges.{apart, end_of, range}
 use Rattle.elf_layout_plan.specs.Anchors.{is_loaded_section}
-use Rattle.elf_image.specs.Complete.{IsComplete}
-use Rattle.elf_image.specs.Edited.{AreUnclaimed}
-use Rattle.elf_image.specs.Kept.{KeptSection, kept_sections, place_at_read}
-use Rattle.elf_image.specs.Segments.{loads_end}
+use Rattle.elf_tables.specs.Complete.{IsComplete}
+use Rattle.elf_tables.specs.Edited.{AreUnclaimed}
+use Rattle.elf_tables.specs.Kept.{KeptSection, kept_sections, place_at_read}
+use Rattle.elf_tables.specs.Segments.{loads_end}
 use Rattle.elf_layout_plan.specs.Memory.{Resized, has_lost_load, sized_sections}
 use Rattle.elf_layout_plan.specs.Sizes.{new_size}
 use Rattle.elf_layout_plan.proofs.ApartLists.{Each, Pairs}

@@ -15,7 +15,7 @@ use Rattle.elf_format.specs.Records.{file_header_size}
 use Rattle.elf_layout_plan.specs.Added.{Slot}
 use Rattle.elf_layout_plan.specs.ApartLaws.{FixedSectionsStay, HasPlaceAt}
 use Rattle.elf_layout_plan.specs.Blocks.{Block, earlier_moves, has_cause, have_causes, is_block_of, later_moves, overlaps, some_two, stay_apart}
-use Rattle.elf_image.specs.Kept.{KeptSection, kept_sections}
+use Rattle.elf_tables.specs.Kept.{KeptSection, kept_sections}
 use Rattle.elf_layout_plan.specs.Memory.{Resized, SizedSection, block_in_load, blocks_with, edge_blocks, header_blocks, loaded_over, priority_of, section_block, sized_sections, table_at_read, table_load, table_size_with, takes_memory}
 use Rattle.elf_layout_plan.specs.Plan.{Layout, layout_for, resized}
 use Rattle.elf_layout_plan.specs.Rounds.{are_in_old_order, do_move, sections_at}

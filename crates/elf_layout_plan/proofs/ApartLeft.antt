@@ -4,7 +4,7 @@ use Rattle.std.specs.Prelude.{find, if◌then◌else◌}
 use Rattle.std.specs.List.{list_any}
 use Rattle.elf_format.specs.declared.records.SegmentHeader.{SegmentHeader}
 use Rattle.elf_format.specs.File.{is_loaded, loads_of}
-use Rattle.elf_image.specs.Edited.{AreUnclaimed, IsReclaimed}
+use Rattle.elf_tables.specs.Edited.{AreUnclaimed, IsReclaimed}
 use Rattle.elf_layout_plan.proofs.ApartLists.{Each, Pairs, each-filter, each-more, each-unfilter, pairs-filter, pairs-more, pairs-unfilter}
 
 module _ (table end : ℕ) where

@@ -16,7 +16,7 @@ use Rattle.elf_layout_plan.specs.Added.{added_loads}
 use Rattle.elf_layout_plan.specs.Apart.{are_notes_shown, did_show_note, is_for_notes, is_loaded_note, is_note_shown, is_shown_by, shows_its_notes, shows_place}
 use Rattle.elf_layout_plan.specs.ApartLaws.{PlansShowNotes}
 use Rattle.elf_layout_plan.specs.Anchors.{Itself, Anchor, Notes, OneSection, has_bytes, is_just_over, is_loaded_section, is_moved, is_note_in, is_over_notes, anchor_by_range, anchor_of, anchor_or_itself, does_relro_stay, moved_notes, notes_under, section_or_table, section_under, sharers, shares_bytes, staying_notes}
-use Rattle.elf_image.specs.Kept.{KeptSection, interpreter_number, is_numbered, kept_of_type, kept_sections, place_at_read}
+use Rattle.elf_tables.specs.Kept.{KeptSection, interpreter_number, is_numbered, kept_of_type, kept_sections, place_at_read}
 use Rattle.elf_layout_plan.specs.Memory.{Resized, sized_sections}
 use Rattle.elf_layout_plan.specs.Plan.{Layout, layout_for, resized}
 use Rattle.elf_layout_plan.specs.Rounds.{flags_for}

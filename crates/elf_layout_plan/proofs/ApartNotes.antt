@@ -9,7 +9,7 @@ use Rattle.elf_format.specs.Options.{is_one_of}
 use Rattle.elf_format.specs.Places.{occupies_file}
 use Rattle.elf_layout_plan.specs.Added.{Slot, added_loads, alignment_of, kept_end, load_alignment, loads_from, memory_end}
 use Rattle.elf_layout_plan.specs.Anchors.{is_loaded_section}
-use Rattle.elf_image.specs.Kept.{kept_sections, place_at_read}
+use Rattle.elf_tables.specs.Kept.{kept_sections, place_at_read}
 use Rattle.elf_layout_plan.specs.Memory.{Resized, SizedSection, sized_sections}
 use Rattle.elf_layout_plan.specs.Rounds.{added_flags, each_once, flags_for, sections_at}
 use Rattle.elf_layout_plan.specs.Standing.{UnloadedSlot, content_end, is_unloaded, unloaded_from, unloaded_slot_of, unloaded_slots, unloaded_start, place_in, slot_of, stands_at}

@@ -6,7 +6,7 @@ use Rattle.std.proofs.lemmas.Bool.{false≢true}
 use Rattle.elf_format.specs.Options.{is_one_of}
 use Rattle.elf_format.specs.Places.{Place}
 use Rattle.elf_layout_plan.specs.Added.{Slot, added_loads}
-use Rattle.elf_image.specs.Kept.{kept_sections}
+use Rattle.elf_tables.specs.Kept.{kept_sections}
 use Rattle.elf_layout_plan.specs.Memory.{Resized, SizedSection, sized_sections}
 use Rattle.elf_layout_plan.specs.Standing.{UnloadedSlot, unloaded_slot_of, place_in, slot_of, stands_at, stays_at}
 use Rattle.elf_layout_plan.proofs.ApartLists.{any-at, each-at, find-at, find-misses}

@@ -21,12 +21,12 @@ use Rattle.elf_format.specs.Placement.{addresses_apart, ends_by, file_part, hold
 use Rattle.elf_format.specs.Places.{Place, file_range, occupies_file, occupies_memory, place_of, places_of}
 use Rattle.elf_format.specs.Ranges.{all_apart, apart, end_of}
 use Rattle.elf_format.specs.Rules.{MeetsRules, file_of, header_ranges}
-use Rattle.elf_image.specs.Edited.{AreKept, AreSegments, AreUnclaimed, CanGo, IsEditOf, IsEdited, IsReclaimed, kept_segment}
-use Rattle.elf_image.specs.ReadImage.{HoldsParts}
-use Rattle.elf_image.specs.Segments.{added_stack, loads_end}
-use Rattle.elf_image.proofs.ForCallers.ReadImageLaws.{read_images_hold_parts}
+use Rattle.elf_tables.specs.Edited.{AreKept, AreSegments, AreUnclaimed, CanGo, IsEditOf, IsEdited, IsReclaimed, kept_segment}
+use Rattle.elf_tables.specs.ReadImage.{HoldsParts}
+use Rattle.elf_tables.specs.Segments.{added_stack, loads_end}
+use Rattle.elf_tables.proofs.ForCallers.ReadImageLaws.{read_images_hold_parts}
 use Rattle.elf_layout_plan.specs.Anchors.{is_loaded_section}
-use Rattle.elf_image.specs.Kept.{KeptSection, interpreter_number, kept_from, is_numbered, kept_sections, place_at_read, stands_as_interpreter}
+use Rattle.elf_tables.specs.Kept.{KeptSection, interpreter_number, kept_from, is_numbered, kept_sections, place_at_read, stands_as_interpreter}
 use Rattle.elf_layout_plan.specs.Memory.{Resized, has_lost_load}
 use Rattle.elf_layout_plan.specs.Plan.{resized}
 use Rattle.elf_layout_plan.specs.Sizes.{interpreter_size, new_size, new_sizes, table_size}

@@ -11,7 +11,7 @@ use Rattle.elf_format.specs.Options.{is_one_of}
 use Rattle.elf_format.specs.Placement.{file_part, memory_part}
 use Rattle.elf_format.specs.Ranges.{end_of}
 use Rattle.elf_layout_plan.specs.Added.{AddedLoad, Slot, added_loads, alignment_of, kept_end, load_alignment, load_at, loads_from, memory_end, slots_from}
-use Rattle.elf_image.specs.Kept.{KeptSection, kept_from, kept_sections}
+use Rattle.elf_tables.specs.Kept.{KeptSection, kept_from, kept_sections}
 use Rattle.elf_layout_plan.specs.Memory.{Resized, SizedSection, sized_from, sized_sections}
 use Rattle.elf_layout_plan.specs.Rounds.{added_flags, each_once, flags_for, sections_at}
 use Rattle.elf_layout_plan.specs.Sizes.{new_size}

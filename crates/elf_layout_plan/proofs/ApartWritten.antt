@@ -15,7 +15,7 @@ use Rattle.elf_format.specs.File.{is_loaded, loads_of}
 use Rattle.elf_format.specs.Places.{Place}
 use Rattle.elf_layout_plan.specs.Added.{AddedLoad, added_loads, header_count, kept_end, load_alignment, loads_from, memory_end}
 use Rattle.elf_layout_plan.specs.Anchors.{HeaderTable, Itself, Anchor, Notes, OneSection, are_parted, is_moved, is_parted, is_split, anchor_of, moved_notes, staying_notes}
-use Rattle.elf_image.specs.Kept.{KeptSection}
+use Rattle.elf_tables.specs.Kept.{KeptSection}
 use Rattle.elf_layout_plan.specs.Memory.{Resized, SizedSection}
 use Rattle.elf_layout_plan.specs.Rounds.{added_flags, headers_needed, sections_at}
 use Rattle.elf_layout_plan.specs.Standing.{places}

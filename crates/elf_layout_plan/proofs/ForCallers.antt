@@ -55,3 +55,9 @@ pub use Rattle.elf_layout_plan.proofs.ThreeNumbers
 pub use Rattle.elf_layout_plan.proofs.UnloadedParts
 -- the program headers that are written: which of them are loaded
 pub use Rattle.elf_layout_plan.proofs.PlacedWritten
+pub use Rattle.elf_tables.proofs.ForCallers.EntryBack
+pub use Rattle.elf_tables.proofs.ForCallers.FileHeaderBack
+pub use Rattle.elf_tables.proofs.ForCallers.FilesOpened
+pub use Rattle.elf_tables.proofs.ForCallers.SectionHeaderBack
+pub use Rattle.elf_tables.proofs.ForCallers.SegmentHeaderBack
+pub use Rattle.elf_tables.proofs.ForCallers.TableBack

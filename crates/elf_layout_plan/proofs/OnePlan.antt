@@ -6,7 +6,7 @@ use Rattle.std.proofs.lemmas.Bool.{and_parts, eq-eqb, eqb-true, false≢true, le
 use Rattle.elf_format.specs.File.{loads_of}
 use Rattle.elf_format.specs.Options.{is_one_of, is_some_and}
 use Rattle.elf_layout_plan.specs.Blocks.{Block, are_moving, earlier_moves, has_cause, have_causes, is_block_of, later_moves, moving_sections, stay_apart}
-use Rattle.elf_image.specs.Kept.{kept_sections}
+use Rattle.elf_tables.specs.Kept.{kept_sections}
 use Rattle.elf_layout_plan.specs.Laws.{PlansAreOne}
 use Rattle.elf_layout_plan.specs.Memory.{Resized, SizedSection, blocks_with, edge_blocks, header_blocks, section_block, sized_sections, takes_memory}
 use Rattle.elf_layout_plan.specs.Plan.{IsPlan, Layout, layout_for, resized}

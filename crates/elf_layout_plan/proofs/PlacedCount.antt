@@ -9,7 +9,7 @@ use Rattle.elf_format.specs.declared.records.SegmentHeader.{SegmentHeader}
 use Rattle.elf_format.specs.Places.{Place}
 use Rattle.elf_layout_plan.specs.Added.{added_loads, header_count}
 use Rattle.elf_layout_plan.specs.Anchors.{HeaderTable, Itself, Anchor, Notes, OneSection, is_moved, is_parted, is_split, anchor_of, moved_notes, staying_notes}
-use Rattle.elf_image.specs.Kept.{KeptSection}
+use Rattle.elf_tables.specs.Kept.{KeptSection}
 use Rattle.elf_layout_plan.specs.Memory.{Resized}
 use Rattle.elf_layout_plan.specs.Rounds.{headers_needed}
 use Rattle.elf_layout_plan.specs.Standing.{places}

@@ -14,7 +14,7 @@ use Rattle.elf_format.specs.Ranges.{all_apart, apart, end_of, lies_in, range}
 use Rattle.elf_format.specs.Records.{file_header_size, segment_header_size}
 use Rattle.elf_layout_plan.specs.Added.{AddedLoad, Slot, added_loads, kept_end}
 use Rattle.elf_layout_plan.specs.Blocks.{stay_apart}
-use Rattle.elf_image.specs.Kept.{place_at_read}
+use Rattle.elf_tables.specs.Kept.{place_at_read}
 use Rattle.elf_layout_plan.specs.Memory.{Resized, SizedSection, blocks_with, sized_sections, table_load, table_size_with}
 use Rattle.elf_layout_plan.specs.Rounds.{headers_needed}
 use Rattle.elf_layout_plan.specs.Standing.{content_end, next_table, place_in, places, sections_offset, segments_end, table_offset}

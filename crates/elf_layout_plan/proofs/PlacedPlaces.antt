@@ -8,7 +8,7 @@ use Rattle.elf_format.specs.Options.{is_one_of}
 use Rattle.elf_format.specs.Placement.{is_stored}
 use Rattle.elf_format.specs.Places.{Place, occupies_file, occupies_memory}
 use Rattle.elf_layout_plan.specs.Added.{Slot, alignment_of}
-use Rattle.elf_image.specs.Kept.{place_at_read}
+use Rattle.elf_tables.specs.Kept.{place_at_read}
 use Rattle.elf_layout_plan.specs.Memory.{Resized, SizedSection, sized_sections}
 use Rattle.elf_layout_plan.specs.Standing.{UnloadedSlot, content_end, is_unloaded, unloaded_from, unloaded_slot_of, unloaded_slots, unloaded_start, place_in, slot_of, stands_at, stays_at}
 use Rattle.elf_layout_plan.proofs.PlacedLists.{Has, filter-at, filter-from, find-at, find-none, has_cases, has_here, has_none, has_there}

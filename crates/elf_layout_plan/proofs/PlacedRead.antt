@@ -22,12 +22,12 @@ use Rattle.elf_format.specs.Places.{Place, file_range, occupies_file, occupies_m
 use Rattle.elf_format.specs.Ranges.{all_apart, apart, end_of, lies_in, range}
 use Rattle.elf_format.specs.Records.{file_header_size, segment_header_size}
 use Rattle.elf_format.specs.Rules.{ArePartsOf, MeetsRules, file_of, header_ranges, segment_table_range}
-use Rattle.elf_image.specs.Edited.{ArePicked, AreUnclaimed, IsEditOf, IsEdited, IsReclaimed, IsSameSection}
-use Rattle.elf_image.specs.Segments.{loads_end}
-use Rattle.elf_image.specs.Spare.{has_place}
-use Rattle.elf_image.specs.ReadImage.{AreSectionsOf, HoldsParts}
-use Rattle.elf_image.proofs.ForCallers.ReadImageLaws.{read_images_hold_parts}
-use Rattle.elf_image.specs.Kept.{KeptSection, image_at_read, kept_from, kept_sections, place_at_read}
+use Rattle.elf_tables.specs.Edited.{ArePicked, AreUnclaimed, IsEditOf, IsEdited, IsReclaimed, IsSameSection}
+use Rattle.elf_tables.specs.Segments.{loads_end}
+use Rattle.elf_tables.specs.Spare.{has_place}
+use Rattle.elf_tables.specs.ReadImage.{AreSectionsOf, HoldsParts}
+use Rattle.elf_tables.proofs.ForCallers.ReadImageLaws.{read_images_hold_parts}
+use Rattle.elf_tables.specs.Kept.{KeptSection, image_at_read, kept_from, kept_sections, place_at_read}
 use Rattle.elf_layout_plan.specs.Memory.{Resized, has_lost_load, table_at_read, table_load}
 use Rattle.elf_layout_plan.specs.Plan.{resized}
 use Rattle.elf_layout_plan.proofs.PlacedLists.{Has, MadeOf, Pairs, all-at, any-at, any-from, filter-at, filter-from, find-at, find-none, has_cases, has_here, has_none, map-at, map-from, pairs-map, pairs-unmap, slice_get-at}

@@ -2,7 +2,7 @@
 use Rattle.std.proofs.Common.{◌≡◌, ◌≤◌, ◌<◌, ℕ, zero, suc, ◌+◌, List, [], ◌∷◌, ap, ◌∙◌, subst, inl, inr, Some, arith}
 use Rattle.std.specs.List.{slice_get}
 use Rattle.elf_format.specs.Image.{ImageSection}
-use Rattle.elf_image.specs.Kept.{KeptSection, kept_from, kept_sections}
+use Rattle.elf_tables.specs.Kept.{KeptSection, kept_from, kept_sections}
 use Rattle.elf_layout_plan.specs.Memory.{Resized, SizedSection, sized_from, sized_sections}
 use Rattle.elf_layout_plan.proofs.PlacedLists.{Has, Pairs, has_cases, has_here, has_none, has_there, pairs-first, pairs-more, pairs-none, pairs-rest, pairs-two}
 use Rattle.elf_layout_plan.proofs.PlacedRead.{kept_at}

@@ -10,9 +10,9 @@ use Rattle.elf_format.specs.declared.constants.TheConstants.{PT_INTERP, SHT_DYNA
 use Rattle.elf_format.specs.File.{segment_of_type}
 use Rattle.elf_format.specs.Image.{Image, ImageSection, counted, image_of}
 use Rattle.elf_format.specs.Records.{symbol_size}
-use Rattle.elf_image.specs.Edited.{IsEditOf, IsEdited}
-use Rattle.elf_image.proofs.ForCallers.ReadImageLaws.{read_images_hold_parts}
-use Rattle.elf_image.specs.Kept.{KeptSection, image_at_read, interpreter_number, is_numbered, kept_sections, stands_as_interpreter}
+use Rattle.elf_tables.specs.Edited.{IsEditOf, IsEdited}
+use Rattle.elf_tables.proofs.ForCallers.ReadImageLaws.{read_images_hold_parts}
+use Rattle.elf_tables.specs.Kept.{KeptSection, image_at_read, interpreter_number, is_numbered, kept_sections, stands_as_interpreter}
 use Rattle.elf_layout_plan.specs.Memory.{SizedSection, sized_from, sized_sections}
 use Rattle.elf_layout_plan.specs.Needs.{written_needs}
 use Rattle.elf_layout_plan.specs.Plan.{resized}

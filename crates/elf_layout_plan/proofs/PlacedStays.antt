@@ -15,7 +15,7 @@ use Rattle.elf_format.specs.Places.{file_range, occupies_file, occupies_memory}
 use Rattle.elf_format.specs.Ranges.{lies_in, range}
 use Rattle.elf_format.specs.Records.{file_header_size, segment_header_size}
 use Rattle.elf_layout_plan.specs.Blocks.{Block, is_block_of_some, stay_apart}
-use Rattle.elf_image.specs.Kept.{place_at_read}
+use Rattle.elf_tables.specs.Kept.{place_at_read}
 use Rattle.elf_layout_plan.specs.Memory.{Resized, SizedSection, block_in_load, blocks_with, edge_blocks, fixed_block, has_lost_load, header_blocks, is_out_of_loads, is_stray, loaded_over, section_block, sized_sections, table_at_read, table_load, table_size_with, takes_memory}
 use Rattle.elf_layout_plan.proofs.PlacedLists.{Has, any-at, append-right, filter-from, has_here, has_there, pairs-two}
 use Rattle.elf_layout_plan.proofs.PlacedRanges.{Apart, apart-before, apart-behind, apart-swap, apart-within, lies_in-at}

@@ -3,7 +3,7 @@ use Rattle.std.proofs.Common.{◌≡◌, Bool, true, false, refl}
 use Rattle.std.specs.Prelude.{◌&&◌, not, ◌==◌}
 use Rattle.std.proofs.lemmas.Bool.{and_parts, both_ways, not-true}
 use Rattle.elf_format.specs.Places.{occupies_file, occupies_memory}
-use Rattle.elf_image.specs.Kept.{place_at_read}
+use Rattle.elf_tables.specs.Kept.{place_at_read}
 use Rattle.elf_layout_plan.specs.Memory.{SizedSection}
 use Rattle.elf_layout_plan.specs.Standing.{is_unloaded, is_reserved}
 

@@ -11,7 +11,7 @@ use Rattle.elf_format.specs.Records.{file_header_size, segment_header_size}
 use Rattle.elf_format.specs.Placement.{shows_at}
 use Rattle.elf_format.specs.Places.{Place, file_range, is_set, occupies_memory}
 use Rattle.elf_layout_plan.specs.Anchors.{has_bytes, is_just_over, is_loaded_section, is_over_notes, sharers}
-use Rattle.elf_image.specs.Kept.{KeptSection, kept_sections, place_at_read}
+use Rattle.elf_tables.specs.Kept.{KeptSection, kept_sections, place_at_read}
 use Rattle.elf_layout_plan.specs.Memory.{Resized, loaded_over}
 use Rattle.elf_layout_plan.specs.Plan.{Layout}
 

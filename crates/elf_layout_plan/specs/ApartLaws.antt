@@ -3,9 +3,9 @@ use Rattle.std.specs.Prelude.{ℕ, ◌≡◌, List, Some, IsTrue}
 use Rattle.std.specs.List.{slice_get}
 use Rattle.elf_format.specs.Image.{Image}
 use Rattle.elf_format.specs.Places.{Place}
-use Rattle.elf_image.specs.Edited.{IsEdited}
+use Rattle.elf_tables.specs.Edited.{IsEdited}
 use Rattle.elf_layout_plan.specs.Apart.{are_notes_shown, is_memory_apart}
-use Rattle.elf_image.specs.Kept.{KeptSection, kept_sections}
+use Rattle.elf_tables.specs.Kept.{KeptSection, kept_sections}
 use Rattle.elf_layout_plan.specs.Memory.{priority_of}
 use Rattle.elf_layout_plan.specs.Plan.{IsPlan, Layout, resized}
 

@@ -25,3 +25,15 @@ pub mod FilePlaced
 pub mod Laws
 pub mod PlacedLaws
 pub mod ApartLaws
+pub use Rattle.elf_tables.specs.Fields
+pub use Rattle.elf_tables.specs.ReadBack
+pub use Rattle.elf_tables.specs.Spelled
+pub use Rattle.elf_tables.specs.Strings
+pub use Rattle.elf_tables.specs.VersionRecords
+pub use Rattle.elf_tables.specs.Edited
+pub use Rattle.elf_tables.specs.ImageModel
+pub use Rattle.elf_tables.specs.Kept
+pub use Rattle.elf_tables.specs.SymbolsRead
+pub use Rattle.elf_tables.specs.Loan
+pub use Rattle.elf_tables.specs.declared.fault.TableFault
+pub use Rattle.elf_tables.specs.TableSymbols

@@ -1,6 +1,6 @@
 -- What is proved of plans: where everything stands in the file.
 use Rattle.elf_format.specs.Image.{Image}
-use Rattle.elf_image.specs.Edited.{IsEdited}
+use Rattle.elf_tables.specs.Edited.{IsEdited}
 use Rattle.elf_layout_plan.specs.FilePlaced.{IsPlacedInFile}
 use Rattle.elf_layout_plan.specs.Plan.{IsPlan, Layout, resized}
 

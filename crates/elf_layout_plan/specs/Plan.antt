@@ -7,7 +7,7 @@ use Rattle.elf_format.specs.declared.form.Form.{Form}
 use Rattle.elf_format.specs.Image.{Image}
 use Rattle.elf_format.specs.declared.records.SegmentHeader.{SegmentHeader}
 use Rattle.elf_format.specs.Places.{Place}
-use Rattle.elf_image.specs.Kept.{image_at_read}
+use Rattle.elf_tables.specs.Kept.{image_at_read}
 use Rattle.elf_layout_plan.specs.Memory.{Resized}
 use Rattle.elf_layout_plan.specs.Rounds.{AreRounds, is_stuck_with, leads_to}
 use Rattle.elf_layout_plan.specs.Sizes.{fits_field, new_sizes}

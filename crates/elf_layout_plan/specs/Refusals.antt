@@ -3,7 +3,7 @@ use Rattle.std.specs.Prelude.{ℕ, ◌≡◌, true, false, List, Bool, IsTrue}
 use Rattle.elf_format.specs.Image.{Image}
 use Rattle.elf_layout_plan.specs.declared.fault.LayoutFault.{LayoutFault}
 use Rattle.elf_layout_plan.specs.declared.fault.LayoutFault.TheVariants as faults
-use Rattle.elf_image.specs.Kept.{image_at_read}
+use Rattle.elf_tables.specs.Kept.{image_at_read}
 use Rattle.elf_layout_plan.specs.Plan.{IsOverlapping, IsTooLarge, resized}
 use Rattle.elf_layout_plan.specs.Memory.{Resized}
 use Rattle.elf_layout_plan.specs.Rounds.{IsAsked, is_stuck_with}

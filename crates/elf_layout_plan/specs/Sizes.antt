@@ -14,7 +14,7 @@ use Rattle.elf_format.specs.Versions.{VersionDefinition, VersionNeeds}
 use Rattle.elf_format.specs.Views.{NamedSymbol}
 use Rattle.elf_tables.specs.Strings.{table_length}
 pub use Rattle.elf_tables.specs.FoundSymbols.{is_found}
-use Rattle.elf_image.specs.Kept.{KeptSection, interpreter_number, is_numbered, kept_sections}
+use Rattle.elf_tables.specs.Kept.{KeptSection, interpreter_number, is_numbered, kept_sections}
 use Rattle.elf_layout_plan.specs.Needs.{written_entries, written_needs}
 use Rattle.elf_layout_plan.specs.Texts.{are_names_changed, is_table_copied, texts_in_use}
 

@@ -9,7 +9,7 @@ use Rattle.elf_format.specs.Records.{section_header_size, segment_header_size}
 use Rattle.elf_format.specs.Places.{Place, occupies_file}
 use Rattle.elf_layout_plan.specs.Added.{Slot, added_loads, alignment_of, greatest, header_count, kept_end}
 use Rattle.elf_layout_plan.specs.Anchors.{is_loaded_section}
-use Rattle.elf_image.specs.Kept.{place_at_read}
+use Rattle.elf_tables.specs.Kept.{place_at_read}
 use Rattle.elf_layout_plan.specs.Memory.{Resized, SizedSection, sized_sections, table_load}
 
 -- ## The program header table

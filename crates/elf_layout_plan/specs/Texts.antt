@@ -8,8 +8,8 @@ use Rattle.elf_format.specs.Dynamic.{Auto, Entry, Integer, Text}
 use Rattle.elf_format.specs.Image.{Image}
 use Rattle.elf_format.specs.Options.{is_some_and, list_at}
 use Rattle.elf_format.specs.Versions.{VersionDefinition, VersionNeeds}
-use Rattle.elf_image.specs.Kept.{link_of_type}
-pub use Rattle.elf_image.specs.Names.{are_names_changed, are_same_texts, texts_of_symbols}
+use Rattle.elf_tables.specs.Kept.{link_of_type}
+pub use Rattle.elf_tables.specs.Names.{are_names_changed, are_same_texts, texts_of_symbols}
 use Rattle.elf_layout_plan.specs.Needs.{written_entries, written_needs}
 
 abbrev pub texts_of_entry : Entry → List (List ℕ)

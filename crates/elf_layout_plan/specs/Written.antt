@@ -12,7 +12,7 @@ use Rattle.elf_format.specs.Records.{segment_header_size}
 use Rattle.elf_format.specs.Places.{Place, file_range, occupies_memory}
 use Rattle.elf_layout_plan.specs.Added.{added_loads, greatest, header_count}
 use Rattle.elf_layout_plan.specs.Anchors.{HeaderTable, Itself, Notes, OneSection, is_moved, anchor_of, moved_notes, staying_notes}
-use Rattle.elf_image.specs.Kept.{KeptSection}
+use Rattle.elf_tables.specs.Kept.{KeptSection}
 use Rattle.elf_layout_plan.specs.Memory.{Resized}
 use Rattle.elf_layout_plan.specs.Sizes.{field_range}
 use Rattle.elf_layout_plan.specs.Standing.{places}

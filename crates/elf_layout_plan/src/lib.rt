@@ -21,3 +21,7 @@ pub use crate::plan::{Plan, PlanParts, SectionPlace};
 pub use crate::source::read_source;
 pub use crate::steps::Steps;
 pub use crate::walk::walk_blocks;
+pub use elf_tables::{
+    Builder, Dynamic, Finished, StringTable, SymbolsNow, TableFault, VersionId, VersionNeed,
+    VersionNeedName, constants as format_constants,
+};

@@ -1,7 +1,7 @@
 ghost use Rattle.std.specs.Prelude.{◌≡◌, IfOk};
-ghost use Rattle.elf_image.specs.Kept.{image_at_read};
+ghost use Rattle.elf_tables.specs.Kept.{image_at_read};
 
-use elf_image::Builder;
+use elf_tables::Builder;
 use std::alloc::{AllocError, Global};
 
 /// The image as its source was read, before any edit. Takes memory as a read does.

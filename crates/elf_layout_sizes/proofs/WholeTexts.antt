@@ -20,7 +20,7 @@ use Rattle.elf_image.specs.DynamicList.{IsListed}
 use Rattle.elf_image.specs.Edited.{AreEntriesOf, AreSameNeeds, IsEdited, IsEditOf, IsName, IsSameNeed}
 use Rattle.elf_image.proofs.ForCallers.EditedLaws.{text_whole}
 use Rattle.elf_image.proofs.ForCallers.ReadImageLaws.{read_images_hold_parts}
-use Rattle.elf_tables.specs.Strings.{HoldNoNul, holds_nul}
+use Rattle.elf_layout_plan.specs.Strings.{HoldNoNul, holds_nul}
 use Rattle.elf_image.specs.Kept.{link_of_type}
 use Rattle.elf_layout_plan.specs.Needs.{are_needs_gone, do_needs_stay, is_version_dropped, lists_needs, staying_needs, with_staying_names, written_entries, written_needs}
 use Rattle.elf_layout_plan.specs.Texts.{if_linked, if_names, texts_in_use, texts_of_definitions, texts_of_entries, texts_of_needs, texts_of_symbols}

@@ -1,7 +1,7 @@
 -- String tables that are made anew (gABI, String Table).
 use Rattle.std.specs.Prelude.{ℕ, ◌≡◌, ◌≤◌, ◌<◌, ◌^◌, false, Some}
 use Rattle.elf_format.specs.Image.{Image}
-use Rattle.elf_tables.specs.Strings.{IsTableOf, PlacesStand, Strings, table_length}
+use Rattle.elf_layout_plan.specs.Strings.{IsTableOf, PlacesStand, Strings, table_length}
 use Rattle.elf_image.specs.Kept.{dynamic_strings_number}
 use Rattle.elf_layout_plan.specs.Texts.{is_table_copied, texts_in_use}
 

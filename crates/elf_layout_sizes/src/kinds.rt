@@ -2,7 +2,7 @@
 ghost use Rattle.std.specs.Prelude.{◌≡◌, ℕ, ◌<◌, ◌^◌, false, true, Some, MatchResult, SomeIff};
 ghost use Rattle.elf_image.specs.ImageModel.{section_model};
 ghost use Rattle.elf_layout_sizes.specs.Inner.{fits_class};
-ghost use Rattle.elf_tables.specs.declared.fault.TableFault.TheVariants.{NumberTooLarge};
+ghost use Rattle.elf_layout_plan.specs.TableFault.TheVariants.{NumberTooLarge};
 
 use crate::known::{Known, known_strings};
 use crate::strings::made_for;
@@ -14,8 +14,7 @@ use elf_image::constants::{
     SHT_HASH, SHT_STRTAB, SHT_SYMTAB,
 };
 use elf_image::{Builder, Section};
-use elf_layout_plan::is_numbered;
-use elf_tables::{Finished, TableFault};
+use elf_layout_plan::{Finished, TableFault, is_numbered};
 use patch_bytes::Wide;
 use std::alloc::{AllocError, Global};
 use std::marker::Model;

@@ -1,7 +1,7 @@
 //! The texts that stand in a string table, as they are gathered.
 use elf_image::{Dynamic, Section, SymbolsNow, VersionDef, VersionNeed, VersionNeedName};
 use elf_layout_needs::StayingNeeds;
-use elf_tables::{Finished, StringTable, TableFault};
+use elf_layout_plan::{Finished, StringTable, TableFault};
 use patch_bytes::ByteString;
 use std::alloc::{AllocError, Global};
 use std::marker::Model;
@@ -22,8 +22,8 @@ impl<'t> Model for Texts<'t> {
 
 impl<'t> Texts<'t> {
     ghost use Rattle.std.specs.Prelude.{◌≡◌, ◌≤◌, ◌<◌, ◌^◌, [], ◌∷◌, ◌++◌, get_or, length, map, IfOk, MatchResult, OnOk};
-    ghost use Rattle.elf_tables.specs.declared.fault.TableFault.TheVariants.{NumberTooLarge};
-    ghost use Rattle.elf_tables.specs.Strings.{HoldNoNul, IsTableOf, PlacesStand, table_length};
+    ghost use Rattle.elf_layout_plan.specs.TableFault.TheVariants.{NumberTooLarge};
+    ghost use Rattle.elf_layout_plan.specs.Strings.{HoldNoNul, IsTableOf, PlacesStand, table_length};
     ghost use Rattle.patch_bytes.specs.ByteString.{bytes_of_each};
     ghost use Rattle.elf_image.specs.ImageModel.{definition_model, entry_model, name_model, needs_model, section_model};
     ghost use Rattle.elf_layout_plan.specs.Texts.{texts_of_definitions, texts_of_entries, texts_of_entry, texts_of_needs, texts_of_symbols};

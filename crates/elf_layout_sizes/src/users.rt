@@ -39,7 +39,7 @@ impl<'a, 'data> Users<'a, 'data> {
     ghost use Rattle.elf_image.specs.ImageModel.{section_model};
     ghost use Rattle.elf_image.specs.Kept.{dynamic_strings_number, image_at_read};
     ghost use Rattle.elf_layout_plan.specs.Sizes.{dynamic_size as size_of_dynamic, needs_size as size_of_needs};
-    ghost use Rattle.elf_tables.specs.Strings.{HoldNoNul};
+    ghost use Rattle.elf_layout_plan.specs.Strings.{HoldNoNul};
     ghost use Rattle.elf_layout_plan.specs.Needs.{written_entries, written_needs};
     ghost use Rattle.elf_layout_sizes.specs.OtherTexts.{HasDynamicNamesOf, HasNamesOf, HasOtherDynamicNames, HasStaticNamesOf, others_in_use};
     ghost use Rattle.elf_layout_plan.specs.Texts.{are_names_changed as have_names_changed, if_linked, if_names, is_table_copied, texts_in_use, texts_of_definitions, texts_of_entries, texts_of_needs, texts_of_symbols};

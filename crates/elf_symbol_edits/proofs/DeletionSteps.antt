@@ -13,7 +13,7 @@ use Rattle.elf_image.specs.Needed.{is_lasting, is_section_used}
 use Rattle.elf_image.specs.Relocated.{is_symbol_used}
 use Rattle.elf_image.specs.Staying.{staying}
 use Rattle.elf_image.specs.Along.{goes_along, symbols_along}
-use Rattle.elf_image_uses.proofs.ForCallers.{kept_firsts_rise}
+use Rattle.elf_edits.proofs.ForCallers.{kept_firsts_rise}
 use Rattle.elf_symbol_edits.specs.declared.deletion.Deletion.{Deletion as DeletionHeld}
 use Rattle.elf_symbol_edits.specs.Deletion.{AreRising, Deletion, deletion_of, no_deletion}
 use Rattle.elf_symbol_edits.specs.EditModel.{IsDeletionOf, deletion_model}

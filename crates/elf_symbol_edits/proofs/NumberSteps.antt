@@ -8,7 +8,7 @@ use Rattle.std.proofs.lemmas.List.Elements.{Contains-get_or}
 use Rattle.std.proofs.lemmas.Option.{none-some, same_Some, slice_get-get_or, slice_get-map}
 use Rattle.elf_format.specs.Options.{is_one_of}
 use Rattle.elf_image.proofs.ForCallers.ListsLeft.{contained_by, contains_cases, contains_cons, contains_first, left_was, none_if}
-use Rattle.elf_image_uses.proofs.ForCallers.{kept_firsts_rise}
+use Rattle.elf_edits.proofs.ForCallers.{kept_firsts_rise}
 use Rattle.elf_symbol_edits.specs.Named.{numbers_passing}
 
 -- ## Two lists side by side

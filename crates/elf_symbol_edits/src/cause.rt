@@ -10,10 +10,10 @@ ghost use Rattle.elf_symbol_edits.specs.EditModel.{IsChecked, TellsWhy, edit_mod
 use crate::deletion::Deletion;
 use crate::edit::SymbolEdit;
 use crate::error::SymbolEditError;
+use elf_edits::can_renumber;
 use elf_edits::symbols::rename_any;
 use elf_format::constants::EM_MIPS;
 use elf_image::Builder;
-use elf_image_uses::can_renumber;
 use std::alloc::{AllocError, Global};
 
 /// Why an edit is refused.

@@ -13,11 +13,11 @@ ghost use Rattle.elf_symbol_edits.specs.SymbolEdit.{DeleteAllSymbols, DeleteDyna
 use crate::cause::Cause;
 use crate::edit::SymbolEdit;
 use crate::names::{sections_with, symbols_with};
-use elf_format::constants::{SHT_DYNSYM, SHT_SYMTAB};
-use elf_image::Builder;
-use elf_image_uses::{
+use elf_edits::{
     can_renumber, has_opaque_user, is_section_used, is_symbol_used, symbols_along, table_number,
 };
+use elf_format::constants::{SHT_DYNSYM, SHT_SYMTAB};
+use elf_image::Builder;
 use std::alloc::{AllocError, Global};
 
 // What an edit deletes, by numbers at read, which rise.

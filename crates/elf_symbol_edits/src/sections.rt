@@ -15,8 +15,8 @@ ghost use Rattle.elf_symbol_edits.specs.Steps.{AreNames, with_name_at, with_sect
 ghost use Rattle.elf_symbol_edits.specs.SymbolEdit.{RenameSections, texts_of};
 
 use elf_edits::lookups::map_of;
+use elf_edits::remaining_segments;
 use elf_image::{Builder, Section};
-use elf_image_uses::remaining_segments;
 use patch_bytes::ByteString;
 use std::alloc::{AllocError, Global};
 use std::collections::HashMap;

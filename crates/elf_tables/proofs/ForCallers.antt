@@ -20,3 +20,5 @@ pub use Rattle.elf_tables.proofs.SymbolBack
 pub use Rattle.elf_tables.proofs.TableBack
 -- version tables are read back from their own bytes
 pub use Rattle.elf_tables.proofs.VersionLaws
+pub use Rattle.elf_image.proofs.ForCallers.ReadImageLaws
+pub use Rattle.elf_image.proofs.ForCallers.Unclaimed

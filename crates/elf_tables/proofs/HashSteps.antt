@@ -2,8 +2,8 @@
 use Rattle.std.proofs.Common.{◌≡◌, ◌≢◌, ◌≤◌, ◌<◌, ℕ, ◌+◌, ◌*◌, ◌%◌, ◌^◌, List, ◌∷◌, length, drop, sym, ap, ◌∙◌}
 use Rattle.std.specs.Prelude.{fold, slice_index}
 use Rattle.std.proofs.lemmas.List.{drop_all, drop_more}
-use Rattle.elf_image_symbols.specs.FrontText.{front_text}
-use Rattle.elf_image_symbols.proofs.FrontLaws.{front_text-byte, front_text-none, front_text-nul}
+use Rattle.elf_image.specs.FrontText.{front_text}
+use Rattle.elf_image.proofs.ForCallers.FrontLaws.{front_text-byte, front_text-none, front_text-nul}
 
 -- the GNU hash of what was hashed so far and one byte more
 abbrev pub gnu_step : ℕ → ℕ → ℕ

@@ -9,3 +9,14 @@ pub mod KeyedModel
 pub mod VersionRecords
 pub mod VersionSteps
 pub mod Rows
+pub use Rattle.elf_image.specs.Complete
+pub use Rattle.elf_image.specs.Edited
+pub use Rattle.elf_image.specs.Kept
+pub use Rattle.elf_image.specs.Names
+pub use Rattle.elf_image.specs.ReadImage
+pub use Rattle.elf_image.specs.Segments
+pub use Rattle.elf_image.specs.Spare
+pub use Rattle.elf_image.specs.ImageModel
+pub use Rattle.elf_image.specs.SymbolsRead
+pub use Rattle.elf_image.specs.Loan
+pub use Rattle.elf_image.specs.TableSymbols

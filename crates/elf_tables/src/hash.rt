@@ -1,6 +1,6 @@
 ghost use Rattle.std.specs.Prelude.{◌≡◌, ◌+◌, ◌*◌, ◌%◌, ◌^◌};
 ghost use Rattle.elf_format.specs.Hashes.{gabi_hash, gabi_step, gnu_hash as gnu_hash_of};
-ghost use Rattle.elf_image_symbols.specs.FrontText.{front_text};
+ghost use Rattle.elf_image.specs.FrontText.{front_text};
 
 // The gABI's hash of what was hashed so far and one byte more.
 fn with_byte(hash: u32, byte: u8) -> u32

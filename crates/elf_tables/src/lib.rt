@@ -24,3 +24,6 @@ pub use crate::needs::build_verneed;
 pub use crate::numbers::{push_halves, push_words};
 pub use crate::strings::StringTable;
 pub use crate::versions::{build_verdef, build_versym};
+pub use elf_image::{
+    Builder, Dynamic, SymbolsNow, VersionId, VersionNeed, VersionNeedName, constants,
+};

@@ -7,7 +7,7 @@ use Rattle.std.proofs.lemmas.List.{take_all}
 use Rattle.std.proofs.lemmas.Option.{slice_get-map}
 use Rattle.elf_format.specs.Image.{Image}
 use Rattle.elf_format.specs.Views.{NamedSymbol}
-use Rattle.elf_hashes.specs.Found.{is_local}
+use Rattle.elf_write_symbols.specs.Found.{is_local}
 use Rattle.elf_write_spec.specs.Final.{dynamic_order, final, final_symbol, ordered}
 use Rattle.elf_write_spec.specs.Headers.{behind_locals}
 use Rattle.elf_write_spec.specs.Ready.{IsEditedReady}

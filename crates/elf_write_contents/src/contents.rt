@@ -4,7 +4,7 @@ ghost use Rattle.std.specs.List.{list_all};
 ghost use Rattle.patch_bytes.specs.ByteString.{bytes_of_each};
 ghost use Rattle.elf_format.specs.declared.constants.TheConstants.{SHT_GNU_VERSYM as VERSYM};
 ghost use Rattle.elf_format.specs.Options.{is_some_and};
-ghost use Rattle.elf_hashes.specs.Versions.{AreVersionsOf};
+ghost use Rattle.elf_write_symbols.specs.Versions.{AreVersionsOf};
 ghost use Rattle.elf_tables.specs.Fields.{do_fields_fit};
 ghost use Rattle.elf_tables.specs.Spelled.{entry_fields};
 ghost use Rattle.elf_image.specs.Kept.{interpreter_number as number_of_interpreter, kept_sections};

@@ -9,7 +9,7 @@ ghost use Rattle.elf_layout_plan.specs.Plan.{IsPlan, resized};
 ghost use Rattle.elf_layout_plan.specs.PlanModel.{place_model};
 ghost use Rattle.elf_tables.specs.declared.fault.TableFault.TheVariants.{NumberTooLarge};
 ghost use Rattle.elf_tables.specs.Strings.{place_of};
-ghost use Rattle.elf_hashes.specs.Found.{is_local as is_local_symbol};
+ghost use Rattle.elf_write_symbols.specs.Found.{is_local as is_local_symbol};
 ghost use Rattle.elf_image_symbol_edits.specs.Loan.{symbols_now};
 ghost use Rattle.elf_write_symbol_tables.specs.Written.{AreWritten};
 ghost use Rattle.elf_write_spec.specs.Final.{final, new_number as number_of};

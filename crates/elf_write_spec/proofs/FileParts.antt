@@ -24,13 +24,13 @@ use Rattle.elf_format.specs.Image.{ImageSection}
 use Rattle.elf_format.specs.Places.{occupies_file}
 use Rattle.elf_format.specs.Records.{section_header, section_header_size, segment_header, segment_header_size}
 use Rattle.elf_format.specs.Rules.{file_of, has_magic}
-use Rattle.elf_tables.specs.Fields.{do_fields_fit}
-use Rattle.elf_tables.specs.ReadBack.{IsTableReadBack}
-use Rattle.elf_tables.specs.Spelled.{section_fields, segment_fields, spelled_file_header, spelled_section_header, spelled_segment_header}
-use Rattle.elf_tables.proofs.ForCallers.FilesOpened.{files_are_opened}
-use Rattle.elf_tables.proofs.ForCallers.SectionHeaderBack.{section_headers_are_read_back}
-use Rattle.elf_tables.proofs.ForCallers.SegmentHeaderBack.{segment_headers_are_read_back}
-use Rattle.elf_tables.proofs.ForCallers.TableBack.{tables_are_read_back}
+use Rattle.elf_layout_plan.specs.Fields.{do_fields_fit}
+use Rattle.elf_layout_plan.specs.ReadBack.{IsTableReadBack}
+use Rattle.elf_layout_plan.specs.Spelled.{section_fields, segment_fields, spelled_file_header, spelled_section_header, spelled_segment_header}
+use Rattle.elf_layout_plan.proofs.ForCallers.FilesOpened.{files_are_opened}
+use Rattle.elf_layout_plan.proofs.ForCallers.SectionHeaderBack.{section_headers_are_read_back}
+use Rattle.elf_layout_plan.proofs.ForCallers.SegmentHeaderBack.{segment_headers_are_read_back}
+use Rattle.elf_layout_plan.proofs.ForCallers.TableBack.{tables_are_read_back}
 use Rattle.elf_image.specs.Kept.{KeptSection, image_at_read, kept_sections}
 use Rattle.elf_layout_plan.specs.Memory.{Resized}
 use Rattle.elf_layout_plan.specs.Plan.{Layout, resized}

@@ -53,3 +53,5 @@ pub use Rattle.elf_write_spec.proofs.WholeLists
 pub use Rattle.elf_write_spec.proofs.StaticSymbols
 -- what a section's bytes are, by its type
 pub use Rattle.elf_write_spec.proofs.SectionKinds
+pub use Rattle.elf_layout_plan.proofs.ForCallers.ApartLists
+pub use Rattle.elf_layout_plan.proofs.ForCallers.SameTexts

@@ -21,7 +21,7 @@ use Rattle.elf_format.specs.Ranges.{all_apart, apart, end_of, lies_in, range}
 use Rattle.elf_format.specs.Records.{file_header_size, section_header_size}
 use Rattle.elf_format.specs.Views.{byte_at}
 use Rattle.elf_format.proofs.ForCallers.Placed.{held_ranges_are_seen}
-use Rattle.elf_tables.specs.Spelled.{spelled_file_header, spelled_section_header, spelled_segment_header}
+use Rattle.elf_layout_plan.specs.Spelled.{spelled_file_header, spelled_section_header, spelled_segment_header}
 use Rattle.elf_layout_plan.specs.FilePlaced.{written_headers, written_size, written_table}
 use Rattle.elf_layout_plan.specs.Anchors.{is_loaded_section}
 use Rattle.elf_image.specs.Kept.{KeptSection, image_at_read, kept_sections, place_at_read}

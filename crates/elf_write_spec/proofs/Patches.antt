@@ -14,10 +14,10 @@ use Rattle.elf_format.specs.Placement.{ends_by, file_part}
 use Rattle.elf_format.specs.Places.{Place, file_range, occupies_file}
 use Rattle.elf_format.specs.Ranges.{end_of, range}
 use Rattle.elf_format.specs.Records.{file_header_size, section_header_size, segment_header_size}
-use Rattle.elf_tables.specs.Spelled.{spelled_file_header, spelled_section_header, spelled_segment_header}
-use Rattle.elf_tables.proofs.ForCallers.FileHeaderBack.{file_headers_are_read_back}
-use Rattle.elf_tables.proofs.ForCallers.SectionHeaderBack.{section_headers_are_read_back}
-use Rattle.elf_tables.proofs.ForCallers.SegmentHeaderBack.{segment_headers_are_read_back}
+use Rattle.elf_layout_plan.specs.Spelled.{spelled_file_header, spelled_section_header, spelled_segment_header}
+use Rattle.elf_layout_plan.proofs.ForCallers.FileHeaderBack.{file_headers_are_read_back}
+use Rattle.elf_layout_plan.proofs.ForCallers.SectionHeaderBack.{section_headers_are_read_back}
+use Rattle.elf_layout_plan.proofs.ForCallers.SegmentHeaderBack.{segment_headers_are_read_back}
 use Rattle.elf_layout_plan.specs.FilePlaced.{written_size, written_table}
 use Rattle.elf_image.specs.Kept.{KeptSection, kept_sections}
 use Rattle.elf_layout_plan.specs.Memory.{Resized}

@@ -25,7 +25,7 @@ use Rattle.elf_image.specs.Edited.{AreSameNeeds}
 use Rattle.elf_image.specs.Kept.{image_at_read}
 use Rattle.elf_image.specs.ReadImage.{AreDynamicSymbols}
 use Rattle.elf_image.proofs.ForCallers.NeedsKept.{versions_same}
-use Rattle.elf_image_symbol_edits.specs.EditedList.{as_global, global_version}
+use Rattle.elf_image.specs.EditedList.{as_global, global_version}
 use Rattle.elf_layout_plan.specs.Needs.{is_version_used, written_needs}
 use Rattle.elf_write_spec.specs.Final.{final}
 use Rattle.elf_write_spec.specs.ReadBack.{HasWrittenParts, written_parts}

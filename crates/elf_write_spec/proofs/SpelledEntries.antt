@@ -15,9 +15,9 @@ use Rattle.elf_format.specs.declared.records.EntryNumbers.{EntryNumbers}
 use Rattle.elf_format.specs.Records.{entry_numbers, entry_size}
 use Rattle.elf_format.proofs.ForCallers.EntrySteps.{entries_end, entries_goes}
 use Rattle.elf_format.proofs.ForCallers.ReadingSteps.{with_front}
-use Rattle.elf_tables.specs.Fields.{do_fields_fit}
-use Rattle.elf_tables.specs.Spelled.{entry_fields, spelled_entry}
-use Rattle.elf_tables.proofs.ForCallers.EntryBack.{entries_are_read_back}
+use Rattle.elf_layout_plan.specs.Fields.{do_fields_fit}
+use Rattle.elf_layout_plan.specs.Spelled.{entry_fields, spelled_entry}
+use Rattle.elf_layout_plan.proofs.ForCallers.EntryBack.{entries_are_read_back}
 use Rattle.elf_layout_plan.proofs.ForCallers.ApartLists.{Each}
 
 form_of : Wide → ByteOrder2 → Form

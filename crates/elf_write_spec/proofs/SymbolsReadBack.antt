@@ -17,7 +17,7 @@ use Rattle.elf_format.specs.Records.{symbols_in}
 use Rattle.elf_format.specs.Rules.{text_users, texts_of}
 use Rattle.elf_format.specs.Views.{NamedSymbol, named_symbols, names_of}
 use Rattle.elf_image.specs.ReadImage.{AreStaticSymbols, AreSymbolsOf, IsSymbolOf}
-use Rattle.elf_image_symbols.specs.TableSymbols.{kept_as}
+use Rattle.elf_image.specs.TableSymbols.{kept_as}
 use Rattle.elf_image.specs.Kept.{image_at_read, kept_of_type}
 use Rattle.elf_write_spec.specs.Contents.{AreSymbolsOf as AreWrittenSymbols, IsSymbolOf as IsWrittenSymbol}
 use Rattle.elf_write_spec.specs.Final.{final, final_symbol}

@@ -16,9 +16,9 @@ use Rattle.elf_format.specs.Places.{Place}
 use Rattle.elf_format.specs.Records.{entry_size, symbol_size, symbols_in}
 use Rattle.elf_format.specs.Versions.{VersionDefinition, VersionNeeds}
 use Rattle.elf_format.specs.Views.{NamedSymbol, Table, defined_versions, needed_versions}
-use Rattle.elf_tables.specs.Spelled.{spelled_entry}
-use Rattle.elf_tables.specs.Strings.{PlacesStand, Strings}
-use Rattle.elf_tables.specs.VersionRecords.{definition_table, has_definition_texts, has_needs_texts, needs_table, placed_definition, placed_needs}
+use Rattle.elf_layout_plan.specs.Spelled.{spelled_entry}
+use Rattle.elf_layout_plan.specs.Strings.{PlacesStand, Strings}
+use Rattle.elf_layout_plan.specs.VersionRecords.{definition_table, has_definition_texts, has_needs_texts, needs_table, placed_definition, placed_needs}
 use Rattle.elf_format.specs.Hashes.{GnuHeader, gnu_header, word_of_table}
 use Rattle.elf_hashes.specs.declared.gnu.GnuSizes.{GnuSizes}
 use Rattle.elf_hashes.specs.Found.{hashed_names}

@@ -11,3 +11,8 @@ pub mod KeptSymbols
 pub mod KeptSegments
 pub mod WrittenFile
 pub mod Laws
+pub use Rattle.elf_relocations.specs.Renumbered
+pub use Rattle.elf_layout_plan.specs.Plan
+pub use Rattle.elf_layout_plan.specs.Sizes
+pub use Rattle.elf_layout_plan.specs.VersionRecords
+pub use Rattle.elf_layout_plan.specs.TableFault

@@ -10,9 +10,9 @@ use Rattle.elf_format.specs.Image.{Image}
 use Rattle.elf_format.specs.Places.{Place, occupies_file}
 use Rattle.elf_format.specs.Ranges.{apart, range}
 use Rattle.elf_format.specs.Records.{file_header_size}
-use Rattle.elf_tables.specs.Fields.{do_fields_fit}
-use Rattle.elf_tables.specs.Spelled.{entry_fields, file_header_fields, section_fields, segment_fields}
-use Rattle.elf_tables.specs.Spelled.{spelled_file_header, spelled_section_header, spelled_segment_header}
+use Rattle.elf_layout_plan.specs.Fields.{do_fields_fit}
+use Rattle.elf_layout_plan.specs.Spelled.{entry_fields, file_header_fields, section_fields, segment_fields}
+use Rattle.elf_layout_plan.specs.Spelled.{spelled_file_header, spelled_section_header, spelled_segment_header}
 use Rattle.elf_image.specs.Edited.{IsEdited}
 use Rattle.elf_image.specs.Names.{are_names_changed}
 use Rattle.elf_layout_plan.specs.FilePlaced.{written_size, written_table}

@@ -3,3 +3,6 @@
 #![tactic(auto)]
 
 pub mod laws;
+
+pub use elf_layout_plan::{TableFault, is_numbered};
+pub use elf_relocations::{do_relocations_fit, renumber_relocations};

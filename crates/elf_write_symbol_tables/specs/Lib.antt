@@ -7,3 +7,4 @@ pub use Rattle.elf_write_strings.specs.Staying
 pub use Rattle.elf_write_strings.specs.VersionPlaces
 pub use Rattle.elf_write_strings.specs.Written
 pub use Rattle.elf_write_strings.specs.WrittenStrings
+pub use Rattle.elf_image_symbols.specs.TableSymbols

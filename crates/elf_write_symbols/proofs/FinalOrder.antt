@@ -28,7 +28,7 @@ use Rattle.elf_write_spec.specs.Ready.{IsEditedReady}
 use Rattle.elf_write_spec.proofs.ForCallers.FinalSymbols.{all_symbols, final_ordered}
 use Rattle.elf_write_spec.proofs.ForCallers.OrderFacts.{HasSymbols, final_names, keeps_first, order_are_places, ordered-same}
 use Rattle.elf_write_spec.proofs.ForCallers.WholeEdits.{ReadFacts}
-use Rattle.elf_layout_plan.proofs.ForCallers.SameTexts.{names_same}
+use Rattle.elf_write_spec.proofs.ForCallers.SameTexts.{names_same}
 use Rattle.elf_write_symbols.proofs.HashSteps.{front_long, header_there}
 
 -- ## Hash tables that can be made anew

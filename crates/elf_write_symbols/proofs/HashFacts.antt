@@ -15,7 +15,7 @@ use Rattle.elf_hashes.specs.Gabi.{IsGabiTable}
 use Rattle.elf_hashes.specs.Gnu.{IsGnuTable}
 use Rattle.elf_hashes.proofs.SizeLaws.{hash_tables_are_sized}
 use Rattle.elf_image.specs.Names.{are_names_changed}
-use Rattle.elf_layout_plan.specs.Sizes.{gnu_size, hash_size}
+use Rattle.elf_write_spec.specs.Sizes.{gnu_size, hash_size}
 use Rattle.elf_write_spec.specs.Contents.{gabi_buckets, sizes_in}
 use Rattle.elf_write_spec.specs.Final.{dynamic_order, final, ordered}
 use Rattle.elf_write_spec.specs.Ready.{IsEditedReady, IsSectionOfType}

@@ -8,7 +8,7 @@ use Rattle.std.proofs.lemmas.Option.{get_or_from_slice_get, same_Some, slice_get
 use Rattle.std.specs.Option.{option_map}
 use Rattle.elf_format.specs.Image.{Image, counted}
 use Rattle.elf_format.proofs.ForCallers.Lengths.{length-counted}
-use Rattle.elf_layout_plan.proofs.ForCallers.ApartLists.{map-at}
+use Rattle.elf_write_spec.proofs.ForCallers.ApartLists.{map-at}
 use Rattle.elf_write_spec.specs.Final.{dynamic_order, new_dynamic_symbol, new_dynamic_symbols, new_static_symbol, new_static_symbols}
 use Rattle.elf_write_spec.proofs.ForCallers.FinalSymbols.{all_symbols}
 use Rattle.elf_write_spec.proofs.ForCallers.NumberedSections.{one_position}

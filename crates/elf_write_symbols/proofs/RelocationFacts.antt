@@ -20,7 +20,7 @@ use Rattle.elf_image.specs.Kept.{KeptSection, kept_sections}
 use Rattle.elf_image.specs.Names.{are_names_changed}
 use Rattle.elf_image.specs.Relocated.{are_relocations, is_against, names_symbol}
 use Rattle.elf_image.specs.Staying.{table_number}
-use Rattle.elf_relocations.specs.Renumbered.{are_symbols_below, is_symbol_below}
+use Rattle.elf_write_spec.specs.Renumbered.{are_symbols_below, is_symbol_below}
 use Rattle.elf_write_spec.specs.Final.{is_static_renumbered, new_dynamic_symbols, new_static_symbol, new_static_symbols}
 use Rattle.elf_write_spec.proofs.ForCallers.FinalSymbols.{all_symbols}
 use Rattle.elf_write_spec.proofs.ForCallers.LinkedLists.{all-at_each}

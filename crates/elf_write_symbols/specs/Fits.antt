@@ -3,7 +3,7 @@ use Rattle.std.specs.Prelude.{ℕ, List, Bool, ◌&&◌, Option, Some, None, if�
 use Rattle.elf_format.specs.declared.constants.TheConstants.{SHT_DYNSYM, SHT_SYMTAB}
 use Rattle.elf_format.specs.Image.{Image, ImageSection}
 use Rattle.elf_format.specs.Options.{first_there, is_none_or}
-use Rattle.elf_relocations.specs.Renumbered.{do_relocations_fit}
+use Rattle.elf_write_spec.specs.Renumbered.{do_relocations_fit}
 use Rattle.elf_image.specs.Kept.{KeptSection}
 use Rattle.elf_image.specs.Names.{are_names_changed}
 use Rattle.elf_image.specs.Relocated.{is_against}

@@ -5,8 +5,8 @@ ghost use Rattle.elf_format.specs.declared.section_data.SectionData.TheVariants.
 ghost use Rattle.elf_image.specs.ImageModel.{section_model};
 ghost use Rattle.elf_image.specs.Kept.{kept_sections};
 ghost use Rattle.elf_image.specs.Relocated.{is_against as is_section_against};
-ghost use Rattle.elf_layout_plan.specs.Plan.{resized};
-ghost use Rattle.elf_relocations.specs.Renumbered.{AreRenumbered};
+ghost use Rattle.elf_write_spec.specs.Plan.{resized};
+ghost use Rattle.elf_write_spec.specs.Renumbered.{AreRenumbered};
 ghost use Rattle.elf_write_spec.specs.Contents.{AreRelocationsOf};
 ghost use Rattle.elf_write_spec.specs.Ready.{IsEditedReady, IsSectionOfType};
 ghost use Rattle.elf_write_symbols.specs.Fits.{do_numbers_fit_in, do_section_relocations_fit, dynamic_numbers_for as dynamic_for, numbers_for as all_for, static_numbers_for as static_for};
@@ -17,8 +17,7 @@ use crate::numbers::NewNumbers;
 use crate::renumbering::{Renumbering, Reordering};
 use crate::sections::is_against;
 use elf_image::{Builder, Section};
-use elf_relocations::{do_relocations_fit, renumber_relocations};
-use elf_tables::TableFault;
+use elf_write_spec::{TableFault, do_relocations_fit, renumber_relocations};
 use patch_bytes::ByteString;
 use std::alloc::{AllocError, Global};
 

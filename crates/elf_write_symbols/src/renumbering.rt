@@ -1,7 +1,7 @@
 //! The order that dynamic symbols get, and the numbers of all sections and symbols.
 ghost use Rattle.std.specs.Prelude.{◌≡◌, ◌≢◌, ◌<◌, ◌^◌, IfOk, IfSome, MatchResult, Some, false, length, true};
 ghost use Rattle.std.specs.List.{slice_get};
-ghost use Rattle.elf_tables.specs.declared.fault.TableFault.TheVariants.{NumberTooLarge};
+ghost use Rattle.elf_write_spec.specs.TableFault.TheVariants.{NumberTooLarge};
 ghost use Rattle.elf_format.specs.declared.constants.TheConstants.{SHT_SYMTAB as SYMTAB};
 ghost use Rattle.elf_format.specs.Hashes.{gnu_hash};
 ghost use Rattle.elf_hashes.specs.Found.{found_hashes};
@@ -18,7 +18,7 @@ use elf_format::constants::{SHT_DYNSYM, SHT_GNU_HASH, SHT_SYMTAB};
 use elf_format::numbers::{counted, word_at};
 use elf_hashes::{gnu_hashes, order_for_gnu_hash};
 use elf_image::Builder;
-use elf_tables::TableFault;
+use elf_write_spec::TableFault;
 use std::alloc::Global;
 
 /// The new order and the new numbers of the dynamic symbols of an image, some of which have other names than were read, or are

@@ -7,7 +7,7 @@ ghost use Rattle.elf_image.specs.Staying.{table_number as number_of_table};
 
 use elf_format::SectionData;
 use elf_image::{Builder, Section};
-use elf_layout_plan::is_numbered;
+use elf_write_spec::is_numbered;
 
 // The first section of a type.
 fn find_type<'a, 'data>(sections: &'a [Section<'data>], kind: u32) -> Option<&'a Section<'data>>

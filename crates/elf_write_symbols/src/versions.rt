@@ -12,7 +12,7 @@ use crate::renumbering::Reordering;
 use elf_format::numbers::counted;
 use elf_hashes::build_versym;
 use elf_image::{Builder, Section};
-use elf_tables::TableFault;
+use elf_write_spec::TableFault;
 use patch_bytes::ByteString;
 use std::alloc::{AllocError, Global};
 

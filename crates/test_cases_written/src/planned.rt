@@ -6,10 +6,9 @@ ghost use Rattle.elf_layout_plan.specs.Refusals.{do_sizes_of_image_fit};
 
 use crate::written::makes;
 use arwen_elf::elf::ElfContainer;
+use arwen_elf::{LayoutFault, Plan, image_bytes, image_pieces, image_pieces_from_read, lay_out};
 use elf_image::Builder;
-use elf_layout::{LayoutFault, Plan, lay_out};
 use elf_layout_plan::read_source;
-use elf_write::{image_bytes, image_pieces, image_pieces_from_read};
 use std::alloc::Global;
 use std::io;
 

@@ -4,8 +4,8 @@ use crate::edits::tell;
 use crate::taker::Taker;
 use crate::words::{first, place};
 use crate::written::container_bytes;
+use arwen_elf::Sink;
 use arwen_elf::elf::{ElfContainer, ElfError};
-use elf_write::Sink;
 use std::alloc::Global;
 use std::io;
 

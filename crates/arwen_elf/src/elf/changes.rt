@@ -2,17 +2,16 @@
 ghost use Rattle.std.specs.Prelude.{◌≡◌, ◌∷◌, [], IfOk, IsOk};
 ghost use Rattle.elf_edits.specs.Edit.{AddDebugEntry, AddNeeded, AddRunPath, ClearExecStack, ClearSymbolVersion, DeleteNeeded, DeleteRunPath, NoDefaultLibrary, RenameDynamicSymbols, ReplaceLibrary, ReplaceNeeded, SetExecStack, SetInterpreter, SetOsAbi, SetPageSize, SetRunPath, SetSoname, UseRpath};
 ghost use Rattle.elf_edits.specs.EditModel.{pairs_model, texts_model};
-ghost use Rattle.elf_apply.specs.Taken.{RemovedAre, edits_model, shrink_model};
+ghost use Rattle.arwen_elf_writer.specs.Taken.{RemovedAre, edits_model, shrink_model};
 ghost use Rattle.elf_image.specs.Leave.{with_dynamic_move};
-ghost use Rattle.elf_symbol_edits.specs.EditModel.{edit_model as symbol_edit_model};
+ghost use Rattle.arwen_elf_writer.specs.EditModel.{edit_model as symbol_edit_model};
 ghost use Rattle.arwen_elf.specs.Contained.{BatchTaken, EditTaken, InPlaceTaken, SymbolEditTaken};
 
 use crate::elf::container::ElfContainer;
-use elf_apply::batch::ElfBatchError;
-use elf_apply::error::Result;
+use arwen_elf_writer::batch::ElfBatchError;
+use arwen_elf_writer::error::Result;
+use arwen_elf_writer::{ProbeAnswer, Removed, SymbolEdit};
 use elf_edits::ElfEdit;
-use elf_edits_shrink::{ProbeAnswer, Removed};
-use elf_symbol_edits::SymbolEdit;
 use std::alloc::{AllocError, Global};
 use std::collections::HashMap;
 

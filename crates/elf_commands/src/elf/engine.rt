@@ -1,12 +1,12 @@
 //! What is made of a file's bytes, and printed of them.
 ghost use Rattle.std.specs.Prelude.{◌≡◌, IfOk, IfErr, map, string_bytes};
-ghost use Rattle.elf_edits_shrink.specs.ShrinkModel.{answer_model};
+ghost use Rattle.elf_commands_steps.specs.ShrinkModel.{answer_model};
 ghost use Rattle.elf_commands.specs.ShrinkRuns.{RunsCommand, TellsCommand};
 ghost use Rattle.std.specs.Io.KnownBytes.{Appends};
 ghost use Rattle.byte_store.specs.Composed.{IsDifference, made_of};
 ghost use Rattle.elf_commands_steps.specs.Written.{IsNoDifference};
 ghost use Rattle.elf_commands.specs.ElfStores.{ChangesNothing};
-ghost use Rattle.elf_apply.specs.Causes.{FailsPrint};
+ghost use Rattle.elf_commands_steps.specs.Causes.{FailsPrint};
 ghost use Rattle.elf_image.specs.Image.{image_of, shown};
 ghost use Rattle.elf_commands.specs.ElfAsked.{elf_asked};
 ghost use Rattle.elf_commands.specs.ElfEngine.{AreEditsAsked, IsElfEdited, LeavesElf, RunsElf, TellsEdit, TellsRun, bytes_left, elf_refusal};

@@ -2,7 +2,7 @@
 ghost use Rattle.std.specs.Prelude.{IfErr, IfOk, OnOk, length, map, string_bytes};
 ghost use Rattle.byte_store.specs.Composed.{IsDifference};
 ghost use Rattle.byte_store.specs.Known.{HasLength, IsAll};
-ghost use Rattle.elf_edits_shrink.specs.ShrinkModel.{answer_model};
+ghost use Rattle.elf_commands_steps.specs.ShrinkModel.{answer_model};
 ghost use Rattle.elf_edits.specs.Edit.{ShrinkRunPath};
 ghost use Rattle.elf_commands.specs.ElfAsked.{shrinking};
 ghost use Rattle.elf_commands.specs.ElfEngine.{MayFailAs};

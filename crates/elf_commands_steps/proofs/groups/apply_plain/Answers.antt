@@ -1,6 +1,6 @@
 use Rattle.std.proofs.Common.{◌≡◌, ◌∷◌, [], List, subst}
 use Rattle.std.specs.Prelude.{Ok}
-use Rattle.elf_apply.specs.Taken.{edits_model}
+use Rattle.arwen_elf.specs.Taken.{edits_model}
 use Rattle.elf_edits.specs.Batch.{run}
 use Rattle.elf_edits.specs.EditModel.{edit_model}
 use Rattle.elf_edits.specs.declared.edit.ElfEdit.{ElfEdit}

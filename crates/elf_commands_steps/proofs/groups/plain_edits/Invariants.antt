@@ -1,5 +1,5 @@
 use Rattle.std.proofs.Common.{◌≡◌, map}
-use Rattle.elf_apply.specs.Taken.{edits_model}
+use Rattle.arwen_elf.specs.Taken.{edits_model}
 use Rattle.elf_commands_steps.specs.Groups.{group_model, plain_of}
 use Rattle.elf_commands_steps.proofs.groups.plain_edits.Given as goal
 

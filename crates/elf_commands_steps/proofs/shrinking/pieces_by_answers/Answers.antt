@@ -1,7 +1,7 @@
 use Rattle.std.proofs.Common.{List, Result, Ok, Err, map, string_bytes, subst, ◌∙◌, ap, inl, inr}
 use Rattle.std.specs.Prelude.{IfOk}
 use Rattle.std.proofs.lemmas.Result.{IfErr-weaker, IfOk-weaker}
-use Rattle.elf_apply.specs.Told.{Refuses}
+use Rattle.arwen_elf.specs.Told.{Refuses}
 use Rattle.elf_edits_shrink.specs.ShrinkModel.{answer_model}
 use Rattle.elf_edits.specs.Edit.{ShrinkRunPath}
 use Rattle.elf_edits.specs.Edited.{step}

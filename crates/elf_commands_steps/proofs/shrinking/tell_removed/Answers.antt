@@ -1,6 +1,6 @@
 use Rattle.std.proofs.Common.{refl}
 use Rattle.std.proofs.lemmas.Result.{err_from_is_err_and}
-use Rattle.elf_apply.specs.declared.error.ElfError.TheVariants.{Memory}
+use Rattle.arwen_elf.specs.ElfError.TheVariants.{Memory}
 use Rattle.elf_commands_steps.proofs.shrinking.tell_removed.Goals as goal
 
 pub returns-in_err-text-clause-err : goal.returns-in_err-text-clause-err

@@ -4,7 +4,7 @@ use Rattle.std.proofs.lemmas.Result.{err_from_is_err_and}
 use Rattle.elf_format.specs.declared.fault.ElfFault.{ElfFault}
 use Rattle.elf_format.specs.Image.{Image, image_of}
 use Rattle.elf_format.specs.Stages.{parts_read}
-use Rattle.elf_image_rules.specs.Read.{parts_model}
+use Rattle.elf_image_versions.specs.Read.{parts_model}
 use Rattle.elf_image.specs.ImageSteps.{image_gathered}
 use Rattle.elf_format.specs.File.{Parts}
 use Rattle.elf_image.specs.SymbolsRead.{AreSymbolsOfFile, AreSymbolsRead}

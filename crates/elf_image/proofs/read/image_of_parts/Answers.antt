@@ -1,7 +1,7 @@
 -- Each stage's refusal is the answer, and the image where none refuses.
 use Rattle.std.proofs.lemmas.Result.{err_from_is_err_and}
 use Rattle.elf_format.specs.Stages.{link_rules}
-use Rattle.elf_image_rules.specs.Read.{parts_model}
+use Rattle.elf_image_versions.specs.Read.{parts_model}
 use Rattle.elf_format.specs.Rules.{checked, placement_rules}
 use Rattle.elf_image.specs.ImageSteps.{image_gathered}
 use Rattle.elf_image.proofs.ReadSteps.{image_is_read, links_refused, placement_refused, refused_is}

@@ -5,7 +5,7 @@ use Rattle.elf_format.specs.declared.records.SectionHeader.{SectionHeader}
 use Rattle.elf_format.specs.declared.section_data.SectionData.{SectionData}
 use Rattle.elf_format.specs.File.{Parts}
 use Rattle.elf_format.specs.Rules.{data_of}
-use Rattle.elf_image_rules.specs.Read.{parts_model}
+use Rattle.elf_image_versions.specs.Read.{parts_model}
 use Rattle.elf_image.proofs.TextSteps.{no_section}
 use Rattle.elf_image.proofs.read.kinds.Goals as goal
 

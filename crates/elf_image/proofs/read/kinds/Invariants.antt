@@ -1,5 +1,5 @@
 use Rattle.std.proofs.Common.{◌≡◌, take, map}
-use Rattle.elf_image_rules.specs.Read.{parts_model}
+use Rattle.elf_image_versions.specs.Read.{parts_model}
 use Rattle.elf_format.specs.Rules.{data_of}
 use Rattle.elf_image.proofs.read.kinds.Given as goal
 

@@ -2,7 +2,7 @@
 use Rattle.std.proofs.Common.{sym, map}
 use Rattle.elf_image.specs.ImageModel.{section_model}
 use Rattle.elf_image.specs.SymbolsRead.{lists_read}
-use Rattle.elf_image_rules.specs.Read.{parts_model}
+use Rattle.elf_image_versions.specs.Read.{parts_model}
 use Rattle.elf_image_versions.proofs.ForCallers.KeptSteps.{none_found}
 use Rattle.elf_image.proofs.SymbolLists.{named_missing, named_there}
 use Rattle.elf_image.proofs.read.named_parts.Goals as goal

@@ -4,7 +4,7 @@ ghost use Rattle.elf_format.specs.File.{section_of_type as first_section};
 ghost use Rattle.elf_format.specs.Image.{entries_read};
 ghost use Rattle.elf_image.specs.ImageModel.{entry_model};
 ghost use Rattle.elf_format.specs.Answers.{Gives};
-ghost use Rattle.elf_image_rules.specs.Read.{parts_model};
+ghost use Rattle.elf_image_versions.specs.Read.{parts_model};
 ghost use Rattle.elf_format.specs.Rules.{raw_entries};
 
 use elf_format::constants::SHT_DYNAMIC;
@@ -13,7 +13,7 @@ use elf_format::records::EntryNumbers;
 use elf_format::view_fault::ViewFault;
 use elf_image_parts::dynamic::Dynamic;
 use elf_image_parts::entries::kept_entries;
-use elf_image_rules::headers::Headers;
+use elf_image_versions::headers::Headers;
 use elf_image_versions::texts::dynamic_texts;
 use std::alloc::Global;
 

@@ -6,7 +6,7 @@ ghost use Rattle.elf_image.specs.ImageModel.{section_model};
 ghost use Rattle.elf_format.specs.Options.{each};
 ghost use Rattle.elf_format.specs.Answers.{Gives};
 ghost use Rattle.elf_format.specs.declared.view_fault.ViewFault.TheVariants.{Absent};
-ghost use Rattle.elf_image_rules.specs.Read.{parts_model};
+ghost use Rattle.elf_image_versions.specs.Read.{parts_model};
 ghost use Rattle.elf_format.specs.Rules.{data_of, texts_of};
 ghost use Rattle.elf_image.specs.TextSteps.{named_section};
 
@@ -16,7 +16,7 @@ use elf_format::section_data::SectionData;
 use elf_format::texts::text;
 use elf_format::view_fault::ViewFault;
 use elf_image_parts::section::Section;
-use elf_image_rules::headers::Headers;
+use elf_image_versions::headers::Headers;
 use patch_bytes::ByteString;
 use std::alloc::Global;
 

@@ -5,15 +5,15 @@ ghost use Rattle.elf_format.specs.File.{section_bytes as bytes_of_section, secti
 ghost use Rattle.elf_format.specs.Image.{dynamic_symbols_read, static_symbols as static_ones};
 ghost use Rattle.elf_format.specs.Answers.{borrowed};
 ghost use Rattle.elf_format.specs.Rules.{raw_entries};
-ghost use Rattle.elf_image_rules.specs.Read.{parts_model};
+ghost use Rattle.elf_image_versions.specs.Read.{parts_model};
 ghost use Rattle.elf_image.specs.SymbolsRead.{AreSymbolsRead, lists_read};
 
 use elf_format::constants::{SHT_DYNSYM, SHT_GNU_VERSYM, SHT_SYMTAB};
 use elf_format::lookups::{bytes_of, linked_section, section_bytes, section_of_type};
 use elf_format::records::EntryNumbers;
-use elf_image_rules::headers::Headers;
+use elf_image_symbol_edits::Symbols;
 use elf_image_symbol_edits::lists::SymbolLists;
-use elf_image_symbols::Symbols;
+use elf_image_versions::headers::Headers;
 use elf_image_versions::texts::dynamic_texts;
 
 // The symbols for a link editor (gABI, Symbol Table); they have no versions. `None` where a name isn't there.

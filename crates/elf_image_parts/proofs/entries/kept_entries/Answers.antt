@@ -2,7 +2,7 @@
 use Rattle.std.proofs.Common.{◌≡◌, ◌++◌, ◌∷◌, [], map, Option, ap, ◌∙◌}
 use Rattle.std.proofs.lemmas.List.{map_push}
 use Rattle.std.proofs.lemmas.Result.{err_from_is_err_and}
-use Rattle.patch_bytes.specs.Memory.{memory_of}
+use Rattle.elf_format.specs.Memory.{memory_of}
 use Rattle.elf_format.specs.Options.{each}
 use Rattle.elf_format.specs.Dynamic.{Entry, shown_entry}
 use Rattle.elf_format.specs.declared.records.EntryNumbers.{EntryNumbers}

@@ -1,5 +1,5 @@
 use Rattle.std.proofs.Common.{◌≡◌, drop, map}
-use Rattle.patch_bytes.specs.Memory.{memory_of}
+use Rattle.elf_format.specs.Memory.{memory_of}
 use Rattle.elf_format.specs.Options.{each}
 use Rattle.elf_format.specs.Dynamic.{shown_entry}
 use Rattle.elf_image_parts.specs.PartModels.{entry_model}

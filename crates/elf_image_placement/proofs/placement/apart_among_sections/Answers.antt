@@ -1,5 +1,5 @@
 use Rattle.std.proofs.Common.{◌∙◌, ap, sym}
-use Rattle.elf_format.specs.Ranges.{all_apart}
+use Rattle.elf_image_rules.specs.Ranges.{all_apart}
 use Rattle.elf_image_placement.proofs.PlacementSteps.{stored_ranges_is}
 use Rattle.elf_image_placement.proofs.placement.apart_among_sections.Goals as goal
 

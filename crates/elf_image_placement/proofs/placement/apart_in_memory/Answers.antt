@@ -1,5 +1,5 @@
 use Rattle.std.proofs.Common.{◌∙◌, ap}
-use Rattle.elf_format.specs.Ranges.{all_apart}
+use Rattle.elf_image_rules.specs.Ranges.{all_apart}
 use Rattle.elf_image_placement.proofs.placement.apart_in_memory.Goals as goal
 
 pub returns : goal.returns

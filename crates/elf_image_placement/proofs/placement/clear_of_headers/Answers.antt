@@ -3,8 +3,8 @@ use Rattle.std.proofs.Common.{◌∙◌, Bool, ap, sym}
 use Rattle.std.specs.Prelude.{◌&&◌}
 use Rattle.std.specs.List.{list_all}
 use Rattle.std.proofs.lemmas.Bool.{and_left}
-use Rattle.elf_format.specs.Places.{file_range, place_of}
-use Rattle.elf_format.specs.Ranges.{apart}
+use Rattle.elf_image_rules.specs.Places.{file_range, place_of}
+use Rattle.elf_image_rules.specs.Ranges.{apart}
 use Rattle.elf_image_placement.specs.PlacementSteps.{stored_of}
 use Rattle.elf_image_placement.proofs.PlacementSteps.{clear_of_each}
 use Rattle.elf_image_placement.proofs.placement.clear_of_headers.Goals as goal

@@ -2,7 +2,7 @@
 use Rattle.std.proofs.Common.{◌∙◌, leb, rules, sym}
 use Rattle.std.proofs.lemmas.Bool.{eq-eqb}
 use Rattle.std.proofs.lemmas.List.Sorted.{IsPartitionPoint-from_clause, IsPartitionedBy-leb}
-use Rattle.elf_format.specs.Places.{place_of}
+use Rattle.elf_image_rules.specs.Places.{place_of}
 use Rattle.elf_image_placement.proofs.PlacementClear.{clear_before, clear_by_first}
 use Rattle.elf_image_placement.proofs.placement.is_clear_of.Goals as goal
 

@@ -1,6 +1,6 @@
 use Rattle.std.proofs.Common.{◌∙◌, ap}
 use Rattle.std.specs.List.{list_all}
-use Rattle.elf_format.specs.Places.{place_of}
+use Rattle.elf_image_rules.specs.Places.{place_of}
 use Rattle.elf_image_placement.specs.PlacementSteps.{is_held_if_stored}
 use Rattle.elf_image_placement.proofs.PlacementHeld.{held_if_stored}
 use Rattle.elf_image_placement.proofs.placement.sections_held.Goals as goal

@@ -2,7 +2,7 @@
 use Rattle.std.proofs.Common.{◌∙◌, leb, not, rules, sym, ap}
 use Rattle.std.proofs.lemmas.Bool.{eq-eqb}
 use Rattle.std.proofs.lemmas.List.Sorted.{IsPartitionPoint-from_clause}
-use Rattle.elf_format.specs.Places.{place_of}
+use Rattle.elf_image_rules.specs.Places.{place_of}
 use Rattle.elf_image_placement.proofs.PlacementHeld.{last_holds, no_segment, none_holds, parted_by}
 use Rattle.elf_image_placement.proofs.placement.some_holds.Goals as goal
 

@@ -1,7 +1,7 @@
 -- One entry after another, up to the first DT_NULL.
 use Rattle.std.proofs.Common.{◌≡◌, ◌≤◌, ◌<◌, ◌+◌, ◌-◌, ℕ, List, length, take, drop, sym, ap, ◌∙◌, subst}
 use Rattle.std.specs.Prelude.{is_some}
-use Rattle.patch_bytes.specs.Memory.{memory_of}
+use Rattle.elf_format.specs.Memory.{memory_of}
 use Rattle.elf_format.specs.Dynamic.{entries_at}
 use Rattle.elf_format.specs.declared.form.Form.{Form}
 use Rattle.elf_format.specs.declared.records.EntryNumbers.{EntryNumbers}

@@ -1,8 +1,8 @@
 -- One symbol more has its change, and there is room for it.
 use Rattle.std.proofs.Common.{ℕ, List, ◌∷◌, [], ◌++◌, length, map, refl, sym, ap, ◌∙◌, arith}
 use Rattle.std.proofs.lemmas.List.{length-map}
-use Rattle.elf_format.specs.Image.{counted}
-use Rattle.elf_format.proofs.ForCallers.Lengths.{length-counted}
+use Rattle.elf_image_symbols.specs.Image.{counted}
+use Rattle.elf_image_symbols.proofs.ForCallers.Lengths.{length-counted}
 use Rattle.elf_image_symbol_edits.specs.declared.change.Change.{Change}
 use Rattle.elf_image_symbol_edits.specs.Changes.{change_at}
 use Rattle.elf_image_symbol_edits.proofs.SpreadLaws.{change_at-same, map-counted-more}

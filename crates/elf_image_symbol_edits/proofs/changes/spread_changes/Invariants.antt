@@ -1,5 +1,5 @@
 use Rattle.std.proofs.Common.{◌≡◌, ◌≤◌, ℕ, length, map, vec_capacity}
-use Rattle.elf_format.specs.Image.{counted}
+use Rattle.elf_image_symbols.specs.Image.{counted}
 use Rattle.elf_image_symbol_edits.specs.Changes.{change_at, change_of, number_of}
 use Rattle.elf_image_symbol_edits.specs.Rising.{AreRising}
 use Rattle.elf_image_symbol_edits.proofs.changes.spread_changes.Given as goal

@@ -1,6 +1,6 @@
 -- There is room for one number more.
 use Rattle.std.proofs.Common.{ℕ, List, length, ap, arith}
-use Rattle.elf_format.proofs.ForCallers.Lengths.{length-counted}
+use Rattle.elf_image_symbols.proofs.ForCallers.Lengths.{length-counted}
 use Rattle.elf_image_symbol_edits.proofs.numbers.fill.Goals as goal
 
 pub push_reserved-requires : goal.push_reserved-requires

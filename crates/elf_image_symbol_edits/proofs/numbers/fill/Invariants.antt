@@ -1,5 +1,5 @@
 use Rattle.std.proofs.Common.{◌≡◌, vec_capacity}
-use Rattle.elf_format.specs.Image.{counted}
+use Rattle.elf_image_symbols.specs.Image.{counted}
 use Rattle.elf_image_symbol_edits.proofs.numbers.fill.Given as goal
 
 abbrev pub invariant-loop-number : goal.invariant-loop-number

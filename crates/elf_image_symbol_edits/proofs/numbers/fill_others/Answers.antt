@@ -1,6 +1,6 @@
 -- One number more stays or goes, and there is room for it.
 use Rattle.std.proofs.Common.{ℕ, List, [], ◌∷◌, ◌++◌, filter, length, sym, ap, ◌∙◌, arith}
-use Rattle.elf_format.specs.Image.{counted}
+use Rattle.elf_image_symbols.specs.Image.{counted}
 use Rattle.elf_image_symbol_edits.specs.EditedList.{stays}
 use Rattle.elf_image_symbol_edits.proofs.RisingLaws.{one_goes, one_stays, rising_counted, rising_filter, rising_long}
 use Rattle.elf_image_symbol_edits.proofs.numbers.fill_others.Goals as goal

@@ -1,5 +1,5 @@
 use Rattle.std.proofs.Common.{◌≡◌, filter, vec_capacity}
-use Rattle.elf_format.specs.Image.{counted}
+use Rattle.elf_image_symbols.specs.Image.{counted}
 use Rattle.elf_image_symbol_edits.specs.EditedList.{stays}
 use Rattle.elf_image_symbol_edits.proofs.numbers.fill_others.Given as goal
 

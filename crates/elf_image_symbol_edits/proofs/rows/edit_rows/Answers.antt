@@ -1,6 +1,6 @@
 -- Each row is computed.
 use Rattle.std.proofs.Common.{refl}
-use Rattle.elf_format.specs.Image.{counted}
+use Rattle.elf_image_symbols.specs.Image.{counted}
 use Rattle.elf_image_symbol_edits.specs.Changes.{symbol_now}
 use Rattle.elf_image_symbol_edits.proofs.rows.edit_rows.Goals as goal
 

@@ -1,6 +1,6 @@
 use Rattle.std.proofs.Common.{◌≡◌, ◌≤◌, ◌-◌, ◌*◌, length}
 use Rattle.std.specs.Prelude.{is_some}
-use Rattle.patch_bytes.specs.Memory.{memory_of}
+use Rattle.elf_format.specs.Memory.{memory_of}
 use Rattle.elf_format.specs.Form.{records}
 use Rattle.elf_format.specs.Records.{symbol_numbers}
 use Rattle.elf_format.specs.Views.{names_of}

@@ -7,7 +7,7 @@ use Rattle.std.proofs.lemmas.Bool.Decides.{same_from_decides}
 use Rattle.std.proofs.lemmas.Option.{same_Some}
 use Rattle.std.proofs.lemmas.Slice.Eq.{bytes_eq-Decides}
 use Rattle.memchr.specs.Find.{IsFirstByte, Nowhere, Passes, is_byte}
-use Rattle.patch_bytes.specs.Memory.{memory_of, text_at}
+use Rattle.elf_format.specs.Memory.{memory_of, text_at}
 use Rattle.elf_image_symbols.proofs.NameSteps.{BeginWith, text_of_rest, text_shown, text_stands, there_within}
 use Rattle.elf_image_symbols.proofs.ShownSteps.{some_there}
 use Rattle.elf_image_symbols.proofs.names.is_text_there.Goals as goal

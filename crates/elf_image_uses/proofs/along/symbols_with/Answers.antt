@@ -5,7 +5,7 @@ use Rattle.std.specs.List.{slice_get, zip}
 use Rattle.elf_format.specs.Image.{Image}
 use Rattle.elf_format.specs.Options.{is_one_of}
 use Rattle.elf_format.specs.Views.{NamedSymbol}
-use Rattle.elf_image_symbol_edits.specs.Loan.{symbols_now}
+use Rattle.elf_image.specs.Loan.{symbols_now}
 use Rattle.elf_image_uses.specs.Steps.{goes_with, numbers_with}
 use Rattle.elf_image_uses.proofs.AlongSteps.{keeps_all, keeps_none, keeps_one, numbered_long, numbered_there, told_symbol}
 use Rattle.elf_image_uses.proofs.along.symbols_with.Goals as goal

@@ -5,7 +5,7 @@ use borrow.Author.Tests.{tests}
 use denote.Ref.{Bor}
 use Rattle.std.proofs.lemmas.Iterator.{YieldsList-from_slice}
 use Rattle.std.proofs.lemmas.Iterator.Search.{find_from_yields_List}
-use Rattle.elf_image_parts.specs.declared.section.Section.{Section}
+use Rattle.elf_image.specs.Section.{Section}
 use Rattle.elf_image.specs.ImageModel.{section_model}
 use Rattle.elf_image.proofs.ForCallers.LookupSteps.{find-map}
 use Rattle.elf_image_uses.proofs.hash_tables.first_of_type.Goals as goal

@@ -2,7 +2,7 @@
 use Rattle.std.proofs.Common.{ap, ◌∙◌, arith}
 use Rattle.std.specs.List.{list_any}
 use Rattle.elf_format.specs.Options.{is_one_of}
-use Rattle.elf_image_symbol_edits.specs.Loan.{symbols_now}
+use Rattle.elf_image.specs.Loan.{symbols_now}
 use Rattle.elf_image_uses.proofs.AlongSteps.{told_symbol}
 use Rattle.elf_image_uses.proofs.ListSteps.{any_done, any_ends, any_goes}
 use Rattle.elf_image_uses.proofs.needed.is_symbol_within.Goals as goal

@@ -1,7 +1,7 @@
 use Rattle.std.proofs.Common.{◌≡◌}
 use Rattle.std.specs.List.{list_any}
 use Rattle.elf_format.specs.Options.{is_one_of}
-use Rattle.elf_image_symbol_edits.specs.Loan.{symbols_now}
+use Rattle.elf_image.specs.Loan.{symbols_now}
 use Rattle.elf_image_uses.proofs.ListSteps.{any_from}
 use Rattle.elf_image_uses.proofs.needed.is_symbol_within.Given as goal
 

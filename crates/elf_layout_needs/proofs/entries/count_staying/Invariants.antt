@@ -1,5 +1,5 @@
 use Rattle.std.proofs.Common.{◌≡◌, ◌+◌, ◌≤◌, drop, length, map}
-use Rattle.elf_image.specs.ImageModel.{entry_model}
+use Rattle.elf_layout_plan.specs.ImageModel.{entry_model}
 use Rattle.elf_layout_needs.specs.Staying.{staying_entries}
 use Rattle.elf_layout_needs.proofs.entries.count_staying.Given as goal
 

@@ -1,6 +1,6 @@
 use Rattle.std.proofs.Common.{◌≡◌, drop, map}
 use Rattle.elf_format.specs.Image.{lists_tag}
-use Rattle.elf_image.specs.ImageModel.{entry_model}
+use Rattle.elf_layout_plan.specs.ImageModel.{entry_model}
 use Rattle.elf_layout_needs.proofs.entries.lists_tag.Given as goal
 
 -- none of the entries so far has the tag

@@ -2,8 +2,8 @@
 use Rattle.std.proofs.Common.{◌≡◌, Bool, true, false, take, refl, sym, ap, ◌∙◌}
 use Rattle.std.specs.Prelude.{◌==◌, ◌||◌, if◌then◌else◌}
 use Rattle.elf_format.specs.Options.{is_some_and}
-use Rattle.elf_image.specs.ImageModel.{symbol_model}
-use Rattle.elf_image_symbol_edits.specs.Loan.{symbols_now}
+use Rattle.elf_layout_plan.specs.ImageModel.{symbol_model}
+use Rattle.elf_layout_plan.specs.Loan.{symbols_now}
 use Rattle.elf_layout_plan.specs.Needs.{is_version_used}
 use Rattle.elf_layout_needs.proofs.SymbolSteps.{used_next}
 use Rattle.elf_layout_needs.specs.Staying.{mark_of}

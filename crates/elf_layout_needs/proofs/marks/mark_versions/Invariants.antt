@@ -1,6 +1,6 @@
 use Rattle.std.proofs.Common.{◌≡◌, ℕ, take}
 use Rattle.std.specs.Prelude.{if◌then◌else◌}
-use Rattle.elf_image_symbol_edits.specs.Loan.{symbols_now}
+use Rattle.elf_layout_plan.specs.Loan.{symbols_now}
 use Rattle.elf_layout_plan.specs.Needs.{is_version_used}
 use Rattle.elf_layout_needs.specs.Staying.{mark_of}
 use Rattle.elf_layout_needs.proofs.marks.mark_versions.Given as goal

@@ -1,5 +1,5 @@
 use Rattle.std.proofs.Common.{◌≡◌, ◌+◌, ◌≤◌, drop, length, map}
-use Rattle.elf_image.specs.ImageModel.{name_model}
+use Rattle.elf_layout_plan.specs.ImageModel.{name_model}
 use Rattle.elf_layout_needs.specs.Staying.{unmarked_names}
 use Rattle.elf_layout_needs.proofs.records.count_unmarked.Given as goal
 

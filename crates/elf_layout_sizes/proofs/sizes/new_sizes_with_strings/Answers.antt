@@ -2,8 +2,8 @@
 use Rattle.std.proofs.Common.{◌≡◌, false, refl, sym, ap, ◌∙◌}
 use Rattle.std.proofs.lemmas.Result.{err_from_is_err_and}
 use Rattle.elf_format.specs.Image.{Image}
-use Rattle.elf_tables.specs.declared.fault.TableFault.{TableFault}
-use Rattle.elf_tables.specs.declared.fault.TableFault.TheVariants as table
+use Rattle.elf_layout_plan.specs.TableFault.{TableFault}
+use Rattle.elf_layout_plan.specs.TableFault.TheVariants as table
 use Rattle.elf_layout_plan.specs.Faults.{fault_of_table}
 use Rattle.elf_layout_plan.specs.Refusals.{AreNoSizes, do_sizes_of_image_fit}
 use Rattle.elf_layout_plan.specs.Sizes.{do_sizes_fit}

@@ -8,7 +8,7 @@ use Rattle.elf_edits.specs.Changes.{has_name}
 use Rattle.elf_format.specs.Image.{Image, ImageSection}
 use Rattle.elf_image.specs.ImageModel.{section_model}
 use Rattle.elf_image.proofs.ForCallers.KeptSections.{as_many}
-use Rattle.elf_image_uses.proofs.ForCallers.{keeps_all, keeps_none, keeps_one}
+use Rattle.elf_edits.proofs.ForCallers.{keeps_all, keeps_none, keeps_one}
 use Rattle.elf_symbol_edits.specs.Named.{numbers_passing, section_name}
 use Rattle.elf_symbol_edits.proofs.NumberSteps.{index_there, model_there, zip_short, zip_there}
 use Rattle.elf_symbol_edits.proofs.names.sections_in.Goals as goal

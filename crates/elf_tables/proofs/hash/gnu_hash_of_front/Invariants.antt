@@ -1,6 +1,6 @@
 use Rattle.std.proofs.Common.{◌≡◌, drop}
 use Rattle.std.specs.Prelude.{fold}
-use Rattle.elf_image_symbols.specs.FrontText.{front_text}
+use Rattle.elf_image.specs.FrontText.{front_text}
 use Rattle.elf_tables.proofs.HashSteps.{gnu_step}
 use Rattle.elf_tables.proofs.hash.gnu_hash_of_front.Given as goal
 

@@ -2,7 +2,7 @@
 use Rattle.std.proofs.Common.{ℕ, ◌+◌, List, drop, ap, ◌∙◌, arith}
 use Rattle.std.specs.Prelude.{fold}
 use Rattle.elf_format.specs.Hashes.{gabi_hash, gabi_step}
-use Rattle.elf_image_symbols.specs.FrontText.{front_text}
+use Rattle.elf_image.specs.FrontText.{front_text}
 use Rattle.elf_tables.proofs.HashSteps.{byte_next, none_next, nul_next}
 use Rattle.elf_tables.proofs.hash.sysv_hash_of_front.Goals as goal
 

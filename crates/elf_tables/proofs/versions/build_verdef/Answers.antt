@@ -9,7 +9,7 @@ use Rattle.patch_bytes.specs.ByteString.{StringValue}
 use Rattle.patch_bytes.specs.Memory.{memory_of}
 use Rattle.elf_format.specs.Versions.{VersionDefinition}
 use Rattle.elf_format.specs.Views.{defined_versions}
-use Rattle.elf_image_versions.specs.declared.version.VersionDef.{VersionDef}
+use Rattle.elf_image.specs.VersionDef.{VersionDef}
 use Rattle.elf_image.specs.ImageModel.{definition_model}
 use Rattle.elf_tables.specs.Strings.{place_of}
 use Rattle.elf_tables.specs.VersionRecords.{PlacedDefinition, are_names_too_many, definition_size, placed_definition, spelled_definition}

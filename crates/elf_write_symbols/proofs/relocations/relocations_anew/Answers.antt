@@ -3,7 +3,7 @@ use Rattle.std.proofs.Common.{ap, ◌∙◌, length}
 use Rattle.elf_format.specs.declared.form.Form.{Form}
 use Rattle.elf_format.specs.Image.{Image}
 use Rattle.elf_image.specs.ImageModel.{section_model}
-use Rattle.elf_relocations.specs.Renumbered.{are_symbols_below}
+use Rattle.elf_write_spec.specs.Renumbered.{are_symbols_below}
 use Rattle.elf_write_symbols.proofs.ReadyFacts.{facts, section_here}
 use Rattle.elf_write_symbols.proofs.RelocationFacts.{named_below}
 use Rattle.elf_write_symbols.proofs.relocations.relocations_anew.Goals as goal

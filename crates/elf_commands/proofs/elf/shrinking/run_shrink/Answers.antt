@@ -1,8 +1,8 @@
 use Rattle.std.proofs.Common.{List, String, map, string_bytes, subst}
 use Rattle.std.specs.declared.alloc.Global.{Global}
 use Rattle.std.proofs.lemmas.Result.{IfErr-weaker, IfOk-weaker}
-use Rattle.elf_apply.specs.Told.{Refuses}
-use Rattle.elf_edits_shrink.specs.ShrinkModel.{answer_model}
+use Rattle.elf_commands_steps.specs.Told.{Refuses}
+use Rattle.elf_commands_steps.specs.ShrinkModel.{answer_model}
 use Rattle.elf_edits.specs.Edit.{Edit, ShrinkRunPath}
 use Rattle.elf_edits.specs.Edited.{step}
 use Rattle.elf_commands_steps.specs.ShrunkImages.{Steps}

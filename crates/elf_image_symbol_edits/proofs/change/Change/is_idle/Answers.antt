@@ -3,7 +3,7 @@ use Rattle.std.proofs.Common.{◌≡◌, ℕ, List, Bool, true, false, refl, sym
 use Rattle.std.specs.Prelude.{bytes_eq, not}
 use Rattle.std.proofs.lemmas.Bool.{false≢true}
 use Rattle.std.proofs.lemmas.Option.{get_or_from_slice_get}
-use Rattle.elf_format.specs.Views.{NamedSymbol}
+use Rattle.elf_image_symbols.specs.Views.{NamedSymbol}
 use Rattle.elf_image_symbols.specs.SymbolModel.{symbol_model}
 use Rattle.elf_image_symbol_edits.specs.Changes.{no_symbol, read_at, version_by}
 use Rattle.elf_image_symbol_edits.proofs.SymbolLaws.{leaves_all, leaves_no_name, leaves_version}

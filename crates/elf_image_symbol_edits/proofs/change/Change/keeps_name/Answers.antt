@@ -1,7 +1,7 @@
 -- The name is the one that was read, or another one.
 use Rattle.std.proofs.Common.{◌≡◌, sym, ◌∙◌}
 use Rattle.std.proofs.lemmas.Slice.Eq.{bytes_eq-Decides}
-use Rattle.elf_format.specs.Views.{NamedSymbol}
+use Rattle.elf_image_symbols.specs.Views.{NamedSymbol}
 use Rattle.elf_image_symbol_edits.specs.Changes.{read_at}
 use Rattle.elf_image_symbol_edits.proofs.SymbolLaws.{read_part}
 use Rattle.elf_image_symbol_edits.proofs.change.Change.keeps_name.Goals as goal

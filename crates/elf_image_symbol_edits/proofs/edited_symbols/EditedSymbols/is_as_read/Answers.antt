@@ -1,7 +1,7 @@
 -- All are there, and each change leaves its symbol as it was.
 use Rattle.std.proofs.Common.{◌<◌, List, length, map-id, sym, ◌∙◌, subst}
 use Rattle.std.specs.List.{All}
-use Rattle.elf_format.specs.Views.{NamedSymbol}
+use Rattle.elf_image_symbols.specs.Views.{NamedSymbol}
 use Rattle.elf_image_symbol_edits.specs.declared.change.Change.{Change}
 use Rattle.elf_image_symbol_edits.specs.Changes.{Leaves, number_of}
 use Rattle.elf_image_symbol_edits.proofs.ChangeLaws.{changes_below}

@@ -1,6 +1,6 @@
 -- As many symbols as numbers.
 use Rattle.std.proofs.Common.{Bool, length, sym, ap, ◌∙◌}
-use Rattle.elf_format.proofs.ForCallers.Lengths.{length-counted}
+use Rattle.elf_image_symbols.proofs.ForCallers.Lengths.{length-counted}
 use Rattle.elf_image_symbol_edits.specs.EditedList.{EditedList}
 use Rattle.elf_image_symbol_edits.specs.Rising.{numbers_there}
 use Rattle.elf_image_symbol_edits.proofs.EditedLaws.{length-symbols}

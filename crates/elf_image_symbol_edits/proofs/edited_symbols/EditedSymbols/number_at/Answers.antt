@@ -2,7 +2,7 @@
 use Rattle.std.proofs.Common.{◌<◌, Bool, ℕ, List, length, refl, sym, ap, ◌∙◌, arith}
 use Rattle.std.specs.Prelude.{slice_get}
 use Rattle.std.proofs.lemmas.Option.{slice_get_read}
-use Rattle.elf_format.proofs.ForCallers.Lengths.{length-counted, slice_get-counted}
+use Rattle.elf_image_symbols.proofs.ForCallers.Lengths.{length-counted, slice_get-counted}
 use Rattle.elf_image_symbol_edits.specs.EditedList.{EditedList}
 use Rattle.elf_image_symbol_edits.specs.Rising.{numbers_there}
 use Rattle.elf_image_symbol_edits.proofs.EditedLaws.{length-symbols}

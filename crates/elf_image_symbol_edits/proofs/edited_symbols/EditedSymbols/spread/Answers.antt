@@ -1,7 +1,7 @@
 -- Each symbol has a change, which makes of it what was made.
 use Rattle.std.proofs.Common.{◌≡◌, List, length, map, ap, ◌∙◌, arith}
-use Rattle.elf_format.specs.Image.{counted}
-use Rattle.elf_format.specs.Views.{NamedSymbol}
+use Rattle.elf_image_symbols.specs.Image.{counted}
+use Rattle.elf_image_symbols.specs.Views.{NamedSymbol}
 use Rattle.elf_image_symbol_edits.specs.declared.change.Change.{Change}
 use Rattle.elf_image_symbol_edits.specs.Changes.{change_at}
 use Rattle.elf_image_symbol_edits.proofs.SpreadLaws.{told_changes, told_kept, told_shown}

@@ -4,8 +4,8 @@ use Rattle.std.specs.Prelude.{◌==◌, ◌⊎◌, option_map}
 use Rattle.std.specs.List.{list_any}
 use Rattle.std.specs.List.Sorted.{IsNonDecreasingBy}
 use Rattle.std.proofs.lemmas.Bool.{not-true}
-use Rattle.patch_bytes.specs.Memory.{memory_of, text_at}
-use Rattle.elf_format.specs.Views.{NamedSymbol}
+use Rattle.elf_image_symbols.specs.Memory.{memory_of, text_at}
+use Rattle.elf_image_symbols.specs.Views.{NamedSymbol}
 use Rattle.elf_image_symbols.specs.FrontText.{front_text}
 use Rattle.elf_image_symbols.proofs.FrontLaws.{front_text-again, front_text-stands, front_text-whole}
 use Rattle.elf_image_symbol_edits.specs.declared.change.Change.{Change}

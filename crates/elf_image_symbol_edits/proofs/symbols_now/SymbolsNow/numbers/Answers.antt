@@ -1,7 +1,7 @@
 -- The numbers are those that were read.
 use Rattle.std.proofs.Common.{ℕ, Some, ap, ◌∙◌}
 use Rattle.std.specs.Prelude.{option_map}
-use Rattle.elf_format.specs.declared.records.SymbolNumbers.{SymbolNumbers}
+use Rattle.elf_image_symbols.specs.SymbolNumbers.{SymbolNumbers}
 use Rattle.elf_image_symbols.specs.TableSymbols.{symbol_with}
 use Rattle.elf_image_symbol_edits.proofs.SymbolLaws.{now-numbers, read_part}
 use Rattle.elf_image_symbol_edits.proofs.EditedLaws.{number_below, symbol_is}

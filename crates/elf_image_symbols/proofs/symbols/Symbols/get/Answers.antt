@@ -2,7 +2,7 @@
 use Rattle.std.proofs.Common.{◌≡◌, ℕ, List, Some, ap, sym, ◌∙◌, length, arith}
 use Rattle.std.specs.Prelude.{is_some}
 use Rattle.std.proofs.lemmas.Option.{same_Some}
-use Rattle.patch_bytes.specs.Memory.{memory_of, text_at}
+use Rattle.elf_format.specs.Memory.{memory_of, text_at}
 use Rattle.elf_format.specs.declared.records.SymbolNumbers.{SymbolNumbers}
 use Rattle.elf_format.specs.Records.{symbol_numbers}
 use Rattle.elf_image_symbols.specs.TableSymbols.{kept_as}

@@ -1,7 +1,7 @@
 -- A name is empty where a NUL stands at its place.
 use Rattle.std.proofs.Common.{◌≡◌, ◌<◌, Some, ap, ◌∙◌, length, arith}
 use Rattle.std.specs.Prelude.{◌==◌, is_some, not, option_map}
-use Rattle.patch_bytes.specs.Memory.{memory_of, text_at}
+use Rattle.elf_format.specs.Memory.{memory_of, text_at}
 use Rattle.elf_format.specs.Records.{symbol_numbers}
 use Rattle.elf_format.specs.Views.{NamedSymbol}
 use Rattle.elf_image_symbols.proofs.NameSteps.{empty_at, there_within}

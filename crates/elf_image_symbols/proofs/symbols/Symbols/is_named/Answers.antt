@@ -2,7 +2,7 @@
 use Rattle.std.proofs.Common.{◌≡◌, ap, sym, ◌∙◌, length}
 use Rattle.std.specs.Prelude.{is_some, option_map}
 use Rattle.std.specs.Str.{bytes_eq}
-use Rattle.patch_bytes.specs.Memory.{memory_of, text_at}
+use Rattle.elf_format.specs.Memory.{memory_of, text_at}
 use Rattle.elf_format.specs.Records.{symbol_numbers}
 use Rattle.elf_format.specs.Views.{NamedSymbol}
 use Rattle.elf_image_symbols.proofs.SeenSteps.{numbers_of, seen_at, within}

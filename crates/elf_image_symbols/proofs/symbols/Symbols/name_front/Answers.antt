@@ -1,7 +1,7 @@
 -- From its place on the name stands.
 use Rattle.std.proofs.Common.{◌≡◌, ◌≤◌, ◌-◌, ℕ, List, Option, Some, ap, sym, ◌∙◌, length, take, drop, arith}
 use Rattle.std.specs.Prelude.{is_some, option_map}
-use Rattle.patch_bytes.specs.Memory.{memory_of, text_at}
+use Rattle.elf_format.specs.Memory.{memory_of, text_at}
 use Rattle.elf_format.specs.Records.{symbol_numbers}
 use Rattle.elf_format.specs.Views.{NamedSymbol}
 use Rattle.elf_format.proofs.ForCallers.ReadingSteps.{text_at-in}

@@ -1,7 +1,7 @@
 -- The symbols are shown where their names are there, however far a text may be looked for.
 use Rattle.std.proofs.Common.{Option, List, ℕ, [], sym, ◌∙◌, length}
 use Rattle.std.specs.Prelude.{option_map}
-use Rattle.patch_bytes.specs.Memory.{memory_of}
+use Rattle.elf_format.specs.Memory.{memory_of}
 use Rattle.elf_format.specs.Answers.{borrowed}
 use Rattle.elf_format.specs.Views.{NamedSymbol}
 use Rattle.elf_image_symbols.specs.TableSymbols.{table_symbols}

@@ -8,7 +8,7 @@ use Rattle.elf_format.specs.File.{Parts, section_of_type}
 use Rattle.elf_image.specs.ImageModel.{entry_model}
 use Rattle.elf_format.specs.Options.{each}
 use Rattle.elf_format.specs.Answers.{Fails}
-use Rattle.elf_image_rules.specs.Read.{parts_model}
+use Rattle.elf_image_versions.specs.Read.{parts_model}
 use Rattle.elf_format.specs.declared.records.EntryNumbers.{EntryNumbers}
 use Rattle.elf_format.specs.declared.records.SectionHeader.{SectionHeader}
 use Rattle.elf_format.specs.Rules.{file_of}

@@ -11,7 +11,7 @@ use Rattle.elf_format.specs.Image.{section_read}
 use Rattle.elf_image.specs.ImageModel.{section_model}
 use Rattle.elf_format.specs.Options.{each}
 use Rattle.elf_format.specs.Answers.{Fails}
-use Rattle.elf_image_rules.specs.Read.{parts_model}
+use Rattle.elf_image_versions.specs.Read.{parts_model}
 use Rattle.elf_format.specs.declared.records.SectionHeader.{SectionHeader}
 use Rattle.elf_format.specs.Rules.{data_of, file_of, texts_of}
 use Rattle.elf_image.specs.TextSteps.{named_section}

@@ -2,7 +2,7 @@ use Rattle.std.proofs.Common.{◌≡◌, drop, map}
 use Rattle.elf_format.specs.Image.{section_read}
 use Rattle.elf_image.specs.ImageModel.{section_model}
 use Rattle.elf_format.specs.Options.{each}
-use Rattle.elf_image_rules.specs.Read.{parts_model}
+use Rattle.elf_image_versions.specs.Read.{parts_model}
 use Rattle.elf_format.proofs.ForCallers.ReadingSteps.{with_front}
 use Rattle.elf_image.proofs.read.texts.sections.sections.Given as goal
 

@@ -6,7 +6,7 @@ use Rattle.elf_format.specs.declared.constants.TheConstants.{SHT_DYNSYM}
 use Rattle.elf_format.specs.File.{Parts, section_of_type}
 use Rattle.elf_format.specs.Answers.{borrowed}
 use Rattle.elf_format.specs.declared.records.SectionHeader.{SectionHeader}
-use Rattle.elf_image_rules.specs.Read.{parts_model}
+use Rattle.elf_image_versions.specs.Read.{parts_model}
 use Rattle.elf_image_versions.proofs.ForCallers.KeptSteps.{none_found}
 use Rattle.elf_image.proofs.TextSteps.{dynamic_none, dynamic_some}
 use Rattle.elf_image.proofs.read.texts.symbols.dynamic_symbols.Goals as goal

@@ -5,7 +5,7 @@ use Rattle.elf_format.specs.declared.constants.TheConstants.{SHT_SYMTAB}
 use Rattle.elf_format.specs.File.{Parts, linked_section, section_of_type}
 use Rattle.elf_format.specs.declared.records.SectionHeader.{SectionHeader}
 use Rattle.elf_format.specs.Rules.{texts_of}
-use Rattle.elf_image_rules.specs.Read.{parts_model}
+use Rattle.elf_image_versions.specs.Read.{parts_model}
 use Rattle.elf_image_versions.proofs.ForCallers.KeptSteps.{none_found}
 use Rattle.elf_image.proofs.TextSteps.{static_none, static_some}
 use Rattle.elf_image.proofs.read.texts.symbols.static_symbols.Goals as goal

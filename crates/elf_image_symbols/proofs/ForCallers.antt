@@ -1,0 +1,2 @@
+-- For callers: what the crates above may cite.
+pub use Rattle.elf_format.proofs.ForCallers.Lengths
