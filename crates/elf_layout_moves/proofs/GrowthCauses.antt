@@ -63,7 +63,7 @@ module _ (start size more : ℕ) (some : 0 < size) (grows : size ≤ more) (shor
   this_into : (c : Block) (length : ℕ) → overlaps c (fixed_block start length) ≡ true → (is_earlier c (fixed_block start length) ≡ true) × (start < c.start + c.size)
   this_into c length over =
       let parts = and_parts (is_earlier c (fixed_block start length)) (nat_lt start (c.start + c.size) || is_kept_out c (fixed_block start length)) over in
-      (parts.0, ltb-true start (c.start + c.size) (or_last (nat_lt start (c.start + c.size)) c.is_stray c.is_load_start parts.1))
+      (parts.0, ltb-true start (c.start + c.size) (or_last (nat_lt start (c.start + c.size)) c.is_displaced c.is_load_start parts.1))
 
   moves_later : (c : Block) (length : ℕ) → overlaps (fixed_block start length) c ≡ true → 0 < c.priority → later_moves (fixed_block start length) c ≡ true
   moves_later c length over can = and_from (overlaps (fixed_block start length) c) (nat_lt 0 c.priority) over (lt-ltb 0 c.priority can)

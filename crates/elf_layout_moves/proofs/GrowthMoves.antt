@@ -5,7 +5,7 @@ use Rattle.std.specs.List.{list_any}
 use Rattle.std.proofs.lemmas.Bool.{and_from, and_left, and_parts, and_right, both_ways, cases_Bool, cases_lt, eq-eqb, le-leb, lt-ltb, eqb-true, false_from_ne_true, false≢true, ltb-true, not_from_false, or_cases, or_from, or_left, or_parts, or_right}
 use Rattle.std.proofs.lemmas.List.Elements.{filter-append}
 use Rattle.std.proofs.lemmas.List.Folds.{list_any-append}
-use Rattle.elf_layout_plan.specs.Blocks.{Block, earlier_moves, has_load, in_order, is_earlier, is_kept_out, is_stuck, is_stuck_pair, later_moves, movers, movers_in_order, moves_as_stray, overlaps, put_in, rank, some_two}
+use Rattle.elf_layout_plan.specs.Blocks.{Block, earlier_moves, has_load, in_order, is_earlier, is_kept_out, is_stuck, is_stuck_pair, later_moves, movers, movers_in_order, moves_as_displaced, overlaps, put_in, rank, some_two}
 use Rattle.elf_layout_plan.specs.Marks.{marked_of, marks}
 use Rattle.elf_layout_plan.specs.Memory.{fixed_block}
 use Rattle.elf_layout_plan.proofs.ForCallers.ApartLists.{Each, Pairs, each-at, each-both, each-filter, each-more, pairs-less, same_at}
@@ -17,15 +17,15 @@ use Rattle.elf_layout_moves.proofs.SameMarks.{same_marks}
 
 -- ## Blocks of which none is kept out
 
--- it isn't taken out as a stray one, and marks the start of a loaded segment only where there is one
+-- it isn't taken out as a displaced one, and marks the start of a loaded segment only where there is one
 abbrev IsIn : Bool → Block → Type 0
-IsIn loaded b = (moves_as_stray loaded b ≡ false) × (b.is_load_start ≡ true → loaded ≡ true)
+IsIn loaded b = (moves_as_displaced loaded b ≡ false) × (b.is_load_start ≡ true → loaded ≡ true)
 
 clear_of : (loaded : Bool) (a b : Block) → IsIn loaded a → IsIn loaded b → is_kept_out a b ≡ false
 clear_of true a b here there =
-    or_from (a.is_stray && b.is_load_start) (a.is_load_start && b.is_stray) (and_left a.is_stray b.is_load_start here.0) (and_right a.is_load_start b.is_stray there.0)
+    or_from (a.is_displaced && b.is_load_start) (a.is_load_start && b.is_displaced) (and_left a.is_displaced b.is_load_start here.0) (and_right a.is_load_start b.is_displaced there.0)
 clear_of false a b here there =
-    or_from (a.is_stray && b.is_load_start) (a.is_load_start && b.is_stray) (and_right a.is_stray b.is_load_start (none b.is_load_start there.1)) (and_left a.is_load_start b.is_stray (none a.is_load_start here.1))
+    or_from (a.is_displaced && b.is_load_start) (a.is_load_start && b.is_displaced) (and_right a.is_displaced b.is_load_start (none b.is_load_start there.1)) (and_left a.is_load_start b.is_displaced (none a.is_load_start here.1))
   where
     none : (s : Bool) → (s ≡ true → false ≡ true) → s ≡ false
     none s started = false_from_ne_true s (λ is. false≢true (started is))
@@ -73,7 +73,7 @@ module _ (front back : List Block) (fixed : Each (λ b. b ≡ fixed_block b.star
   loaded = has_load others
 
   abbrev is_out : Block → Bool
-  is_out b = moves_as_stray loaded b
+  is_out b = moves_as_displaced loaded b
 
   abbrev outs : List Block
   outs = filter (λ b. is_out b) others
@@ -124,12 +124,12 @@ module _ (front back : List Block) (fixed : Each (λ b. b ≡ fixed_block b.star
     marks_this = plain_marks loaded (put_in this (in_order ins)) (put_rises this (in_order ins) (in_order_rises ins))
         (put_each (IsIn loaded) this (in_order ins) (this_in, λ is. absurd (false≢true is)) (in_order_each (IsIn loaded) ins ins_in))
 
-    -- what moves with the block: the stray ones, and the marked ones of the others with it
+    -- what moves with the block: the displaced ones, and the marked ones of the others with it
     pub movers_with : (p : Block → Bool) → list_any p (movers (with_block this))
         ≡ (list_any p outs || list_any p (marked_of (put_in this (in_order ins)) (marks does_earlier_move does_later_move (put_in this (in_order ins)))))
     unfolding movers
     movers_with p =
-        ap (λ (l : Bool). list_any p (filter (λ b. moves_as_stray l b) (with_block this) ++ movers_in_order (in_order (filter (λ b. not (moves_as_stray l b)) (with_block this)))))
+        ap (λ (l : Bool). list_any p (filter (λ b. moves_as_displaced l b) (with_block this) ++ movers_in_order (in_order (filter (λ b. not (moves_as_displaced l b)) (with_block this)))))
         (any-with (λ b. b.is_load_start) front back this)
         ∙ list_any-append p (filter (λ b. is_out b) (with_block this)) (movers_in_order (in_order (filter (λ b. not (is_out b)) (with_block this))))
         ∙ ap (λ (l : List Block). list_any p l || list_any p (movers_in_order (in_order (filter (λ b. not (is_out b)) (with_block this))))) (filter-without (λ b. is_out b) front back this this_in)
@@ -227,7 +227,7 @@ module _ (front back : List Block) (fixed : Each (λ b. b ≡ fixed_block b.star
           let front_parts = and_parts (overlaps b long) (b.priority == 0) parts.0 in
           let cant : b.priority ≡ 0 = eqb-true b.priority 0 front_parts.1 in
           let over = and_parts (is_earlier b long) (nat_lt start (b.start + b.size) || is_kept_out b long) front_parts.0 in
-          let past : start < b.start + b.size = ltb-true start (b.start + b.size) (or_last (nat_lt start (b.start + b.size)) b.is_stray b.is_load_start over.1) in
+          let past : start < b.start + b.size = ltb-true start (b.start + b.size) (or_last (nat_lt start (b.start + b.size)) b.is_displaced b.is_load_start over.1) in
           elim (cases_Bool (is_earlier b short)) [
             | inl first ↦
                 let stuck : is_stuck_pair b short ≡ true = and_from (overlaps b short && b.priority == 0) true (and_from (overlaps b short) (b.priority == 0)

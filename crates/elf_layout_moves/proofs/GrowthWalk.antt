@@ -324,7 +324,7 @@ module _ (p : Block → Bool) where
 
     -- a first block that overlaps nothing
     abbrev nothing : Block
-    nothing = record { start = 0; size = 0; priority = 0; section = short.section; is_stray = false; is_load_start = false }
+    nothing = record { start = 0; size = 0; priority = 0; section = short.section; is_displaced = false; is_load_start = false }
 
     abbrev pub is_one_marked : List Block → Bool
     is_one_marked bs = list_any p (marked_of bs (marks does_earlier_move does_later_move bs))

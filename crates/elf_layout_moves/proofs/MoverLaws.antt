@@ -1,4 +1,4 @@
--- The blocks that move: those that are stray, and those that the walk marks among the others.
+-- The blocks that move: those that are displaced, and those that the walk marks among the others.
 use Rattle.std.proofs.Common.{◌≡◌, ◌≢◌, ℕ, zero, suc, ◌+◌, ◌<◌, ◌⊎◌, List, [], ◌∷◌, ◌++◌, Bool, true, false, not, ◌&&◌, ◌||◌, add-one, append_assoc, drop, length, refl, sym, ap, ◌∙◌, subst, inl, inr, get_or, arith}
 use Rattle.std.specs.Prelude.{IsSome, None, Option, Some, slice_get, nat_lt, nat_le, ◌==◌, All, Contains, filter, IsPermutation}
 use Rattle.std.specs.List.{cons_option, filter_map, list_all, list_any}
@@ -11,7 +11,7 @@ use Rattle.elf_layout_plan.specs.declared.block.Block.{Block as Ranged}
 use Rattle.elf_layout_plan.specs.Marks.{marked_of}
 use Rattle.elf_layout_plan.specs.MovedBlocks.{HasStuck, MoveForCause, StayApart}
 use Rattle.elf_format.specs.Options.{is_one_of}
-use Rattle.elf_layout_plan.specs.Blocks.{Block, earlier_moves, has_cause, has_load, have_causes, in_order, is_block_of, is_block_of_some, is_earlier, is_kept_out, is_stuck, is_stuck_pair, later_moves, movers, movers_in_order, moves_as_stray, overlaps, some_two, stay_apart}
+use Rattle.elf_layout_plan.specs.Blocks.{Block, earlier_moves, has_cause, has_load, have_causes, in_order, is_block_of, is_block_of_some, is_earlier, is_kept_out, is_stuck, is_stuck_pair, later_moves, movers, movers_in_order, moves_as_displaced, overlaps, some_two, stay_apart}
 use Rattle.elf_layout_plan.specs.declared.fault.LayoutFault.{LayoutFault}
 use Rattle.elf_layout_plan.specs.declared.fault.LayoutFault.TheVariants as faults
 use Rattle.elf_layout_moves.specs.BlockSteps.{AreClear, AreMovers, AreOrdered, AreRanges, AreTold, IsStuckFault, IsWhole}
@@ -87,18 +87,18 @@ module _ (blocks : List Block) (ranges : List Ranged) (marks : List Bool) (order
 
 -- ## Stray blocks
 
--- a stray block and the start of a loaded segment overlap
-stray_overlaps : (o c : Block) → o.is_stray ≡ true → c.is_load_start ≡ true → (overlaps o c ≡ true) ⊎ (overlaps c o ≡ true)
-stray_overlaps o c stray load = elim (one_is_earlier o c) [
+-- a displaced block and the start of a loaded segment overlap
+displaced_overlaps : (o c : Block) → o.is_displaced ≡ true → c.is_load_start ≡ true → (overlaps o c ≡ true) ⊎ (overlaps c o ≡ true)
+displaced_overlaps o c displaced load = elim (one_is_earlier o c) [
   | inl first ↦ inl (and_from (is_earlier o c) (nat_lt c.start (o.start + o.size) || is_kept_out o c) first
       (or_right (nat_lt c.start (o.start + o.size)) (is_kept_out o c)
-      (or_left (o.is_stray && c.is_load_start) (o.is_load_start && c.is_stray) (and_from o.is_stray c.is_load_start stray load))))
+      (or_left (o.is_displaced && c.is_load_start) (o.is_load_start && c.is_displaced) (and_from o.is_displaced c.is_load_start displaced load))))
   | inr second ↦ inr (and_from (is_earlier c o) (nat_lt o.start (c.start + c.size) || is_kept_out c o) second
       (or_right (nat_lt o.start (c.start + c.size)) (is_kept_out c o)
-      (or_right (c.is_stray && o.is_load_start) (c.is_load_start && o.is_stray) (and_from c.is_load_start o.is_stray load stray))))
+      (or_right (c.is_displaced && o.is_load_start) (c.is_load_start && o.is_displaced) (and_from c.is_load_start o.is_displaced load displaced))))
 ]
 
--- A stray block and the start of a loaded segment, at their places.
+-- A displaced block and the start of a loaded segment, at their places.
 record Meeting (blocks : List Block) (o : Block) : Type 0 where
   there : ℕ
   load_there : ℕ
@@ -110,14 +110,14 @@ record Meeting (blocks : List Block) (o : Block) : Type 0 where
   over : (overlaps o load ≡ true) ⊎ (overlaps load o ≡ true)
 
 module _ (blocks : List Block) (wholes : All IsWhole blocks) where
-  -- where there is a loaded segment, each stray block meets its start
-  meeting : (o : Block) → Contains blocks o → o.is_stray ≡ true → has_load blocks ≡ true → Meeting blocks o
-  meeting o (m, within, here) stray loaded =
+  -- where there is a loaded segment, each displaced block meets its start
+  meeting : (o : Block) → Contains blocks o → o.is_displaced ≡ true → has_load blocks ≡ true → Meeting blocks o
+  meeting o (m, within, here) displaced loaded =
       let (n, c, inside, there, load) = Any-from_list_any (λ (b : Block). b.is_load_start) blocks loaded in
       let at : slice_get blocks m ≡ Some o = slice_get-get_or blocks m o within ∙ ap Some here in
       let at_load : slice_get blocks n ≡ Some c = slice_get-get_or blocks n c inside ∙ ap Some there in
       let whole : IsWhole c = at_place IsWhole blocks n c wholes at_load in
-      let straight : c.is_stray ≡ false = whole.placed load in
+      let straight : c.is_displaced ≡ false = whole.placed load in
       record {
         there = m;
         load_there = n;
@@ -126,16 +126,16 @@ module _ (blocks : List Block) (wholes : All IsWhole blocks) where
         at_load = at_load;
         apart = λ same.
             let is : o ≡ c = same_Some o c (sym at ∙ ap (λ (k : ℕ). slice_get blocks k) same ∙ at_load) in
-            let both : o.is_stray ≡ c.is_stray = ap (λ (b : Block). b.is_stray) is in
-            both_ways o.is_stray (both ∙ straight) stray;
+            let both : o.is_displaced ≡ c.is_displaced = ap (λ (b : Block). b.is_displaced) is in
+            both_ways o.is_displaced (both ∙ straight) displaced;
         fixed = whole.fixed load;
-        over = stray_overlaps o c stray load;
+        over = displaced_overlaps o c displaced load;
       }
 
-  -- a stray block that can't move is stuck
-  pub stray_stuck : (o : Block) → Contains blocks o → o.is_stray ≡ true → has_load blocks ≡ true → o.priority ≡ 0 → is_stuck blocks ≡ true
-  stray_stuck o here stray loaded stays =
-      let m = meeting o here stray loaded in
+  -- a displaced block that can't move is stuck
+  pub displaced_stuck : (o : Block) → Contains blocks o → o.is_displaced ≡ true → has_load blocks ≡ true → o.priority ≡ 0 → is_stuck blocks ≡ true
+  displaced_stuck o here displaced loaded stays =
+      let m = meeting o here displaced loaded in
       let zero_o = eq-eqb o.priority 0 stays in
       let zero_c = eq-eqb m.load.priority 0 m.fixed in
       elim m.over [
@@ -146,10 +146,10 @@ module _ (blocks : List Block) (wholes : All IsWhole blocks) where
       ]
 
   -- one that can move has a cause
-  stray_has_cause : (o : Block) (position : ℕ) → Contains blocks o → o.is_stray ≡ true → has_load blocks ≡ true → 0 < o.priority → o.section ≡ Some position
+  displaced_has_cause : (o : Block) (position : ℕ) → Contains blocks o → o.is_displaced ≡ true → has_load blocks ≡ true → 0 < o.priority → o.section ≡ Some position
       → has_cause blocks position ≡ true
-  stray_has_cause o position here stray loaded can owned =
-      let m = meeting o here stray loaded in
+  displaced_has_cause o position here displaced loaded can owned =
+      let m = meeting o here displaced loaded in
       let its = is_its_block position o owned in
       let moves_here : Block → Block → Bool = λ a b. is_block_of position a && earlier_moves a b || is_block_of position b && later_moves a b in
       elim m.over [
@@ -181,23 +181,23 @@ in_second [] ys k x at = (k, at)
 in_second (y ∷ xs) ys k x at = let (j, there) = in_second xs ys k x at in (suc j, there)
 
 module _ (blocks sorted : List Block) (loaded : Bool) (told : loaded ≡ has_load blocks) (wholes : All IsWhole blocks)
-    (same : IsPermutation (filter (λ b. not (moves_as_stray loaded b)) blocks) sorted) where
+    (same : IsPermutation (filter (λ b. not (moves_as_displaced loaded b)) blocks) sorted) where
   abbrev outs : List Block
-  outs = filter (λ b. moves_as_stray loaded b) blocks
+  outs = filter (λ b. moves_as_displaced loaded b) blocks
 
   abbrev others : List Block
-  others = filter (λ b. not (moves_as_stray loaded b)) blocks
+  others = filter (λ b. not (moves_as_displaced loaded b)) blocks
 
   same_two : (test : Block → Block → Bool) → some_two test blocks ≡ some_two test (outs ++ sorted)
   same_two test = some_two-IsPermutation test blocks (outs ++ sorted)
-      (IsPermutation-trans blocks (outs ++ others) (outs ++ sorted) (IsPermutation-filter_both (λ b. moves_as_stray loaded b) (λ b. not (moves_as_stray loaded b)) (λ b. refl) blocks)
+      (IsPermutation-trans blocks (outs ++ others) (outs ++ sorted) (IsPermutation-filter_both (λ b. moves_as_displaced loaded b) (λ b. not (moves_as_displaced loaded b)) (λ b. refl) blocks)
       (IsPermutation-append_right outs others sorted same))
 
   -- none of the others is kept out
-  no_stray : loaded ≡ true → All (λ (b : Block). b.is_stray ≡ false) others
-  no_stray is k d within =
-      let passes : not (moves_as_stray loaded (get_or others k d)) ≡ true = filter_passes (λ b. not (moves_as_stray loaded b)) blocks k d within in
-      elim (and_cases loaded (get_or others k d).is_stray (not-true (moves_as_stray loaded (get_or others k d)) passes)) [
+  none_displaced : loaded ≡ true → All (λ (b : Block). b.is_displaced ≡ false) others
+  none_displaced is k d within =
+      let passes : not (moves_as_displaced loaded (get_or others k d)) ≡ true = filter_passes (λ b. not (moves_as_displaced loaded b)) blocks k d within in
+      elim (and_cases loaded (get_or others k d).is_displaced (not-true (moves_as_displaced loaded (get_or others k d)) passes)) [
         | inl isnt ↦ absurd (both_ways loaded isnt is)
         | inr straight ↦ straight
       ]
@@ -210,11 +210,11 @@ module _ (blocks sorted : List Block) (loaded : Bool) (told : loaded ≡ has_loa
 
   pub clear_of_all : AreClear sorted
   clear_of_all = elim (cases_Bool loaded) [
-    | inl is ↦ inl (λ k x at. at_place (λ (b : Block). b.is_stray ≡ false) sorted k x
-        (All-permutation (λ (b : Block). b.is_stray ≡ false) others sorted same (no_stray is)) at)
+    | inl is ↦ inl (λ k x at. at_place (λ (b : Block). b.is_displaced ≡ false) sorted k x
+        (All-permutation (λ (b : Block). b.is_displaced ≡ false) others sorted same (none_displaced is)) at)
     | inr isnt ↦ inr (λ k x at. at_place (λ (b : Block). b.is_load_start ≡ false) sorted k x
         (All-permutation (λ (b : Block). b.is_load_start ≡ false) others sorted same
-        (All-filter (λ b. not (moves_as_stray loaded b)) (λ (b : Block). b.is_load_start ≡ false) blocks (no_load isnt))) at)
+        (All-filter (λ b. not (moves_as_displaced loaded b)) (λ (b : Block). b.is_load_start ≡ false) blocks (no_load isnt))) at)
   ]
 
   -- what is stuck among the others is stuck
@@ -229,28 +229,28 @@ module _ (blocks sorted : List Block) (loaded : Bool) (told : loaded ≡ has_loa
   each_other : (bs : List Block) → All (Contains blocks) bs → Each (Contains blocks) bs
   each_other bs all = each-from (Contains blocks) bs (λ k x at. at_place (Contains blocks) bs k x all at)
 
-  -- the stray blocks, and what moves of the others in their order, are the blocks that move
+  -- the displaced blocks, and what moves of the others in their order, are the blocks that move
   pub all_chosen : AreTold blocks → AreOrdered sorted → outs ++ movers_in_order sorted ≡ movers blocks
   unfolding movers
   all_chosen apart ordered =
-      let these : All (Contains blocks) others = All-filter (λ b. not (moves_as_stray loaded b)) (Contains blocks) blocks (All-contains_itself blocks) in
+      let these : All (Contains blocks) others = All-filter (λ b. not (moves_as_displaced loaded b)) (Contains blocks) blocks (All-contains_itself blocks) in
       let one : sorted ≡ in_order others = in_order_is (Contains blocks) apart others sorted same ordered (each_other others these)
       (each_other sorted (All-permutation (Contains blocks) others sorted same these)) in
       ap (λ (bs : List Block). outs ++ movers_in_order bs) one
-      ∙ ap (λ (t : Bool). filter (λ b. moves_as_stray t b) blocks ++ movers_in_order (in_order (filter (λ b. not (moves_as_stray t b)) blocks))) told
+      ∙ ap (λ (t : Bool). filter (λ b. moves_as_displaced t b) blocks ++ movers_in_order (in_order (filter (λ b. not (moves_as_displaced t b)) blocks))) told
 
-  -- a stray block is one of the image's, where there is a loaded segment
-  out_is : (k : ℕ) (o : Block) → slice_get outs k ≡ Some o → Contains blocks o × (o.is_stray ≡ true) × (has_load blocks ≡ true)
+  -- a displaced block is one of the image's, where there is a loaded segment
+  out_is : (k : ℕ) (o : Block) → slice_get outs k ≡ Some o → Contains blocks o × (o.is_displaced ≡ true) × (has_load blocks ≡ true)
   out_is k o at =
-      let passes = at_place (λ (b : Block). moves_as_stray loaded b ≡ true) outs k o (filter_passes (λ b. moves_as_stray loaded b) blocks) at in
-      let parts = and_parts loaded o.is_stray passes in
-      (at_place (Contains blocks) outs k o (All-filter (λ b. moves_as_stray loaded b) (Contains blocks) blocks (All-contains_itself blocks)) at, parts.1, sym told ∙ parts.0)
+      let passes = at_place (λ (b : Block). moves_as_displaced loaded b ≡ true) outs k o (filter_passes (λ b. moves_as_displaced loaded b) blocks) at in
+      let parts = and_parts loaded o.is_displaced passes in
+      (at_place (Contains blocks) outs k o (All-filter (λ b. moves_as_displaced loaded b) (Contains blocks) blocks (All-contains_itself blocks)) at, parts.1, sym told ∙ parts.0)
 
   pub out_stuck : (k : ℕ) (o : Block) → slice_get outs k ≡ Some o → o.priority ≡ 0 → is_stuck blocks ≡ true
-  out_stuck k o at stays = let is = out_is k o at in stray_stuck blocks wholes o is.0 is.1 is.2 stays
+  out_stuck k o at stays = let is = out_is k o at in displaced_stuck blocks wholes o is.0 is.1 is.2 stays
 
   module _ (can : All (λ (b : Block). 0 < b.priority) outs) where
-    -- no stray block that can move is stuck
+    -- no displaced block that can move is stuck
     out_free : (k : ℕ) (o x : Block) → slice_get outs k ≡ Some o → (is_stuck_pair o x ≡ false) × (is_stuck_pair x o ≡ false)
     out_free k o x at =
         let more : (o.priority == 0) ≡ false = ne_eqb o.priority 0 (λ zero_o. omega (arith, at_place (λ (b : Block). 0 < b.priority) outs k o can at, zero_o)) in (
@@ -267,7 +267,7 @@ module _ (blocks sorted : List Block) (loaded : Bool) (told : loaded ≡ has_loa
 
       all_cause : (k : ℕ) (x : Block) (position : ℕ) → slice_get (outs ++ found) k ≡ Some x → x.section ≡ Some position → has_cause blocks position ≡ true
       all_cause k x position at owned = elim (in_either outs found k x at) [
-        | inl out ↦ let is = out_is k x out in stray_has_cause blocks wholes x position is.0 is.1 is.2 (at_place (λ (b : Block). 0 < b.priority) outs k x can out) owned
+        | inl out ↦ let is = out_is k x out in displaced_has_cause blocks wholes x position is.0 is.1 is.2 (at_place (λ (b : Block). 0 < b.priority) outs k x can out) owned
         | inr other ↦ same_two _ ∙ some_two-part _ outs sorted (move.causes other.0 x position other.1 owned)
       ]
 
@@ -292,7 +292,7 @@ module _ (blocks sorted : List Block) (loaded : Bool) (told : loaded ≡ has_loa
       all_there k x at = elim (in_either outs found k x at) [
         | inl out ↦ (out_is k x out).0
         | inr other ↦ All-contains (Contains blocks) sorted x (All-permutation (Contains blocks) others sorted same
-            (All-filter (λ b. not (moves_as_stray loaded b)) (Contains blocks) blocks (All-contains_itself blocks))) (move.there other.0 x other.1)
+            (All-filter (λ b. not (moves_as_displaced loaded b)) (Contains blocks) blocks (All-contains_itself blocks))) (move.there other.0 x other.1)
       ]
 
       pub all_movers : AreMovers blocks (outs ++ found)
@@ -304,15 +304,15 @@ module _ (blocks sorted : List Block) (loaded : Bool) (told : loaded ≡ has_loa
         free = same_two is_stuck_pair ∙ some_two-without is_stuck_pair outs sorted out_free ∙ move.free;
       }
 
--- ## Tests of all stray blocks
+-- ## Tests of all displaced blocks
 
 -- one of them can't move: it is stuck
 pub fixed_stuck : (blocks : List Block) (loaded : Bool) → loaded ≡ has_load blocks → All IsWhole blocks
-    → list_any (λ b. b.priority == 0) (filter (λ b. moves_as_stray loaded b) blocks) ≡ true → is_stuck blocks ≡ true
+    → list_any (λ b. b.priority == 0) (filter (λ b. moves_as_displaced loaded b) blocks) ≡ true → is_stuck blocks ≡ true
 fixed_stuck blocks loaded told wholes some =
-    let found : List Block = filter (λ b. moves_as_stray loaded b) blocks in
+    let found : List Block = filter (λ b. moves_as_displaced loaded b) blocks in
     let (k, o, within, there, stays) = Any-from_list_any (λ (b : Block). b.priority == 0) found some in
-    out_stuck blocks (filter (λ b. not (moves_as_stray loaded b)) blocks) loaded told wholes (IsPermutation-refl (filter (λ b. not (moves_as_stray loaded b)) blocks)) k o
+    out_stuck blocks (filter (λ b. not (moves_as_displaced loaded b)) blocks) loaded told wholes (IsPermutation-refl (filter (λ b. not (moves_as_displaced loaded b)) blocks)) k o
     (slice_get-get_or found k o within ∙ ap Some there) (eqb-true o.priority 0 stays)
 
 -- none is one that can't

@@ -54,11 +54,11 @@ past_from_back x y earlier clear over =
       | inr same ↦ elim (earlier_means y x back) [ inl more ↦ absurd (omega (arith, same.0, more)) | inr also ↦ omega (arith, past, same.0, same.1, also.1) ]
     ]
 
-kept_out_none : (x y : Block) → (x.is_stray ≡ false) × (y.is_stray ≡ false) ⊎ (x.is_load_start ≡ false) × (y.is_load_start ≡ false) → is_kept_out x y ≡ false
+kept_out_none : (x y : Block) → (x.is_displaced ≡ false) × (y.is_displaced ≡ false) ⊎ (x.is_load_start ≡ false) × (y.is_load_start ≡ false) → is_kept_out x y ≡ false
 kept_out_none x y (inl none) =
-    or_from (x.is_stray && y.is_load_start) (x.is_load_start && y.is_stray) (and_left x.is_stray y.is_load_start none.0) (and_right x.is_load_start y.is_stray none.1)
+    or_from (x.is_displaced && y.is_load_start) (x.is_load_start && y.is_displaced) (and_left x.is_displaced y.is_load_start none.0) (and_right x.is_load_start y.is_displaced none.1)
 kept_out_none x y (inr none) =
-    or_from (x.is_stray && y.is_load_start) (x.is_load_start && y.is_stray) (and_right x.is_stray y.is_load_start none.1) (and_left x.is_load_start y.is_stray none.0)
+    or_from (x.is_displaced && y.is_load_start) (x.is_load_start && y.is_displaced) (and_right x.is_displaced y.is_load_start none.1) (and_left x.is_load_start y.is_displaced none.0)
 
 clear_of_each_other : (blocks : List Block) (i j : ℕ) (x y : Block) → AreClear blocks → slice_get blocks i ≡ Some x → slice_get blocks j ≡ Some y → is_kept_out x y ≡ false
 clear_of_each_other blocks i j x y (inl none) at_i at_j = kept_out_none x y (inl (none i x at_i, none j y at_j))

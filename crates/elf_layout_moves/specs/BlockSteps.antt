@@ -10,7 +10,7 @@ use Rattle.elf_layout_plan.specs.Blocks.{Block, has_cause, is_block_of_some, is_
 -- what is known of each block of an image: only a section's moves, and the start of a loaded segment is no section
 pub record IsWhole (b : Block) : Type 0 where
   pub owned : 0 < b.priority → IsSome b.section
-  pub placed : b.is_load_start ≡ true → b.is_stray ≡ false
+  pub placed : b.is_load_start ≡ true → b.is_displaced ≡ false
   pub fixed : b.is_load_start ≡ true → b.priority ≡ 0
 
 -- two of the blocks that start together and have one size and one rank are the same
@@ -42,10 +42,10 @@ IsStuckFault blocks faults.Memory = Unit {0}
 abbrev pub AreOrdered : List Block → Type 0
 AreOrdered blocks = (i j : ℕ) (x y : Block) → i < j → slice_get blocks i ≡ Some x → slice_get blocks j ≡ Some y → is_earlier x y ≡ true
 
--- none is stray, or none is the start of a loaded segment
+-- none is displaced, or none is the start of a loaded segment
 abbrev pub AreClear : List Block → Type 0
 AreClear blocks =
-    ((k : ℕ) (x : Block) → slice_get blocks k ≡ Some x → x.is_stray ≡ false)
+    ((k : ℕ) (x : Block) → slice_get blocks k ≡ Some x → x.is_displaced ≡ false)
     ⊎ ((k : ℕ) (x : Block) → slice_get blocks k ≡ Some x → x.is_load_start ≡ false)
 
 -- A block at a place of the order, by the places in place of addresses: it begins at its own, and of those behind it the range has

@@ -9,7 +9,7 @@ use Rattle.elf_format.specs.declared.records.SegmentHeader.{SegmentHeader}
 use Rattle.elf_layout_plan.specs.Blocks.{Block}
 use Rattle.elf_image.specs.Kept.{KeptSection, kept_from, place_at_read}
 pub use Rattle.elf_layout_plan.specs.Memory.{is_movable_type}
-use Rattle.elf_layout_plan.specs.Memory.{Resized, SizedSection, is_out_of_loads, is_stray, section_block, sized_from, takes_memory}
+use Rattle.elf_layout_plan.specs.Memory.{Resized, SizedSection, is_out_of_loads, is_displaced, section_block, sized_from, takes_memory}
 
 -- each section has a number at read
 abbrev pub AreNumbered : Image → Type 0
@@ -40,8 +40,8 @@ abbrev pub is_section_behind : ℕ → ImageSection → Bool
 is_section_behind end s = is_stored (place_at_read s) && nat_le end s.sh_addr
 
 -- a section can't stand where it stood
-abbrev pub is_section_stray : Image → ImageSection → ℕ → Bool
-is_section_stray image s size = is_stray (image_alone image) (sized_at 0 0 s size)
+abbrev pub is_section_displaced : Image → ImageSection → ℕ → Bool
+is_section_displaced image s size = is_displaced (image_alone image) (sized_at 0 0 s size)
 
 -- how readily a section moves that had a number at read, by the numbers of the interpreter's and of the dynamic strings, and by the
 -- leave that the dynamic section has
@@ -58,7 +58,7 @@ made_block r interpreter strings position s = record {
   size = slice_index r.sizes position;
   priority = priority_with interpreter strings r.image.moves_dynamic s (slice_index r.image.section_numbers position);
   section = Some position;
-  is_stray = is_section_stray r.image s (slice_index r.sizes position);
+  is_displaced = is_section_displaced r.image s (slice_index r.sizes position);
   is_load_start = false;
 }
 

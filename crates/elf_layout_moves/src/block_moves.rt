@@ -4,7 +4,7 @@ ghost use Rattle.std.specs.List.{filter_map, list_any};
 ghost use Rattle.elf_layout_plan.specs.MovedBlocks.{HasStuck, IsOrdered, MoveForCause, StayApart, marks_of};
 ghost use Rattle.elf_layout_plan.specs.declared.fault.LayoutFault.TheVariants.{Overlap};
 ghost use Rattle.elf_layout_plan.specs.Marks.{marked_of};
-ghost use Rattle.elf_layout_plan.specs.Blocks.{Block as Taken, has_cause, has_load, have_causes, is_stuck, movers, movers_in_order, moves_as_stray, moving_sections, stay_apart};
+ghost use Rattle.elf_layout_plan.specs.Blocks.{Block as Taken, has_cause, has_load, have_causes, is_stuck, movers, movers_in_order, moves_as_displaced, moving_sections, stay_apart};
 ghost use Rattle.elf_layout_moves.specs.BlockSteps.{AreClear, AreMovers, AreOrdered, AreRanges, AreTold, HasStuckFault, IsRangeOf, IsStuckFault, IsWhole};
 
 use crate::blocks::MemoryBlock;
@@ -27,18 +27,18 @@ fn is_some_fixed(blocks: &[MemoryBlock]) -> bool
     blocks.iter().any(|b| b.priority == 0)
 }
 
-// The stray blocks, where there is a loaded segment: each of them overlaps its start.
-fn stray_blocks(
+// The displaced blocks, where there is a loaded segment: each of them overlaps its start.
+fn displaced_blocks(
     alloc: Global,
     blocks: &[MemoryBlock],
     loaded: bool,
 ) -> Result<Vec<MemoryBlock>, AllocError>
-    ensures { IfOk result (λ found. found.items ≡ filter (λ b. moves_as_stray loaded b) blocks.now) }
+    ensures { IfOk result (λ found. found.items ≡ filter (λ b. moves_as_displaced loaded b) blocks.now) }
 {
     blocks
         .iter()
         .copied()
-        .filter(|b| loaded && b.is_stray)
+        .filter(|b| loaded && b.is_displaced)
         .collect(alloc)
 }
 
@@ -48,12 +48,12 @@ fn inside_blocks(
     blocks: &[MemoryBlock],
     loaded: bool,
 ) -> Result<Vec<MemoryBlock>, AllocError>
-    ensures { IfOk result (λ found. found.items ≡ filter (λ b. not (moves_as_stray loaded b)) blocks.now) }
+    ensures { IfOk result (λ found. found.items ≡ filter (λ b. not (moves_as_displaced loaded b)) blocks.now) }
 {
     blocks
         .iter()
         .copied()
-        .filter(|b| !(loaded && b.is_stray))
+        .filter(|b| !(loaded && b.is_displaced))
         .collect(alloc)
 }
 
@@ -168,14 +168,14 @@ fn others_in_order(
 ) -> Result<Vec<MemoryBlock>, AllocError>
     ensures ordered { IfOk result (λ sorted. AreOrdered sorted.items) }
     ensures same { IfOk result (λ sorted.
-        IsPermutation (filter (λ b. not (moves_as_stray loaded b)) blocks.now) sorted.items) }
+        IsPermutation (filter (λ b. not (moves_as_displaced loaded b)) blocks.now) sorted.items) }
 {
     let mut others = inside_blocks(alloc, blocks, loaded)?;
     put_in_order(&mut others);
     Ok(others)
 }
 
-// The blocks that move, so that no two of the others overlap: the stray ones, and what the walk marks of the others.
+// The blocks that move, so that no two of the others overlap: the displaced ones, and what the walk marks of the others.
 fn movers_of(alloc: Global, blocks: &[MemoryBlock]) -> Result<Vec<MemoryBlock>, LayoutFault>
     requires whole { All IsWhole blocks.now }
     requires told { AreTold blocks.now }
@@ -184,7 +184,7 @@ fn movers_of(alloc: Global, blocks: &[MemoryBlock]) -> Result<Vec<MemoryBlock>, 
     ensures fault { IfErr result (IsStuckFault blocks.now) }
 {
     let loaded = is_some_load(blocks);
-    let mut movers = stray_blocks(alloc, blocks, loaded)?;
+    let mut movers = displaced_blocks(alloc, blocks, loaded)?;
     if is_some_fixed(&movers) {
         return Err(LayoutFault::Overlap);
     }

@@ -12,7 +12,7 @@ ghost use Rattle.elf_format.specs.Places.{occupies_file};
 ghost use Rattle.elf_image.specs.Kept.{dynamic_strings_number, interpreter_number, place_at_read};
 ghost use Rattle.elf_image.specs.Segments.{loads_end as end_of_loads};
 ghost use Rattle.elf_layout_plan.specs.Memory.{blocks_with, edge_blocks, fixed_block, header_blocks, loaded_over, table_size_with, takes_memory};
-ghost use Rattle.elf_layout_moves.specs.ImageBlocks.{AreNumbered, address_of, is_section_behind, is_section_out, is_section_stray, made_block, priority_with, section_blocks_from};
+ghost use Rattle.elf_layout_moves.specs.ImageBlocks.{AreNumbered, address_of, is_section_behind, is_section_out, is_section_displaced, made_block, priority_with, section_blocks_from};
 ghost use Rattle.elf_layout_moves.specs.Growth.{table_start as start_of_table};
 ghost use Rattle.elf_layout_moves.specs.Limits.{end_with};
 
@@ -37,7 +37,7 @@ pub struct MemoryBlock {
     /// The position of the section whose it is.
     pub section: Option<usize>,
     /// Whether what it is to hold can't stand where it stood: it was empty, or its loaded segment went.
-    pub is_stray: bool,
+    pub is_displaced: bool,
     /// Whether it marks the start of a loaded segment.
     pub is_load_start: bool,
 }
@@ -52,7 +52,7 @@ impl Model for MemoryBlock {
       size = b.size;
       priority = b.priority;
       section = b.section;
-      is_stray = b.is_stray;
+      is_displaced = b.is_displaced;
       is_load_start = b.is_load_start;
     } };
 
@@ -61,7 +61,7 @@ impl Model for MemoryBlock {
       size = b.size;
       priority = b.priority;
       section = b.section;
-      is_stray = b.is_stray;
+      is_displaced = b.is_displaced;
       is_load_start = b.is_load_start;
     } };
 }
@@ -94,7 +94,7 @@ fn fixed(start: u128, size: u128) -> MemoryBlock
         size,
         priority: 0,
         section: None,
-        is_stray: false,
+        is_displaced: false,
         is_load_start: false,
     }
 }
@@ -108,7 +108,7 @@ fn load_start(start: u128) -> MemoryBlock
         size: 0,
         priority: 0,
         section: None,
-        is_stray: false,
+        is_displaced: false,
         is_load_start: true,
     }
 }
@@ -299,9 +299,9 @@ fn is_behind_loads(section: &Section<'_>, loads_end: u128) -> bool
 }
 
 // Whether a section of the file that has bytes now can't stand where it stood.
-fn is_stray_at(image: &Builder<'_>, section: &Section<'_>, size: u64, loads_end: u128) -> bool
+fn is_displaced_at(image: &Builder<'_>, section: &Section<'_>, size: u64, loads_end: u128) -> bool
     requires { loads_end ≡ end_of_loads image.now.segments }
-    ensures { result ≡ is_section_stray image.now (section_model section.now) size }
+    ensures { result ≡ is_section_displaced image.now (section_model section.now) size }
 {
     is_in_file(section)
         && size != 0
@@ -378,7 +378,7 @@ fn block_at(
             r.image.may_dynamic_move(),
         ),
         section: Some(position),
-        is_stray: is_stray_at(r.image, section, size, loads_end),
+        is_displaced: is_displaced_at(r.image, section, size, loads_end),
         is_load_start: false,
     }
 }

@@ -121,11 +121,11 @@ neither-apart a b m n h less_a less_b = elim (one_earlier a b) [
 pub neither-before : (a b : Block) → Neither overlaps a b → a.start < b.start → a.start + a.size ≤ b.start
 neither-before a b h less = (earlier_clear a b (ap (λ c. c || a.start == b.start && (nat_lt a.size b.size || a.size == b.size && nat_le (rank a) (rank b))) (lt-ltb a.start b.start less)) h.0).0
 
--- a stray block overlaps the start of each loaded segment
-pub neither-stray : (a b : Block) → Neither overlaps a b → a.is_load_start ≡ true → b.is_stray ≡ true → ⊥
-neither-stray a b h start stray = elim (one_earlier a b) [
-  | inl e ↦ kept_out_first a.is_stray b.is_load_start a.is_load_start b.is_stray start stray (earlier_clear a b e h.0).1
-  | inr e ↦ kept_out_second b.is_stray a.is_load_start b.is_load_start a.is_stray stray start (earlier_clear b a e h.1).1
+-- a displaced block overlaps the start of each loaded segment
+pub neither-displaced : (a b : Block) → Neither overlaps a b → a.is_load_start ≡ true → b.is_displaced ≡ true → ⊥
+neither-displaced a b h start displaced = elim (one_earlier a b) [
+  | inl e ↦ kept_out_first a.is_displaced b.is_load_start a.is_load_start b.is_displaced start displaced (earlier_clear a b e h.0).1
+  | inr e ↦ kept_out_second b.is_displaced a.is_load_start b.is_load_start a.is_displaced displaced start (earlier_clear b a e h.1).1
 ]
   where
     kept_out_first : (w x y z : Bool) → y ≡ true → z ≡ true → (w && x || y && z) ≡ false → ⊥

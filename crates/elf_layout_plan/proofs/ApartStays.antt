@@ -16,9 +16,9 @@ use Rattle.elf_layout_plan.specs.Blocks.{overlaps, stay_apart}
 use Rattle.elf_layout_plan.specs.Anchors.{is_loaded_section}
 use Rattle.elf_tables.specs.Kept.{kept_sections, place_at_read}
 use Rattle.elf_tables.specs.Segments.{loads_end}
-use Rattle.elf_layout_plan.specs.Memory.{Resized, SizedSection, blocks_with, edge_blocks, fixed_block, has_lost_load, header_blocks, is_out_of_loads, is_stray, is_uninitialized_of_threads, section_block, sized_sections, takes_memory}
+use Rattle.elf_layout_plan.specs.Memory.{Resized, SizedSection, blocks_with, edge_blocks, fixed_block, has_lost_load, header_blocks, is_out_of_loads, is_displaced, is_uninitialized_of_threads, section_block, sized_sections, takes_memory}
 use Rattle.elf_layout_plan.specs.Sizes.{new_size}
-use Rattle.elf_layout_plan.proofs.ApartBlocks.{Neither, greatest-each, greatest-start, neither-before, neither-stray, or-false, stay_neither, stay_over, stay_pairs}
+use Rattle.elf_layout_plan.proofs.ApartBlocks.{Neither, greatest-each, greatest-start, neither-before, neither-displaced, or-false, stay_neither, stay_over, stay_pairs}
 use Rattle.elf_layout_plan.proofs.ApartFacts.{AreFacts, bare, bytes_of, was_stored}
 use Rattle.elf_layout_plan.proofs.ApartLists.{Each, Pairs, Some_in, any-at, at-filter, at-map, each-at, each-back, each-both, each-map, each-more, each-unfilter, each-unflat_map, each-unmap, map-at, pairs-cross}
 use Rattle.elf_layout_plan.proofs.ApartSections.{sized-at}
@@ -161,24 +161,24 @@ module _ (r : Resized) (facts : AreFacts r) where
           inr (omega (arith, before, low))
 
       -- with bytes of the file it isn't out of loaded segments where it was empty, and its own didn't go
-      stands : is_stray r t ≡ false → occupies_file (place_at_read t.kept.section) ≡ true → not (t.size == 0) ≡ true
+      stands : is_displaced r t ≡ false → occupies_file (place_at_read t.kept.section) ≡ true → not (t.size == 0) ≡ true
           → ((t.kept.section.sh_size == 0 && is_out_of_loads r t) ≡ false) × (has_lost_load r.image t.kept.section ≡ false)
-      stands not_stray in_file some =
+      stands not_displaced in_file some =
           let s = t.kept.section in
           let out : Bool = s.sh_size == 0 && is_out_of_loads r t in
           let lost : Bool = has_lost_load r.image s in
-          elim (and_cases (occupies_file (place_at_read s) && not (t.size == 0)) (out || lost) not_stray) [
+          elim (and_cases (occupies_file (place_at_read s) && not (t.size == 0)) (out || lost) not_displaced) [
             | inl other ↦ absurd (false≢true (sym other ∙ and_from (occupies_file (place_at_read s)) (not (t.size == 0)) in_file some))
             | inr e ↦ or-false out lost e
           ]
 
       -- where it was empty, a loaded segment shows its new range
-      low_grown : is_stray r t ≡ false → occupies_file (place_at_read t.kept.section) ≡ true → t.kept.section.sh_size ≡ 0 → not (t.size == 0) ≡ true → IsLow t
-      low_grown not_stray in_file empty some =
+      low_grown : is_displaced r t ≡ false → occupies_file (place_at_read t.kept.section) ≡ true → t.kept.section.sh_size ≡ 0 → not (t.size == 0) ≡ true → IsLow t
+      low_grown not_displaced in_file empty some =
           let s = t.kept.section in
           let shown_by : Bool = list_any (λ p. shows_at p (range s.sh_offset t.size) s.sh_addr) (loads_of r.image.segments) in
           let early : Bool = nat_lt s.sh_offset (file_header_size r.image.form) in
-          let placed : (not shown_by || early) ≡ false = elim (and_cases (s.sh_size == 0) (not shown_by || early) (stands not_stray in_file some).0) [
+          let placed : (not shown_by || early) ≡ false = elim (and_cases (s.sh_size == 0) (not shown_by || early) (stands not_displaced in_file some).0) [
             | inl other ↦ absurd (false≢true (sym other ∙ eq-eqb s.sh_size 0 empty))
             | inr e ↦ e
           ] in
@@ -187,23 +187,23 @@ module _ (r : Resized) (facts : AreFacts r) where
           let low : p.p_vaddr + p.p_filesz ≤ memory_end r = each-at (λ p. p.p_vaddr + p.p_filesz ≤ memory_end r) (loads_of r.image.segments) loads_file_end j p at_p in
           inr (omega (arith, begins, ends, distance, low))
 
-      -- it is no stray one: those move
-      isnt_stray : is_stray r t ≡ true → ⊥
-      isnt_stray stray =
+      -- it is no displaced one: those move
+      isnt_displaced : is_displaced r t ≡ true → ⊥
+      isnt_displaced displaced =
           let something = each-at (λ k. is_loaded_section k.section ≡ true → list_any is_loaded facts.left ≡ true) (kept_sections r.image) facts.something i t.kept at_kept occupies in
           let (m, q, at_q, loaded) = any-at is_loaded facts.left something in
           let (n, at_n) = at-filter is_loaded facts.left m q at_q loaded in
           let (j, p, at_p, _) = some_load (λ p. Unit {0}) (n, q, at_n, tt) in
           let edges = each-at (λ p. Each (λ b. b.section ≡ None → Neither overlaps b (section_block r t)) (edge_blocks p)) (loads_of r.image.segments) (edges_clear k t at stays) j p at_p in
-          neither-stray (record (fixed_block p.p_vaddr 0) { is_load_start = true }) (section_block r t) (edges.0 refl) refl stray
+          neither-displaced (record (fixed_block p.p_vaddr 0) { is_load_start = true }) (section_block r t) (edges.0 refl) refl displaced
 
       pub is_low : IsLow t
-      is_low = by_file (occupies_file (place_at_read t.kept.section)) refl (t.kept.section.sh_size == 0) refl (t.size == 0) refl (is_stray r t) refl
+      is_low = by_file (occupies_file (place_at_read t.kept.section)) refl (t.kept.section.sh_size == 0) refl (t.size == 0) refl (is_displaced r t) refl
         where
-          by_file : (a : Bool) → occupies_file (place_at_read t.kept.section) ≡ a → (b : Bool) → (t.kept.section.sh_size == 0) ≡ b → (c : Bool) → (t.size == 0) ≡ c → (d : Bool) → is_stray r t ≡ d → IsLow t
+          by_file : (a : Bool) → occupies_file (place_at_read t.kept.section) ≡ a → (b : Bool) → (t.kept.section.sh_size == 0) ≡ b → (c : Bool) → (t.size == 0) ≡ c → (d : Bool) → is_displaced r t ≡ d → IsLow t
           by_file false ea b eb c ec d ed = low_uninitialized ea
           by_file true ea b eb true ec d ed = inl (eqb-true t.size 0 ec)
-          by_file true ea b eb false ec true ed = absurd (isnt_stray ed)
+          by_file true ea b eb false ec true ed = absurd (isnt_displaced ed)
           by_file true ea true eb false ec false ed = low_grown ed ea (eqb-true t.kept.section.sh_size 0 eb) (ap (λ x. not x) ec)
           by_file true ea false eb false ec false ed =
               low_stored (and_from (occupies_memory (place_at_read t.kept.section) && occupies_file (place_at_read t.kept.section)) (not (t.kept.section.sh_size == 0))

@@ -79,13 +79,13 @@ one_ends a b h = elim (one_earlier a b) [
 pub ends_before : (a b : Block) → KeepApart a b → a.start < b.start → a.start + a.size ≤ b.start
 ends_before a b h less = ends_first a b (starts_first a b less) h.one
 
--- a stray one isn't apart from the start of a loaded segment
-pub isnt_stray : (a b : Block) → KeepApart a b → b.is_load_start ≡ true → a.is_stray ≡ false
-isnt_stray a b h start = false_from_ne_true a.is_stray (λ stray. elim (one_earlier a b) [
+-- a displaced one isn't apart from the start of a loaded segment
+pub isnt_displaced : (a b : Block) → KeepApart a b → b.is_load_start ≡ true → a.is_displaced ≡ false
+isnt_displaced a b h start = false_from_ne_true a.is_displaced (λ displaced. elim (one_earlier a b) [
   | inl first ↦ both_ways (is_kept_out a b) (not_over a b first h.one).1
-      (or_left (a.is_stray && b.is_load_start) (a.is_load_start && b.is_stray) (and_from a.is_stray b.is_load_start stray start))
+      (or_left (a.is_displaced && b.is_load_start) (a.is_load_start && b.is_displaced) (and_from a.is_displaced b.is_load_start displaced start))
   | inr first ↦ both_ways (is_kept_out b a) (not_over b a first h.other).1
-      (or_right (b.is_stray && a.is_load_start) (b.is_load_start && a.is_stray) (and_from b.is_load_start a.is_stray start stray))
+      (or_right (b.is_displaced && a.is_load_start) (b.is_load_start && a.is_displaced) (and_from b.is_load_start a.is_displaced start displaced))
 ])
 
 -- ## Those of an image

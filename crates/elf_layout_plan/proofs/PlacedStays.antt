@@ -16,12 +16,12 @@ use Rattle.elf_format.specs.Ranges.{lies_in, range}
 use Rattle.elf_format.specs.Records.{file_header_size, segment_header_size}
 use Rattle.elf_layout_plan.specs.Blocks.{Block, is_block_of_some, stay_apart}
 use Rattle.elf_tables.specs.Kept.{place_at_read}
-use Rattle.elf_layout_plan.specs.Memory.{Resized, SizedSection, block_in_load, blocks_with, edge_blocks, fixed_block, has_lost_load, header_blocks, is_out_of_loads, is_stray, loaded_over, section_block, sized_sections, table_at_read, table_load, table_size_with, takes_memory}
+use Rattle.elf_layout_plan.specs.Memory.{Resized, SizedSection, block_in_load, blocks_with, edge_blocks, fixed_block, has_lost_load, header_blocks, is_out_of_loads, is_displaced, loaded_over, section_block, sized_sections, table_at_read, table_load, table_size_with, takes_memory}
 use Rattle.elf_layout_plan.proofs.PlacedLists.{Has, any-at, append-right, filter-from, has_here, has_there, pairs-two}
 use Rattle.elf_layout_plan.proofs.PlacedRanges.{Apart, apart-before, apart-behind, apart-swap, apart-within, lies_in-at}
 use Rattle.elf_layout_plan.proofs.PlacedRead.{ReadsPlaced, entry_filled}
 use Rattle.elf_layout_plan.proofs.PlacedSections.{is_kept}
-use Rattle.elf_layout_plan.proofs.PlacedBlocks.{KeepApart, ends_before, header_and_edge, header_and_section, isnt_stray, one_ends, section_and_edge, two_sections}
+use Rattle.elf_layout_plan.proofs.PlacedBlocks.{KeepApart, ends_before, header_and_edge, header_and_section, isnt_displaced, one_ends, section_and_edge, two_sections}
 
 -- A range of the file and its address are in a loaded segment of the image.
 pub record IsKeptIn (r : Resized) (offset size address : ℕ) : Type 0 where
@@ -63,12 +63,12 @@ positive n h = let other : (n ≡ 0 → ⊥) = eqb-false n 0 h in omega (arith, 
 not_zero : (n : ℕ) → 0 < n → (n == 0) ≡ false
 not_zero n h = false_from_ne_true (n == 0) (λ e. omega (arith, h, eqb-true n 0 e))
 
--- what isn't stray
-unstray : (stored now out lost : Bool) → (stored && not now && (out || lost)) ≡ false → stored ≡ true → now ≡ false
+-- what isn't displaced
+undisplaced : (stored now out lost : Bool) → (stored && not now && (out || lost)) ≡ false → stored ≡ true → now ≡ false
     → (out ≡ false) × (lost ≡ false)
-unstray true false out lost h a b = or_parts out lost h
-unstray true true out lost h a b = absurd (both_ways true b refl)
-unstray false now out lost h a b = absurd (false≢true a)
+undisplaced true false out lost h a b = or_parts out lost h
+undisplaced true true out lost h a b = absurd (both_ways true b refl)
+undisplaced false now out lost h a b = absurd (false≢true a)
 
 -- a section that was empty and isn't out of the loaded segments
 not_out : (was shows low : Bool) → (was && (not shows || low)) ≡ false → was ≡ true → (shows ≡ true) × (low ≡ false)
@@ -85,7 +85,7 @@ module _ (r : Resized) (moved : List ℕ) (looked : ℕ) (reads : ReadsPlaced r)
   from_edge s is p p_here b b_here b_stays =
       section_and_edge r moved looked apart s b p is.here (takes_own s.kept.section is.takes is.stored) is.stays p_here b_here b_stays
 
-  -- one that stays isn't stray
+  -- one that stays isn't displaced
   tests_fail : (s : SizedSection) → StaysStored r moved s
       → ((s.kept.section.sh_size == 0 && is_out_of_loads r s) ≡ false) × (has_lost_load r.image s.kept.section ≡ false)
   tests_fail s is =
@@ -96,8 +96,8 @@ module _ (r : Resized) (moved : List ℕ) (looked : ℕ) (reads : ReadsPlaced r)
       let start : Block = record (fixed_block q.p_vaddr 0) { is_load_start = true } in
       let clear = from_edge s is q q_here start (has_here start
       (fixed_block (q.p_vaddr + q.p_filesz) 0 ∷ fixed_block (q.p_vaddr + q.p_memsz) 0 ∷ [])) refl in
-      let no_stray : is_stray r s ≡ false = isnt_stray (section_block r s) start clear refl in
-      unstray (occupies_file (place_at_read x)) (s.size == 0) (x.sh_size == 0 && is_out_of_loads r s) (has_lost_load r.image x) no_stray
+      let none_displaced : is_displaced r s ≡ false = isnt_displaced (section_block r s) start clear refl in
+      undisplaced (occupies_file (place_at_read x)) (s.size == 0) (x.sh_size == 0 && is_out_of_loads r s) (has_lost_load r.image x) none_displaced
       is.stored (not_zero s.size is.filled)
 
   -- a section that was there: what it grew by has room in its segment

@@ -13,7 +13,7 @@ pub record Block : Type 0 where
   -- the position of the section whose it is
   pub section : Option ℕ
   -- what it is to hold can't stand where it stood: it was empty, or lost the loaded segment that it stood in
-  pub is_stray : Bool
+  pub is_displaced : Bool
   -- it marks the start of a loaded segment
   pub is_load_start : Bool
 
@@ -31,9 +31,9 @@ abbrev pub is_earlier : Block → Block → Bool
 is_earlier a b =
     nat_lt a.start b.start || a.start == b.start && (nat_lt a.size b.size || a.size == b.size && nat_le (rank a) (rank b))
 
--- a stray block overlaps the start of every loaded segment
+-- a displaced block overlaps the start of every loaded segment
 abbrev pub is_kept_out : Block → Block → Bool
-is_kept_out a b = a.is_stray && b.is_load_start || a.is_load_start && b.is_stray
+is_kept_out a b = a.is_displaced && b.is_load_start || a.is_load_start && b.is_displaced
 
 -- the first of two blocks is the earlier one, and ends past the start of the later one, or one of them is kept out by the other
 abbrev pub overlaps : Block → Block → Bool
@@ -107,15 +107,15 @@ movers_in_order blocks = marked_of blocks (marks earlier_moves later_moves block
 abbrev pub has_load : List Block → Bool
 has_load blocks = list_any (λ b. b.is_load_start) blocks
 
--- a stray block, where there is a loaded segment
-abbrev pub moves_as_stray : Bool → Block → Bool
-moves_as_stray loaded b = loaded && b.is_stray
+-- a displaced block, where there is a loaded segment
+abbrev pub moves_as_displaced : Bool → Block → Bool
+moves_as_displaced loaded b = loaded && b.is_displaced
 
 -- The blocks that move: those that are kept out, and those of the others that move when these are looked through in their order.
 unfoldable pub movers : List Block → List Block
 movers blocks =
-    filter (λ b. moves_as_stray (has_load blocks) b) blocks
-    ++ movers_in_order (in_order (filter (λ b. not (moves_as_stray (has_load blocks) b)) blocks))
+    filter (λ b. moves_as_displaced (has_load blocks) b) blocks
+    ++ movers_in_order (in_order (filter (λ b. not (moves_as_displaced (has_load blocks) b)) blocks))
 
 -- the sections whose blocks move
 abbrev pub moving_sections : List Block → List ℕ

@@ -44,7 +44,7 @@ loaded_over part segments = find (λ p. lies_in part (file_part p)) (loads_of se
 
 -- a block that never moves and is no section
 abbrev pub fixed_block : ℕ → ℕ → Block
-fixed_block start size = record { start = start; size = size; priority = 0; section = None; is_stray = false; is_load_start = false }
+fixed_block start size = record { start = start; size = size; priority = 0; section = None; is_displaced = false; is_load_start = false }
 
 -- the program header table as it was read, and the one with so many entries more than the image has segments
 abbrev pub table_at_read : Resized → Range
@@ -110,8 +110,8 @@ is_out_of_loads r s =
 
 -- a section of the file that has bytes now can't stand where it stood: it had none, and no loaded segment shows them there, or it lost
 -- the loaded segment that it stood in
-abbrev pub is_stray : Resized → SizedSection → Bool
-is_stray r s =
+abbrev pub is_displaced : Resized → SizedSection → Bool
+is_displaced r s =
     occupies_file (place_at_read s.kept.section) && not (s.size == 0)
     && (s.kept.section.sh_size == 0 && is_out_of_loads r s || has_lost_load r.image s.kept.section)
 
@@ -121,7 +121,7 @@ section_block r s = record {
   size = s.size;
   priority = priority_of r s.kept;
   section = Some s.kept.position;
-  is_stray = is_stray r s;
+  is_displaced = is_displaced r s;
   is_load_start = false;
 }
 

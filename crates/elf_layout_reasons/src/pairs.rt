@@ -13,11 +13,11 @@ fn is_earlier(a: MemoryBlock, b: MemoryBlock) -> bool
         || a.start == b.start && (a.size < b.size || a.size == b.size && a.rank() <= b.rank())
 }
 
-// Whether one of two blocks is the start of a loaded segment, and the other one is stray.
+// Whether one of two blocks is the start of a loaded segment, and the other one is displaced.
 fn is_kept_out(a: MemoryBlock, b: MemoryBlock) -> bool
     ensures { result ≡ kept_out a b }
 {
-    a.is_stray && b.is_load_start || a.is_load_start && b.is_stray
+    a.is_displaced && b.is_load_start || a.is_load_start && b.is_displaced
 }
 
 // Whether a block ends past the start of another one.

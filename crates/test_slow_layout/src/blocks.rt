@@ -15,7 +15,7 @@ pub(crate) struct Block {
     /// sections by their positions.
     rank: u128,
     priority: u8,
-    is_stray: bool,
+    is_displaced: bool,
 }
 
 /// The rank of a start of a loaded segment.
@@ -33,7 +33,7 @@ fn fixed(start: u128, size: u128, rank: u128) -> Block {
         size,
         rank,
         priority: 0,
-        is_stray: false,
+        is_displaced: false,
     }
 }
 
@@ -103,7 +103,7 @@ fn priority_of(facts: &Facts, part: &Part) -> u8 {
 
 /// What the section is to hold can't stand where it stood, where anything is loaded: nothing shows the bytes that it had there, or,
 /// where it was empty, those that it gets.
-fn is_stray(plain: &Plain, part: &Part) -> bool {
+fn is_displaced(plain: &Plain, part: &Part) -> bool {
     if !part.is_in_file() || part.size == 0 {
         return false;
     }
@@ -120,7 +120,7 @@ fn block_of(plain: &Plain, part: &Part) -> Block {
         size: part.size,
         rank: part.position as u128 + SECTION,
         priority: priority_of(&plain.facts, part),
-        is_stray: is_stray(plain, part),
+        is_displaced: is_displaced(plain, part),
     }
 }
 
@@ -158,8 +158,8 @@ fn is_earlier(a: &Block, b: &Block) -> bool {
 
 /// The first of two blocks is the earlier one, and overlaps the later one.
 fn overlaps(earlier: &Block, later: &Block) -> bool {
-    let kept_out = earlier.is_stray && later.rank == LOAD_START
-        || earlier.rank == LOAD_START && later.is_stray;
+    let kept_out = earlier.is_displaced && later.rank == LOAD_START
+        || earlier.rank == LOAD_START && later.is_displaced;
     is_earlier(earlier, later)
         && (later.start < earlier.start.saturating_add(earlier.size) || kept_out)
 }
@@ -205,11 +205,11 @@ fn mark(marks: &mut [bool], at: usize) {
     }
 }
 
-/// Which blocks are stray.
-fn strays(alloc: Global, blocks: &[Block]) -> Result<Vec<bool>, AllocError> {
+/// Which blocks are displaced.
+fn displaced_marks(alloc: Global, blocks: &[Block]) -> Result<Vec<bool>, AllocError> {
     let mut marks = Vec::new(alloc);
     for block in blocks {
-        marks.push(block.is_stray)?;
+        marks.push(block.is_displaced)?;
     }
     Ok(marks)
 }
@@ -232,8 +232,8 @@ fn mark_overlap(blocks: &[Block], last: usize, next: usize, moves: &mut [bool]) 
 
 /// Which blocks move, of blocks none of which are stuck: the last one that stays is looked at beside the next one.
 pub(crate) fn moving(alloc: Global, blocks: &[Block]) -> Result<Vec<bool>, AllocError> {
-    let mut moves = strays(alloc, blocks)?;
-    let mut done = strays(alloc, blocks)?;
+    let mut moves = displaced_marks(alloc, blocks)?;
+    let mut done = displaced_marks(alloc, blocks)?;
     mark_moving(blocks, &mut moves, &mut done);
     Ok(moves)
 }

@@ -15,7 +15,7 @@ loop-place-preserved c = elim c.if-marks-place.branch [
       (slice_get-get_or c.args.marks.now c.loop-place.place _ (omega arith) ∙ ap Some w.if-marks-place.true)
       (ap (λ v. v.items) w.found-is ∙ w.in_ok-push.ensures.items) c.loop-place.invariant
   | else-marks-place w ↦
-      let block : Block = record { start = 0; size = 0; priority = 0; section = None; is_stray = false; is_load_start = false } in
+      let block : Block = record { start = 0; size = 0; priority = 0; section = None; is_displaced = false; is_load_start = false } in
       marked_none c.args.blocks.now c.args.marks.now c.loop-place.place _ c.loop-place.found.items c.if-marks-place.found.items _
       (slice_get-get_or c.args.blocks.now c.loop-place.place block (omega arith))
       (slice_get-get_or c.args.marks.now c.loop-place.place _ (omega arith) ∙ ap Some w.if-marks-place.false)

@@ -2,7 +2,7 @@ use Rattle.std.proofs.Common.{◌≡◌, ◌++◌, ◌∙◌, List, ap, subst, s
 use Rattle.std.specs.Prelude.{◌==◌, filter}
 use Rattle.std.specs.List.{list_any}
 use Rattle.std.proofs.lemmas.Result.{err_from_is_err_and}
-use Rattle.elf_layout_plan.specs.Blocks.{Block, movers_in_order, moves_as_stray}
+use Rattle.elf_layout_plan.specs.Blocks.{Block, movers_in_order, moves_as_displaced}
 use Rattle.elf_layout_moves.specs.BlockSteps.{AreClear, AreMovers, IsStuckFault}
 use Rattle.elf_layout_moves.proofs.MoverLaws.{all_chosen, all_movers, can_all, clear_of_all, fixed_stuck, others_fault}
 use Rattle.elf_layout_moves.proofs.block_moves.movers_of.Goals as goal
@@ -30,7 +30,7 @@ returns-clause-movers c =
     let move = subst (λ (bs : List Block). AreMovers bs c.in_ok-found.found.items) c.deref-2.ensures.value c.in_ok-found.ensures.movers in
     let all = all_movers c.args.blocks.now c.in_ok-others.others.items c.is_some_load-loaded.result c.is_some_load-loaded.ensures c.requires.whole
     c.in_ok-others.ensures.same (can_all _ none) c.in_ok-found.found.items move in
-    let outs : List Block = filter (λ b. moves_as_stray c.is_some_load-loaded.result b) c.args.blocks.now in
+    let outs : List Block = filter (λ b. moves_as_displaced c.is_some_load-loaded.result b) c.args.blocks.now in
     let items = c.in_ok-extend_from_slice.ensures.items in
     let same : c.extend_from_slice.new.self.items ≡ outs ++ c.in_ok-found.found.items =
     items ∙ ap (λ (l : List Block). l ++ c.deref-3.result.now) c.in_ok-movers.ensures ∙ ap (λ (l : List Block). outs ++ l) c.deref-3.ensures.value in
@@ -40,7 +40,7 @@ pub returns-clause-chosen : goal.returns-clause-chosen
 returns-clause-chosen c =
     let loaded = c.is_some_load-loaded.result in
     let others : List Block = c.in_ok-others.others.items in
-    let outs : List Block = filter (λ b. moves_as_stray loaded b) c.args.blocks.now in
+    let outs : List Block = filter (λ b. moves_as_displaced loaded b) c.args.blocks.now in
     let found = c.deref-3.ensures.value ∙ c.in_ok-found.ensures.chosen ∙ ap (λ (bs : List Block). movers_in_order bs) c.deref-2.ensures.value in
     c.in_ok-extend_from_slice.ensures.items
     ∙ ap (λ (l : List Block). l ++ c.deref-3.result.now) c.in_ok-movers.ensures
