@@ -127,7 +127,8 @@ fn names_of(alloc: Global, file: &MachO<'_>) -> Result<MachoNames, AllocError>
 
 /// The libraries that a parsed file loads.
 fn libraries_of(alloc: Global, file: &MachO<'_>) -> Result<Vec<String>, AllocError>
-    ensures { IfOk result (λ texts. texts_model texts.items ≡ map lossily (libs_of file.now.bytes)) }
+    ensures { IfOk result (λ texts.
+        texts_model texts.items ≡ map lossily (libs_of file.now.bytes)) }
 {
     let libraries = file.libs(alloc)?;
     texts_of(alloc, libraries.as_slice())
@@ -135,7 +136,8 @@ fn libraries_of(alloc: Global, file: &MachO<'_>) -> Result<Vec<String>, AllocErr
 
 /// The run paths of a parsed file.
 fn run_paths_of(alloc: Global, file: &MachO<'_>) -> Result<Vec<String>, AllocError>
-    ensures { IfOk result (λ texts. texts_model texts.items ≡ map lossily (rpaths_of file.now.bytes)) }
+    ensures { IfOk result (λ texts.
+        texts_model texts.items ≡ map lossily (rpaths_of file.now.bytes)) }
 {
     let run_paths = file.rpaths(alloc)?;
     texts_of(alloc, run_paths.as_slice())

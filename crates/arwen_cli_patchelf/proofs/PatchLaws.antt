@@ -25,6 +25,8 @@ torn finds plan file old mid new made left kept is part = record {
   patches = part.patches;
   end = length made;
   makes = part.turns.makes;
+  behind = part.turns.behind;
+  stand = part.turns.stand;
   left = left;
   part = let P : Option (List ℕ) → Type 0 = λ o. IsLeft left part.growth part.patches o new in subst P kept part.is_left;
 }

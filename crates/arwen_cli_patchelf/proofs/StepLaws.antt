@@ -21,6 +21,8 @@ applied_torn finds word words file old new torn = record {
   patches = owned_patches torn.difference.pieces.items;
   end = torn.difference.new_length;
   makes = refl;
+  behind = torn.makeable.parts.grown;
+  stand = torn.makeable.parts.stand;
   left = torn.left;
   part = torn.part;
 }

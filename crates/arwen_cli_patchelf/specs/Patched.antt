@@ -1,6 +1,7 @@
 -- What plans make of the bytes of stores and files, where they are known.
-use Rattle.std.specs.Prelude.{ℕ, ◌≡◌, ◌⊎◌, List, Option, Some, None, ⊤}
+use Rattle.std.specs.Prelude.{ℕ, ◌≡◌, ◌⊎◌, All, List, Option, Some, None, drop, length, ⊤}
 use Rattle.std.specs.Io.KnownBytes.{Appends}
+use Rattle.byte_store.specs.Composed.{Stands}
 use Rattle.byte_store.specs.Fault.{IsLeft}
 use Rattle.byte_store.specs.Known.{Stays}
 use Rattle.byte_store.specs.Laid.{Patch, changed}
@@ -19,7 +20,7 @@ abbrev pub IsPatched : Finding → PlanMeant → Option (List ℕ) → Option (L
 IsPatched finds plan old new = (file : List ℕ) → old ≡ Some file
     → (made : List ℕ) × IsMadeOf finds plan file made × (new ≡ Some made)
 
--- A run of writes that failed: it was to turn a file into what a plan makes of it.
+-- A run of writes that failed: it was to turn a file into what a plan makes of it, and each byte that it puts is one of that.
 pub record IsPatchTorn (finds : Finding) (plan : PlanMeant) (file : List ℕ) (old new : Option (List ℕ)) : Type 0 where
   pub made : List ℕ
   pub is_made : IsMadeOf finds plan file made
@@ -27,6 +28,8 @@ pub record IsPatchTorn (finds : Finding) (plan : PlanMeant) (file : List ℕ) (o
   pub patches : List Patch
   pub end : ℕ
   pub makes : changed growth patches end file ≡ made
+  pub behind : growth ≡ drop (length file) made
+  pub stand : All (Stands made) patches
   pub left : Left
   pub part : IsLeft left growth patches old new
 

@@ -22,7 +22,7 @@ use std::alloc::{AllocError, Global};
 use std::io;
 
 /// What is printed of a file.
-#[derive(Clone, Copy, Debug)]
+#[derive(Clone, Copy)]
 pub enum Print {
     /// The interpreter.
     Interpreter,

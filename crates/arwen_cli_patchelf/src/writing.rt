@@ -117,7 +117,8 @@ pub fn write_store<'p, S: Store, C: Creates<'p>, P: Probe>(
     ensures tells { IfErr result (λ refused. TellsPlanPath (P.may_find probe.now)
         (plan_model plan.now) (S.contents store.old) refused.error) }
     ensures cause { IfErr result (λ refused. HasOutputCause
-        (HasReadCause S.may_fail_read (S.contents store.old) (S.failed store.old) (S.failed store.new))
+        (HasReadCause S.may_fail_read (S.contents store.old)
+        (S.failed store.old) (S.failed store.new))
         (C.may_fail files.now output.now) C.is_new C.Created.contents
         sink_inner sink_failures (P.may_find probe.now) (plan_model plan.now)
         (S.contents store.old) refused.error refused.file) }

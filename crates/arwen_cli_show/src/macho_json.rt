@@ -55,7 +55,8 @@ fn put_cpu(alloc: Global, members: &mut Members, cpu: u32) -> Result<(), AllocEr
 /// The type of file.
 fn put_file_type(alloc: Global, members: &mut Members, file_type: u32) -> Result<(), AllocError>
     ensures { OnOk result (members_view members.new.entries
-        ≡ with_member (codes "file_type") (string (name_or_told (file_type_told file_type) file_type))
+        ≡ with_member (codes "file_type")
+        (string (name_or_told (file_type_told file_type) file_type))
         (members_view members.old.entries)) }
 {
     let name = name_or(alloc, file_type_name(file_type), u64::from(file_type))?;

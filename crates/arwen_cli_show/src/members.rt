@@ -52,7 +52,8 @@ pub(crate) fn put_text_if(
     text: &Option<String>,
 ) -> Result<(), AllocError>
     ensures { OnOk result (members_view members.new.entries
-        ≡ with_member key.now (text_data_if (text_model text.now)) (members_view members.old.entries)) }
+        ≡ with_member key.now (text_data_if (text_model text.now))
+        (members_view members.old.entries)) }
 {
     match text {
         None => put(members, alloc, key, Value::Null),
@@ -68,7 +69,8 @@ pub(crate) fn put_texts(
     texts: &[String],
 ) -> Result<(), AllocError>
     ensures { OnOk result (members_view members.new.entries
-        ≡ with_member key.now (texts_data (texts_model texts.now)) (members_view members.old.entries)) }
+        ≡ with_member key.now (texts_data (texts_model texts.now))
+        (members_view members.old.entries)) }
 {
     let value = texts_value(alloc, texts)?;
     put(members, alloc, key, value)

@@ -20,7 +20,8 @@ pub(crate) fn put_signature(
     signature: &Option<SignatureSummary>,
 ) -> Result<(), AllocError>
     ensures { OnOk result (members_view members.new.entries
-        ≡ with_signature (option_map signature_model signature.now) (members_view members.old.entries)) }
+        ≡ with_signature (option_map signature_model signature.now)
+        (members_view members.old.entries)) }
 {
     match signature {
         None => Ok(()),

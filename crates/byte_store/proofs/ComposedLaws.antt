@@ -6,10 +6,11 @@ use Rattle.std.proofs.lemmas.List.Folds.{list_any-append, list_any_at}
 use Rattle.std.proofs.lemmas.Bool.{and_from, and_left, and_right, both_ways, cases_Bool, cases_lt, cond-false, cond-true, le-leb, le-ltb, lt-ltb, not-false, not-true, or_cases, or_parts}
 use Rattle.byte_store.specs.Laid.{LiesIn, Patch, changed, laid}
 use Rattle.byte_store.specs.Laws.{IsOutside}
-use Rattle.byte_store.specs.Composed.{IsChange, IsComposed, IsDifference, Stands, has_position, is_in_spans, is_patched, is_patched_at, kept_byte, owned_patches}
+use Rattle.byte_store.specs.Composed.{IsChange, IsComposed, IsMadeInParts, IsMakeable, Stands, has_position, is_in_spans, is_patched, is_patched_at, kept_byte, owned_patches}
 use Rattle.byte_store.specs.Gaps.{IsSpanIn, is_held}
 use Rattle.byte_store.specs.Shown.{ShowsAll, behind, zero_patch, zero_patches}
 use Rattle.byte_store.specs.declared.composed.Span.{Span}
+use Rattle.byte_store.specs.declared.composed.Difference.{Difference}
 use Rattle.byte_store.specs.declared.composed.OwnedPiece.{OwnedPiece}
 use Rattle.byte_store.proofs.LaidLaws.{length-laid}
 use Rattle.byte_store.proofs.StandLaws.{all_unmapped, append_stands, free_from, laid_is, outside_from, stands_at, stands_append, stands_from}
@@ -28,7 +29,7 @@ grown_long n size patches inside =
     length-laid moved zeros (subst P (sym long) lie) ∙ long
 
 -- what changes the first bytes of a source is a difference of it
-pub changes_source : (source front : List ℕ) (patches : List Patch) (size : ℕ) (growth : Vec ℕ Global) (pieces : Vec OwnedPiece Global) → All (LiesIn size) patches → front ≡ take (min (length source) size) source → All (LiesIn (length front)) (owned_patches pieces.items) → All (IsChange front) (owned_patches pieces.items) → growth.items ≡ laid (map (behind (length source)) patches) (replicate (size - length source) 0) → IsDifference source (record { growth = growth; pieces = pieces; new_length = size })
+pub changes_source : (source front : List ℕ) (patches : List Patch) (size : ℕ) (growth : Vec ℕ Global) (pieces : Vec OwnedPiece Global) → All (LiesIn size) patches → front ≡ take (min (length source) size) source → All (LiesIn (length front)) (owned_patches pieces.items) → All (IsChange front) (owned_patches pieces.items) → growth.items ≡ laid (map (behind (length source)) patches) (replicate (size - length source) 0) → IsMakeable source (record { growth = growth; pieces = pieces; new_length = size })
 changes_source source front patches size growth pieces lie first inside changes grown =
     let more : List Patch = owned_patches pieces.items in
     let m : ℕ = min (length source) size in
@@ -215,9 +216,19 @@ module _ (source bytes : List ℕ) (kept cleared : List Span) (patches : List Pa
                 ∙ sym (get_or_append_left bytes (drop size source) 0 k (omega arith))
           ]
 
-      pub makes : changed growth more size source ≡ bytes
+      makes : changed growth more size source ≡ bytes
       makes =
           let sized : length bytes ≡ size = is.sized in
           let count : length growth ≡ size - length source = growth_long in
           ap (take size) (laid_is more (source ++ growth) (bytes ++ drop size source) (omega (arith, length-append source growth, length-append bytes (drop size source), length-drop size source)) more_lies more_stands same_at)
           ∙ take_at bytes (drop size source) size sized
+
+-- the difference that has these parts
+pub made_in_parts : (source bytes : List ℕ) (kept cleared : List Span) (patches : List Patch) (size : ℕ) → All (LiesIn size) patches → IsComposed source kept cleared patches size bytes → (front : List ℕ) → front ≡ take (min (length source) size) source → (d : Difference) → d.new_length ≡ size → ShowsAll front kept cleared patches (owned_patches d.pieces.items) → d.growth.items ≡ drop (length source) bytes → IsMadeInParts source d bytes
+made_in_parts source bytes kept cleared patches size inside is front first d end shown grown = record {
+  made =
+      ap (λ (n : ℕ). changed d.growth.items (owned_patches d.pieces.items) n source) end
+      ∙ makes source bytes kept cleared patches size inside is front (owned_patches d.pieces.items) first shown d.growth.items grown;
+  grown = grown;
+  stand = shown.shows.stand bytes (all_stand source bytes kept cleared patches size inside is front (owned_patches d.pieces.items) first shown);
+}

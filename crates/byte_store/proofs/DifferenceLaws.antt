@@ -1,5 +1,5 @@
 -- Pieces that turn bytes into others.
-use Rattle.std.proofs.Common.{◌≡◌, ◌≤◌, ◌+◌, ◌-◌, ℕ, List, [], ◌∷◌, ◌++◌, length, take, drop, min, inl, inr, refl, sym, ap, ◌∙◌, arith, All, Option, Some}
+use Rattle.std.proofs.Common.{◌≡◌, ◌≤◌, ◌+◌, ◌-◌, ℕ, List, [], ◌∷◌, ◌++◌, length, take, drop, min, get_or, inl, inr, refl, sym, ap, ◌∙◌, subst, arith, All, Option, Some}
 use Rattle.std.proofs.lemmas.Bool.{cases_lt}
 use Rattle.std.proofs.lemmas.List.{append_assoc, drop-append-le, drop-drop, drop_all, drop_at, length-drop, length-take-le, map-append, take-append-drop, take-append-le, take-take, take_all, take_at}
 use Rattle.std.proofs.lemmas.List.Elements.{All-head, All-push, All-same}
@@ -10,6 +10,7 @@ use Rattle.byte_store.specs.Replaced.{Turns}
 use Rattle.byte_store.specs.declared.pieces.Piece.{Piece}
 use Rattle.byte_store.proofs.LaidLaws.{laid-append, tail_lies}
 use Rattle.byte_store.proofs.PutLaws.{take_sum}
+use Rattle.byte_store.proofs.StandLaws.{stands_append}
 
 -- what lies within the first bytes leaves those behind them
 put_at-before : (at : ℕ) (part front rest : List ℕ) → at + length part ≤ length front → put_at at part (front ++ rest) ≡ put_at at part front ++ rest
@@ -138,14 +139,27 @@ module _ (common : ℕ) (old new : List ℕ) (is : common ≡ min (length old) (
       ∙ ap (λ (xs : List ℕ). take (length new) (xs ++ rest)) makes
       ∙ cut_back
 
+  -- what stands in the new bytes that both have in common stands in all of them
+  stand_whole : (patches : List Patch) → All (LiesIn (length (take common old))) patches → All (Stands (take common new)) patches → All (Stands new) patches
+  stand_whole patches inside stand i d below =
+      let P : List ℕ → Type 0 = λ xs. Stands xs (get_or patches i d) in
+      let lies : LiesIn (length (take common old)) (get_or patches i d) = inside i d below in
+      let here : length (take common old) ≡ common = length-take-le common old (omega arith) in
+      let there : length (take common new) ≡ common = length-take-le common new (omega arith) in
+      subst P (take-append-drop common new)
+      (stands_append (take common new) (drop common new) (get_or patches i d) (omega arith) (stand i d below))
+
   -- the growth is the rest of the new bytes, and the pieces are lent
-  pub turned : (growth : List ℕ) (pieces lent : List Piece) → growth ≡ drop common new → lent ≡ pieces → All (LiesIn (length (take common old))) (patches_of pieces) → laid (patches_of pieces) (take common old) ≡ take common new → Turns old new growth (patches_of lent)
-  turned growth pieces lent rest same inside makes = record {
+  pub turned : (growth : List ℕ) (pieces lent : List Piece) → growth ≡ drop common new → lent ≡ pieces → All (LiesIn (length (take common old))) (patches_of pieces) → laid (patches_of pieces) (take common old) ≡ take common new → All (Stands (take common new)) (patches_of pieces) → Turns old new growth (patches_of lent)
+  turned growth pieces lent rest same inside makes stand = record {
     behind = rest ∙ same_behind;
     makes =
         ap (λ (xs : List ℕ). changed xs (patches_of lent) (length new) old) rest
         ∙ ap (λ (ps : List Piece). changed (drop common new) (patches_of ps) (length new) old) same
         ∙ turned_common (patches_of pieces) inside makes;
+    stand =
+        let P : Patch → Type 0 = Stands new in
+        All-same P (patches_of lent) (patches_of pieces) (ap patches_of same) (stand_whole (patches_of pieces) inside stand);
   }
 
 -- a run that turns bytes into others

@@ -1,5 +1,5 @@
 -- Bytes that are composed of a source: pieces, laid over what is kept of it.
-use Rattle.std.specs.Prelude.{ℕ, ◌≡◌, ◌+◌, ◌<◌, ◌≤◌, List, Bool, false, ◌&&◌, not, nat_le, nat_lt, All, length, map, slice_index, slice_range, if◌then◌else◌, Option}
+use Rattle.std.specs.Prelude.{ℕ, ◌≡◌, ◌+◌, ◌<◌, ◌≤◌, List, Bool, false, ◌&&◌, not, nat_le, nat_lt, All, drop, length, map, slice_index, slice_range, if◌then◌else◌, Option}
 use Rattle.std.specs.List.{list_any}
 use Rattle.byte_store.specs.Laid.{LiesIn, Patch, changed}
 use Rattle.byte_store.specs.Fault.{IsLeft}
@@ -57,10 +57,24 @@ abbrev pub IsChange : List ℕ → Patch → Type 0
 IsChange source patch = Stands source patch → ⊥
 
 -- A difference that can be made in a source of such a length, each piece of which changes it.
+pub record IsMakeable (source : List ℕ) (d : Difference) : Type 0 where
+  pub inside : All (LiesIn (length source + length d.growth.items)) (owned_patches d.pieces.items)
+  pub end : d.new_length ≤ length source + length d.growth.items
+  pub changes : All (IsChange source) (owned_patches d.pieces.items)
+
+-- A difference makes these bytes of a source, and each part of it is one of theirs: what comes behind the source, and the
+-- bytes of each piece. So first parts of it put nothing anywhere that isn't to stand there.
+pub record IsMadeInParts (source : List ℕ) (d : Difference) (bytes : List ℕ) : Type 0 where
+  pub made : made_of source d ≡ bytes
+  pub grown : d.growth.items ≡ drop (length source) bytes
+  pub stand : All (Stands bytes) (owned_patches d.pieces.items)
+
+-- A difference that can be made in a source, each piece of which changes it, and each part of which is one of what it makes.
 pub record IsDifference (source : List ℕ) (d : Difference) : Type 0 where
   pub inside : All (LiesIn (length source + length d.growth.items)) (owned_patches d.pieces.items)
   pub end : d.new_length ≤ length source + length d.growth.items
   pub changes : All (IsChange source) (owned_patches d.pieces.items)
+  pub parts : IsMadeInParts source d (made_of source d)
 
 -- what an error leaves of a store in which a difference was to be made: the very store that there was, or what the failed run tells
 abbrev pub IsNotMade : {S : Type 0} → (S → Option (List ℕ)) → Difference → S → S → ReplaceError → Type 0

@@ -3,7 +3,7 @@ ghost use Rattle.std.specs.Prelude.{◌≡◌, ◌+◌, ◌<◌, ◌≤◌, ◌^
 ghost use Rattle.byte_store.specs.Causes.{IsNotWritten};
 ghost use Rattle.byte_store.specs.Known.{Becomes, HasLength};
 ghost use Rattle.byte_store.specs.Laid.{LiesIn, patches_of};
-ghost use Rattle.byte_store.specs.Composed.{IsComposed, IsDifference, IsNotMade, made_of, owned_patches};
+ghost use Rattle.byte_store.specs.Composed.{IsComposed, IsMadeInParts, IsMakeable, IsNotMade, made_of, owned_patches};
 ghost use Rattle.byte_store.specs.Fault.{IsOkAndSame};
 
 use crate::difference::{ReplaceError, open_and_write};
@@ -56,8 +56,8 @@ pub fn composed_difference(
     requires { All (LiesIn size) (patches_of pieces.now) }
     ensures makes { IfOk result (λ d. (bytes : List ℕ)
         → IsComposed source.now kept.now cleared.now (patches_of pieces.now) size bytes
-        → made_of source.now d ≡ bytes) }
-    ensures makeable { IfOk result (λ d. IsDifference source.now d) }
+        → IsMadeInParts source.now d bytes) }
+    ensures makeable { IfOk result (λ d. IsMakeable source.now d) }
     ensures sized { IfOk result (λ d. d.new_length ≡ size) }
 {
     let front = &source[..source.len().min(size)];

@@ -1,6 +1,6 @@
 -- What edits leave of the bytes of a store.
 use Rattle.std.proofs.Common.{◌≡◌, ℕ, List, Option, Some, length, refl, ap, subst, inl, inr, arith}
-use Rattle.byte_store.specs.Composed.{IsNotMade, made_of}
+use Rattle.byte_store.specs.Composed.{IsDifference, IsNotMade, made_of}
 use Rattle.byte_store.specs.Known.{Becomes, IsAll, Stays}
 use Rattle.byte_store.specs.declared.composed.Difference.{Difference}
 use Rattle.byte_store.specs.declared.difference.ReplaceError.{ReplaceError}
@@ -40,11 +40,12 @@ elf_patched (in_turn asked) edits old new loaded d are all leaves becomes = absu
 elf_patched printing edits old new loaded d are all leaves becomes = absurd are
 
 -- the difference was not made
-pub elf_failed : {S : Type 0} (a : ElfAsked) (contents : S → Option (List ℕ)) (old new : S) (loaded : List ℕ) (d : Difference) (e : ReplaceError) → IsAll (contents old) loaded → LeavesElf a loaded (made_of loaded d)
+pub elf_failed : {S : Type 0} (a : ElfAsked) (contents : S → Option (List ℕ)) (old new : S) (loaded : List ℕ) (d : Difference) (e : ReplaceError) → IsAll (contents old) loaded → IsDifference loaded d → LeavesElf a loaded (made_of loaded d)
     → IsNotMade contents d old new e → FailsElf a (contents old) (contents new) (answer_to_replaced e)
-elf_failed a contents old new loaded d replace.Memory all leaves same = (ap contents same, λ file known. tt)
-elf_failed a contents old new loaded d (replace.Write e) all leaves part = inr (λ file known. record {
+elf_failed a contents old new loaded d replace.Memory all makeable leaves same = (ap contents same, λ file known. tt)
+elf_failed a contents old new loaded d (replace.Write e) all makeable leaves part = inr (λ file known. record {
   difference = d;
+  makeable = let P : List ℕ → Type 0 = λ l. IsDifference l d in subst P (all file known) makeable;
   leaves = leaves_of a (contents old) loaded file d all known leaves;
   left = e.left;
   part = part;

@@ -1,5 +1,6 @@
 -- What comes of run paths that shrink.
-use Rattle.std.proofs.Common.{◌≡◌, ◌+◌, [], ◌∷◌, ◌∙◌, ℕ, List, Option, Some, None, Result, Ok, Err, map, refl, sym, ap, subst, inl, inr}
+use Rattle.std.proofs.Common.{◌≡◌, ◌+◌, [], ◌∷◌, ◌∙◌, ℕ, List, Option, Some, None, Result, Ok, Err, arith, length, map, refl, sym, ap, subst, take, inl, inr}
+use Rattle.std.proofs.lemmas.List.{take_all}
 use Rattle.std.specs.Io.KnownBytes.{Appends}
 use Rattle.std.specs.declared.alloc.Global.{Global}
 use Rattle.std.specs.declared.vec.Vec.{Vec}
@@ -29,7 +30,7 @@ use Rattle.elf_commands.specs.ElfEngine.{IsElfEdited, LeavesElf, MayFailAs, Tell
 use Rattle.elf_commands_steps.specs.ElfErrors.{answer_to_elf, answer_to_replaced}
 use Rattle.command_words.specs.Rows.{Text}
 use Rattle.elf_commands_steps.specs.ShrunkImages.{IsRemovalTold, IsShrunkImage, Steps, TellsUnshrunk, TellsUntold}
-use Rattle.elf_commands.specs.ShrinkRuns.{AreFoundIn, FailsShrink, IsQuiet, IsShrunkBy, RunsShrink, ShrinksStore, TellsShrink, TellsShrunk}
+use Rattle.elf_commands.specs.ShrinkRuns.{AreFoundIn, FailsShrink, GetsFirst, IsQuiet, IsShrunkBy, RunsShrink, ShrinksStore, TellsShrink, TellsShrunk}
 use Rattle.elf_commands_steps.specs.Shrinking.{AreFound, Finding, removal_lines}
 use Rattle.elf_commands_steps.specs.declared.error.ElfCommandError.{ElfCommandError}
 use Rattle.elf_commands_steps.specs.declared.error.ElfCommandError.TheVariants.{Edits, Elf, ElfBatch, Io, Memory}
@@ -201,11 +202,12 @@ shrink_refused finds prefixes old loaded (ElfBatch e) all tells =
 
 -- the difference was not made
 pub shrink_failed : {S : Type 0} (finds : Finding) (prefixes : List Text) (contents : S → Option (List ℕ)) (old new : S) (loaded : List ℕ) (d : Difference) (text : Text) (e : ReplaceError)
-    → IsAll (contents old) loaded → IsShrunkBy finds prefixes loaded d text → IsNotMade contents d old new e → FailsShrink finds prefixes (contents old) (contents new) (answer_to_replaced e)
-shrink_failed finds prefixes contents old new loaded d text replace.Memory all shrunk same = (ap contents same, λ file known. tt)
-shrink_failed finds prefixes contents old new loaded d text (replace.Write e) all shrunk part = inr (λ file known.
+    → IsAll (contents old) loaded → IsDifference loaded d → IsShrunkBy finds prefixes loaded d text → IsNotMade contents d old new e → FailsShrink finds prefixes (contents old) (contents new) (answer_to_replaced e)
+shrink_failed finds prefixes contents old new loaded d text replace.Memory all makeable shrunk same = (ap contents same, λ file known. tt)
+shrink_failed finds prefixes contents old new loaded d text (replace.Write e) all makeable shrunk part = inr (λ file known.
     let P : List ℕ → Type 0 = λ l. IsShrunkBy finds prefixes l d text in
-    record { difference = d; text = text; shrunk = subst P (all file known) shrunk; left = e.left; part = part })
+    let M : List ℕ → Type 0 = λ l. IsDifference l d in
+    record { difference = d; text = text; makeable = subst M (all file known) makeable; shrunk = subst P (all file known) shrunk; left = e.left; part = part })
 
 -- such an error is one that the command may have
 pub shrink_may_fail : (finds : Finding) (prefixes : List Text) (file : List ℕ) (e : ElfCommandError) → TellsShrunk finds prefixes file e → MayFailAs (shrinking prefixes) e
@@ -219,13 +221,27 @@ pub replaced_may_fail : (prefixes : List Text) (e : ReplaceError) → MayFailAs 
 replaced_may_fail prefixes replace.Memory = tt
 replaced_may_fail prefixes (replace.Write e) = tt
 
-pub replaced_is_quiet : {W : Type 0} (old new : W) (e : ReplaceError) → IsQuiet old new (answer_to_replaced e)
-replaced_is_quiet old new replace.Memory = tt
-replaced_is_quiet old new (replace.Write e) = tt
+-- first bytes of the lines were told, or all of them
+pub gets_first : (finds : Finding) (prefixes : List Text) (known said told : Option (List ℕ)) (loaded : List ℕ) (d : Difference) (text : Text) (n : ℕ)
+    → IsAll known loaded → IsShrunkBy finds prefixes loaded d text → Appends said told (take n text) → (file : List ℕ) → known ≡ Some file → GetsFirst finds prefixes file said told
+gets_first finds prefixes known said told loaded d text n all shrunk gets file is =
+    let P : List ℕ → Type 0 = λ l. IsShrunkBy finds prefixes l d text in
+    (d, text, subst P (all file is) shrunk, (n, gets))
 
-pub refused_is_quiet : {W : Type 0} (w : W) (e : ElfCommandError) → IsQuiet w w e
-refused_is_quiet w Memory = tt
-refused_is_quiet w (Io e) = tt
-refused_is_quiet w (Edits wrong) = refl
-refused_is_quiet w (Elf e) = refl
-refused_is_quiet w (ElfBatch e) = refl
+pub gets_all : (finds : Finding) (prefixes : List Text) (known said told : Option (List ℕ)) (loaded : List ℕ) (d : Difference) (text : Text)
+    → IsAll known loaded → IsShrunkBy finds prefixes loaded d text → Appends said told text → (file : List ℕ) → known ≡ Some file → GetsFirst finds prefixes file said told
+gets_all finds prefixes known said told loaded d text all shrunk gets =
+    let P : List ℕ → Type 0 = λ l. Appends said told l in
+    gets_first finds prefixes known said told loaded d text (length text) all shrunk (subst P (sym (take_all (length text) text (omega arith))) gets)
+
+pub replaced_is_quiet : {W : Type 0} (finds : Finding) (prefixes : List Text) (contents : W → Option (List ℕ)) (known : Option (List ℕ)) (old new : W) (loaded : List ℕ) (d : Difference) (text : Text) (e : ReplaceError)
+    → IsAll known loaded → IsShrunkBy finds prefixes loaded d text → Appends (contents old) (contents new) text → IsQuiet finds prefixes contents known old new (answer_to_replaced e)
+replaced_is_quiet finds prefixes contents known old new loaded d text replace.Memory all shrunk gets = inr (gets_all finds prefixes known (contents old) (contents new) loaded d text all shrunk gets)
+replaced_is_quiet finds prefixes contents known old new loaded d text (replace.Write e) all shrunk gets = inr (gets_all finds prefixes known (contents old) (contents new) loaded d text all shrunk gets)
+
+pub refused_is_quiet : {W : Type 0} (finds : Finding) (prefixes : List Text) (contents : W → Option (List ℕ)) (known : Option (List ℕ)) (w : W) (e : ElfCommandError) → IsQuiet finds prefixes contents known w w e
+refused_is_quiet finds prefixes contents known w Memory = inl refl
+refused_is_quiet finds prefixes contents known w (Io e) = inl refl
+refused_is_quiet finds prefixes contents known w (Edits wrong) = refl
+refused_is_quiet finds prefixes contents known w (Elf e) = refl
+refused_is_quiet finds prefixes contents known w (ElfBatch e) = refl

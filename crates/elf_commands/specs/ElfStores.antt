@@ -2,7 +2,7 @@
 use Rattle.std.specs.Prelude.{ℕ, ◌≡◌, ◌⊎◌, List, Option, Some, None, false, ⊤}
 use Rattle.std.specs.declared.io.Error.{Error}
 use Rattle.byte_store.specs.Known.{Stays}
-use Rattle.byte_store.specs.Composed.{made_of, owned_patches}
+use Rattle.byte_store.specs.Composed.{IsDifference, made_of, owned_patches}
 use Rattle.byte_store.specs.Fault.{IsLeft}
 use Rattle.byte_store.specs.declared.composed.Difference.{Difference}
 use Rattle.byte_store.specs.declared.writing.Left.{Left}
@@ -20,9 +20,10 @@ IsElfPatched (shrinking prefixes) old new = Stays old new
 IsElfPatched a old new = (file : List ℕ) → old ≡ Some file
     → (made : List ℕ) × LeavesElf a file made × (new ≡ Some made)
 
--- A run of writes that failed: it was to turn a file into what the edits make of it.
+-- A run of writes that failed: it was to turn a file into what the edits make of it, and each byte that it puts is one of that.
 pub record IsElfTorn (a : ElfAsked) (file : List ℕ) (old new : Option (List ℕ)) : Type 0 where
   pub difference : Difference
+  pub makeable : IsDifference file difference
   pub leaves : LeavesElf a file (made_of file difference)
   pub left : Left
   pub part : IsLeft left difference.growth.items (owned_patches difference.pieces.items) old new

@@ -1,10 +1,10 @@
 -- What a command makes of a file whose run paths shrink, what it tells, and why it makes nothing.
-use Rattle.std.specs.Prelude.{ℕ, ◌≡◌, ◌⊎◌, List, Option, Some, None, Ok, Result, ⊤}
+use Rattle.std.specs.Prelude.{ℕ, ◌≡◌, ◌⊎◌, List, Option, Some, None, Ok, Result, take, ⊤}
 use Rattle.std.specs.Io.KnownBytes.{Appends}
 use Rattle.std.specs.declared.alloc.Global.{Global}
 use Rattle.std.specs.declared.vec.Vec.{Vec}
 use Rattle.byte_store.specs.Known.{Stays}
-use Rattle.byte_store.specs.Composed.{made_of, owned_patches}
+use Rattle.byte_store.specs.Composed.{IsDifference, made_of, owned_patches}
 use Rattle.byte_store.specs.Fault.{IsLeft}
 use Rattle.byte_store.specs.declared.writing.Left.{Left}
 use Rattle.byte_store.specs.declared.composed.Difference.{Difference}
@@ -69,10 +69,11 @@ pub record IsShrunkIn (finds : Finding) (prefixes : List Text) (file : List ℕ)
 abbrev pub ShrinksStore : Finding → List Text → Option (List ℕ) → Option (List ℕ) → Option (List ℕ) → Option (List ℕ) → Type 0
 ShrinksStore finds prefixes old new said told = (file : List ℕ) → old ≡ Some file → IsShrunkIn finds prefixes file new said told
 
--- a run of writes that failed: it was to make such a difference
+-- a run of writes that failed: it was to make such a difference, and each byte that it puts is one of what that makes
 pub record IsShrinkTorn (finds : Finding) (prefixes : List Text) (file : List ℕ) (old new : Option (List ℕ)) : Type 0 where
   pub difference : Difference
   pub text : Text
+  pub makeable : IsDifference file difference
   pub shrunk : IsShrunkBy finds prefixes file difference text
   pub left : Left
   pub part : IsLeft left difference.growth.items (owned_patches difference.pieces.items) old new
@@ -82,11 +83,18 @@ abbrev pub FailsShrink : Finding → List Text → Option (List ℕ) → Option 
 FailsShrink finds prefixes old new (Io e) = Stays old new ⊎ ((file : List ℕ) → old ≡ Some file → IsShrinkTorn finds prefixes file old new)
 FailsShrink finds prefixes old new e = Stays old new × ((file : List ℕ) → old ≡ Some file → TellsShrunk finds prefixes file e)
 
--- lines are told only once nothing is refused any more
-abbrev pub IsQuiet : {W : Type 0} → W → W → ElfCommandError → Type 0
-IsQuiet old new (Io e) = ⊤
-IsQuiet old new Memory = ⊤
-IsQuiet old new e = new ≡ old
+-- a writer got first bytes of the lines of what is made of a file
+abbrev pub GetsFirst : Finding → List Text → List ℕ → Option (List ℕ) → Option (List ℕ) → Type 0
+GetsFirst finds prefixes file said told = (difference : Difference) × (text : Text)
+    × IsShrunkBy finds prefixes file difference text × ((n : ℕ) × Appends said told (take n text))
+
+-- lines are told only once nothing is refused any more; a write that fails, or want of memory, may come before them and behind them
+abbrev pub IsQuiet : {W : Type 0} → Finding → List Text → (W → Option (List ℕ)) → Option (List ℕ) → W → W → ElfCommandError → Type 0
+IsQuiet finds prefixes contents known old new (Io e) =
+    (new ≡ old) ⊎ ((file : List ℕ) → known ≡ Some file → GetsFirst finds prefixes file (contents old) (contents new))
+IsQuiet finds prefixes contents known old new Memory =
+    (new ≡ old) ⊎ ((file : List ℕ) → known ≡ Some file → GetsFirst finds prefixes file (contents old) (contents new))
+IsQuiet finds prefixes contents known old new e = new ≡ old
 
 -- ---- at a path
 
@@ -96,9 +104,9 @@ FailsShrinkAt finds prefixes contents known e None = ⊤
 FailsShrinkAt finds prefixes contents known e (Some store) = FailsShrink finds prefixes known (contents store) e
 
 -- where nothing was opened, no lines are told
-abbrev pub IsQuietAt : {W S : Type 0} → W → W → ElfCommandError → Option S → Type 0
-IsQuietAt old new e None = new ≡ old
-IsQuietAt old new e (Some store) = IsQuiet old new e
+abbrev pub IsQuietAt : {W S : Type 0} → Finding → List Text → (W → Option (List ℕ)) → Option (List ℕ) → W → W → ElfCommandError → Option S → Type 0
+IsQuietAt finds prefixes contents known old new e None = new ≡ old
+IsQuietAt finds prefixes contents known old new e (Some store) = IsQuiet finds prefixes contents known old new e
 
 -- ---- any command
 

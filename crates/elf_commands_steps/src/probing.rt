@@ -144,8 +144,8 @@ fn answers_to<P: Probe>(
     probe: &P,
     questions: &[(&[u8], &[u8])],
 ) -> Result<Vec<ProbeAnswer<'static>>, AllocError>
-    ensures { IfOk result (λ answers. AreAnswers (P.may_find probe.now) (map pair_lent questions.now)
-        (map answer_model answers.items)) }
+    ensures { IfOk result (λ answers. AreAnswers (P.may_find probe.now)
+        (map pair_lent questions.now) (map answer_model answers.items)) }
 {
     let mut answers = Vec::with_capacity(alloc, questions.len())?;
     for (directory, needed) in questions {

@@ -52,8 +52,8 @@ pub fn tell_removed<W: Write>(
     removed: Vec<Removed>,
     out: &mut W,
 ) -> Result<Option<Vec<u8>>, ElfCommandError>
-    ensures told { IfOk result (λ new. IsRemovalTold elf.entry.inner (map removal_model removed.items)
-        new (W.contents out.old) (W.contents out.new)) }
+    ensures told { IfOk result (λ new. IsRemovalTold elf.entry.inner
+        (map removal_model removed.items) new (W.contents out.old) (W.contents out.new)) }
     ensures err { IfErr result (TellsUntold elf.entry.inner out.old out.new) }
 {
     let new = changed_bytes(alloc, elf)?;

@@ -3,8 +3,10 @@ use Rattle.std.proofs.Common.{◌≡◌, ◌≤◌, ◌<◌, ◌+◌, ◌*◌, �
 use Rattle.std.specs.Prelude.{slice_index, not, ◌&&◌, if◌then◌else◌}
 use Rattle.std.specs.List.{flat_map}
 use Rattle.std.proofs.lemmas.List.{append-nil, append_assoc, drop_all, drop_more, get_or-map, length-map}
+use Rattle.byte_store.specs.Composed.{IsMadeInParts, made_of}
 use Rattle.byte_store.specs.Known.{put_at}
 use Rattle.byte_store.specs.Laid.{LiesIn, Patch, laid, patch_of, patches_of}
+use Rattle.byte_store.specs.declared.composed.Difference.{Difference}
 use Rattle.byte_store.specs.declared.pieces.Piece.{Piece}
 use Rattle.elf_format.specs.declared.form.Form.{Form}
 use Rattle.elf_format.specs.declared.records.EntryNumbers.{EntryNumbers}
@@ -243,7 +245,17 @@ module _ (image : Image) (plan : Layout) (headers : List SectionHeader) (content
       (subst (λ (qs : List Patch). IsOverBase (resized image) qs (written_size (resized image) plan) bytes) (sym (are_patches raw))
       (over_base (output_of image plan headers contents raw) is))
 
-  -- so what makes such bytes makes those of the file
+  -- so a difference that makes such bytes in parts makes what it makes in parts
+  pub planned-parts : ((raw : List EntryNumbers) × IsPlannedOutput (output_of image plan headers contents raw)) → (source : List ℕ) (d : Difference)
+      → ((bytes : List ℕ) → IsOverBase (resized image) these size bytes → IsMadeInParts source d bytes)
+      → IsMadeInParts source d (made_of source d)
+  unfolding written_bytes
+  planned-parts (known, is) source d makes =
+      let bytes : List ℕ = written_bytes (output_of image plan headers contents known) in
+      let parts : IsMadeInParts source d bytes = makes bytes (planned_over known is) in
+      subst (IsMadeInParts source d) (sym parts.made) parts
+
+  -- and what makes such bytes makes those of the file
   pub made-planned : ((raw : List EntryNumbers) × IsPlannedOutput (output_of image plan headers contents raw)) → (made : List ℕ)
       → ((bytes : List ℕ) → IsOverBase (resized image) these size bytes → made ≡ bytes)
       → (raw : List EntryNumbers) → made ≡ written_bytes (output_of image plan headers contents raw)

@@ -1,6 +1,6 @@
 //! What stays of the bytes that were read, as spans of positions, and what of others differs from them.
 ghost use Rattle.std.specs.Prelude.{◌≡◌, All, IfOk, List, map, ℕ};
-ghost use Rattle.byte_store.specs.Composed.{IsDifference, made_of};
+ghost use Rattle.byte_store.specs.Composed.{IsMadeInParts, IsMakeable};
 ghost use Rattle.byte_store.specs.Laid.{LiesIn, patches_of};
 ghost use Rattle.elf_image.specs.ImageModel.{segment_model};
 ghost use Rattle.elf_layout_plan.specs.Plan.{resized};
@@ -65,8 +65,8 @@ pub(crate) fn differing<'data>(
     requires lie { All (LiesIn size) (patches_of pieces.now) }
     ensures makes { IfOk result (λ d. (bytes : List ℕ)
         → IsOverBase (resized image.now) (patches_of pieces.now) size bytes
-        → made_of image.now.source d ≡ bytes) }
-    ensures makeable { IfOk result (λ d. IsDifference image.now.source d) }
+        → IsMadeInParts image.now.source d bytes) }
+    ensures makeable { IfOk result (λ d. IsMakeable image.now.source d) }
 {
     let source = image.source();
     let places = old_places(alloc, read, image)?;

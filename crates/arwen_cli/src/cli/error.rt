@@ -249,7 +249,7 @@ impl fmt::Display for ArwenError {
 impl Error for ArwenError {}
 
 /// A fault with its causes, from the outermost on. It ends at a text that already holds the next.
-#[derive(Clone, Copy, Debug)]
+#[derive(Clone, Copy)]
 pub struct FaultLine<'a> {
     /// The fault.
     pub error: &'a ArwenError,

@@ -440,7 +440,8 @@ fn read_options(alloc: Global, matches: &ArgMatches<'_>) -> Result<Option<Values
 
 /// The text of a value, where it is there.
 fn text_of<'m>(matches: &'m ArgMatches<'_>, id: &str) -> Option<&'m str>
-    ensures { option_map (λ s. s.now) result ≡ first_of id.now (rows_of (found_of matches.entry.now)) }
+    ensures { option_map (λ s. s.now) result
+        ≡ first_of id.now (rows_of (found_of matches.entry.now)) }
 {
     matches.get_str(id)
 }

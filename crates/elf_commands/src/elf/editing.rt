@@ -26,7 +26,7 @@ use std::rt::Files;
 /// made; an edit that changes nothing opens the store for writing too, and writes nothing, so that a file that
 /// may not be written is refused whatever an edit finds in it. A refusal, and an error of a read, leave the bytes
 /// as they were; a write that fails leaves what `make_difference` says. A command that prints, or that asks first
-/// what is found, leaves the store as it is; so does one that edits symbols or sections, which `edit_symbols_store` does.
+/// what is found, leaves the store as it is.
 ///
 /// Where notes are wanted, the lines are answered that tell what a user should know of the edits, of the bytes as they
 /// were and of the image after them, each with the command's path; else no text. They are made before anything is written.

@@ -86,8 +86,8 @@ pub(crate) fn edited(
 ) -> Result<Option<Vec<u8>>, ElfCommandError>
     requires { AreEditsAsked (elf_asked (elf_command_model command.now)) (edits_model edits.now) }
     ensures ok { IfOk result (IsElfEdited (elf_asked (elf_command_model command.now)) bytes.now) }
-    ensures left { IfOk result (λ new. LeavesElf (elf_asked (elf_command_model command.now)) bytes.now
-        (bytes_left bytes.now new)) }
+    ensures left { IfOk result (λ new. LeavesElf (elf_asked (elf_command_model command.now))
+        bytes.now (bytes_left bytes.now new)) }
     ensures err { IfErr result (TellsEdit (elf_asked (elf_command_model command.now)) bytes.now) }
 {
     edits_show();

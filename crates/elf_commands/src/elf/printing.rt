@@ -32,8 +32,8 @@ pub fn print_store<S: Store, W: CountedWrite>(
     command: &ElfCommand,
     out: &mut W,
 ) -> Result<(), ElfCommandError>
-    ensures printed { OnOk result (PrintsStored (elf_command_model command.now) (S.contents store.old)
-        (W.contents out.old) (W.contents out.new)) }
+    ensures printed { OnOk result (PrintsStored (elf_command_model command.now)
+        (S.contents store.old) (W.contents out.old) (W.contents out.new)) }
     ensures err { IfErr result PrintMayFail }
     ensures tells { IfErr result (TellsStored W.contents W.failed (elf_command_model command.now)
         (S.contents store.old) out.old out.new) }

@@ -108,7 +108,9 @@ pub fn shrink_store<S: Store, P: Probe, W: CountedWrite>(
     ensures left { IfErr result (FailsShrink (P.may_find probe.now)
         (map string_bytes args.now.allowed_rpath_prefixes.items)
         (S.contents store.old) (S.contents store.new)) }
-    ensures quiet { IfErr result (IsQuiet out.old out.new) }
+    ensures quiet { IfErr result (IsQuiet (P.may_find probe.now)
+        (map string_bytes args.now.allowed_rpath_prefixes.items) W.contents
+        (S.contents store.old) out.old out.new) }
     ensures cause { IfErr result (HasShrinkCause S.may_fail_read S.may_fail_write S.may_take_none
         (S.contents store.old) (S.failed store.old) (S.failed store.new)
         (W.failed out.old) (W.failed out.new)) }
@@ -135,7 +137,8 @@ fn shrink_loaded<S: Store, P: Probe, W: CountedWrite>(
     ensures err { IfErr result (MayFailAs (shrinking (map string_bytes prefixes.now))) }
     ensures left { IfErr result (FailsShrink (P.may_find probe.now)
         (map string_bytes prefixes.now) (S.contents store.old) (S.contents store.new)) }
-    ensures quiet { IfErr result (IsQuiet out.old out.new) }
+    ensures quiet { IfErr result (IsQuiet (P.may_find probe.now) (map string_bytes prefixes.now)
+        W.contents (S.contents store.old) out.old out.new) }
     ensures cause { IfErr result (HasTellCause S.may_fail_write S.may_take_none
         (S.failed store.old) (S.failed store.new) (W.failed out.old) (W.failed out.new)) }
 {
@@ -168,8 +171,10 @@ pub fn shrink_path<'p, O: OpensOnce<'p>, P: Probe, W: CountedWrite>(
         (map string_bytes args.now.allowed_rpath_prefixes.items) O.Opened.contents
         (O.contents files (string_bytes args.now.path_to_binary))
         refused.error refused.store) }
-    ensures quiet { IfErr result (λ refused.
-        IsQuietAt out.old out.new refused.error refused.store) }
+    ensures quiet { IfErr result (λ refused. IsQuietAt (P.may_find probe.now)
+        (map string_bytes args.now.allowed_rpath_prefixes.items) W.contents
+        (O.contents files (string_bytes args.now.path_to_binary)) out.old out.new
+        refused.error refused.store) }
     ensures cause { IfErr result (λ refused. HasShrinkCauseAt
         (O.may_fail files (string_bytes args.now.path_to_binary))
         O.Opened.may_fail_read O.Opened.may_fail_write O.Opened.may_take_none O.Opened.failed

@@ -13,7 +13,7 @@ returns-in-Ok-clause-ok g c =
     let new = c.args.new.now in
     let growth : List ℕ = take (length new - common) (drop common new) in
     replaced old new growth (patches_of lent) _ _
-    (turned common old new c.min-common.ensures growth pieces lent (take_rest new common) c.deref.ensures.value c.in_ok-pieces.ensures.inside c.in_ok-pieces.ensures.makes)
+    (turned common old new c.min-common.ensures growth pieces lent (take_rest new common) c.deref.ensures.value c.in_ok-pieces.ensures.inside c.in_ok-pieces.ensures.makes c.in_ok-pieces.ensures.stand)
     c.requires c.in-Ok.ensures.ok
 
 pub returns-clause-err : goal.returns-clause-err
@@ -26,6 +26,6 @@ returns-clause-err g c =
     let growth : List ℕ = take (length new - common) (drop common new) in record {
       growth = growth;
       patches = patches_of lent;
-      turns = turned common old new c.min-common.ensures growth pieces lent (take_rest new common) c.deref.ensures.value c.in_ok-pieces.ensures.inside c.in_ok-pieces.ensures.makes;
+      turns = turned common old new c.min-common.ensures growth pieces lent (take_rest new common) c.deref.ensures.value c.in_ok-pieces.ensures.inside c.in_ok-pieces.ensures.makes c.in_ok-pieces.ensures.stand;
       is_left = c.in-Err.ensures.err;
     }

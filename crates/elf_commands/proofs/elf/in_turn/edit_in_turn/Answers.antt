@@ -37,7 +37,7 @@ returns-in_err-make_opened-clause-cause g c =
 pub returns-in_err-make_opened-clause-left : goal.returns-in_err-make_opened-clause-left
 returns-in_err-make_opened-clause-left g c =
     let p = err_from_is_err_and c.from_residual-in_err-make_opened.result c.from_residual-in_err-make_opened.ensures.1 in
-    rw (p.1, p.2) (elf_failed (elf_asked (elf_command_model c.args.command.now)) g.S.Store.contents c.args.store.now c.make_opened.new.store c.args.bytes.now c.in_ok-difference.difference _ c.requires.whole c.in_ok-difference.ensures.left c.in_err-make_opened.ensures.err)
+    rw (p.1, p.2) (elf_failed (elf_asked (elf_command_model c.args.command.now)) g.S.Store.contents c.args.store.now c.make_opened.new.store c.args.bytes.now c.in_ok-difference.difference _ c.requires.whole c.in_ok-difference.ensures.makeable c.in_ok-difference.ensures.left c.in_err-make_opened.ensures.err)
 
 pub returns-clause-patched : goal.returns-clause-patched
 returns-clause-patched g c =
