@@ -1,5 +1,5 @@
 //! Edits that groups of words name, of either kind.
-ghost use Rattle.std.specs.Prelude.{◌≡◌, ◌++◌, ◌∷◌, [], IfErr, IfOk, OnOk, map};
+ghost use Rattle.std.specs.Prelude.{◌≡◌, ◌++◌, ◌∷◌, [], IfErr, IfOk, OnErr, OnOk, map, take};
 ghost use Rattle.arwen_elf.specs.Taken.{edits_model};
 ghost use Rattle.elf_edits.specs.EditModel.{edit_model};
 ghost use Rattle.elf_commands_steps.specs.Groups.{MakeInTurn, MakesNext, RefusesNext, TellsInTurn, group_model, has_symbols as are_some_symbols, plain_of, shown_next};
@@ -71,6 +71,8 @@ pub fn apply_in_turn(
     ensures made { OnOk result
         (MakeInTurn (map group_model edits.now) elf.old.inner elf.new.inner) }
     ensures told { IfErr result (TellsInTurn (map group_model edits.now) elf.old.inner) }
+    ensures left { IfErr result (λ e. MakeInTurn (take e.index (map group_model edits.now))
+        elf.old.inner elf.new.inner) }
 {
     for index in 0..edits.len() {
         if let Err(fault) = apply_next(alloc, elf, &edits[index]) {
@@ -86,6 +88,7 @@ fn apply_next(alloc: Global, elf: &mut ElfContainer<'_>, edit: &GroupEdit) -> Re
     ensures shows { OnOk result
         (shown elf.new.inner ≡ shown_next (group_model edit.now) elf.old.inner) }
     ensures told { IfErr result (RefusesNext (group_model edit.now) elf.old.inner) }
+    ensures kept { OnErr result (elf.new.inner ≡ elf.old.inner) }
 {
     match edit {
         GroupEdit::Plain(edit) => apply_plain(alloc, elf, edit),
@@ -100,6 +103,7 @@ fn apply_plain(alloc: Global, elf: &mut ElfContainer<'_>, edit: &ElfEdit) -> Res
     ensures shows { OnOk result
         (shown elf.new.inner ≡ shown_next (plain (edit_model edit.now)) elf.old.inner) }
     ensures told { IfErr result (RefusesNext (plain (edit_model edit.now)) elf.old.inner) }
+    ensures kept { OnErr result (elf.new.inner ≡ elf.old.inner) }
 {
     batches_are_their_edits();
     match elf.apply(alloc, slice::from_ref(edit)) {
