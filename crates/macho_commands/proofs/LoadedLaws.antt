@@ -1,9 +1,11 @@
 -- What comes of a file, told by its front.
-use Rattle.std.proofs.Common.{◌≡◌, ◌≤◌, ◌<◌, ◌^◌, ◌+◌, ◌∙◌, ℕ, List, [], ◌∷◌, ◌++◌, length, take, drop, refl, sym, ap, subst, arith}
+use Rattle.std.proofs.Common.{◌≡◌, ◌≤◌, ◌<◌, ◌^◌, ◌+◌, ◌∙◌, ℕ, List, [], ◌∷◌, ◌++◌, length, take, drop, get_or, refl, sym, ap, subst, arith}
 use Rattle.std.specs.List.{All}
 use Rattle.std.proofs.lemmas.List.{append_assoc, drop-append-le, take-append-le}
 use Rattle.std.proofs.lemmas.List.Elements.{All-head}
-use Rattle.byte_store.proofs.LaidLaws.{tail_lies}
+use Rattle.byte_store.proofs.LaidLaws.{length-laid, tail_lies}
+use Rattle.byte_store.proofs.StandLaws.{stands_append}
+use Rattle.byte_store.specs.Composed.{Stands}
 use Rattle.byte_store.specs.Known.{put_at}
 use Rattle.byte_store.specs.Laid.{LiesIn, Patch, laid}
 use Rattle.command_words.specs.Rows.{Text}
@@ -33,6 +35,12 @@ laid-append [] first rest inside = refl
 laid-append (patch ∷ patches) first rest inside =
     ap (laid patches) (put_at-append patch.offset patch.bytes first rest (All-head (LiesIn (length first)) patch patches inside))
     ∙ laid-append patches (put_at patch.offset patch.bytes first) rest (tail_lies patch patches first inside)
+
+-- what stands in a front that patches make stands in it with the rest behind it
+pub stand_longer : (patches : List Patch) (front rest : List ℕ) → All (LiesIn (length front)) patches → All (Stands (laid patches front)) patches → All (Stands (laid patches front ++ rest)) patches
+stand_longer patches front rest inside stand = λ i d below.
+    let lies = inside i d below in
+    stands_append (laid patches front) rest (get_or patches i d) (omega (arith, lies, length-laid patches front inside)) (stand i d below)
 
 -- ---- where no slot of a signature is made anew
 

@@ -1,10 +1,11 @@
 -- What comes of a file whose slots are made anew, told by the fronts of its slices and by its signatures.
-use Rattle.std.proofs.Common.{◌≡◌, ◌≤◌, ◌<◌, ◌^◌, ◌+◌, ◌∙◌, ℕ, if◌then◌else◌, Bool, true, false, List, [], ◌∷◌, ◌++◌, length, take, drop, map, None, Option, Some, refl, sym, ap, subst, arith}
+use Rattle.std.proofs.Common.{◌≡◌, ◌≤◌, ◌<◌, ◌^◌, ◌+◌, ◌-◌, ◌∙◌, ℕ, inl, inr, if◌then◌else◌, Bool, true, false, List, [], ◌∷◌, ◌++◌, length, take, drop, map, get_or, None, Option, Some, refl, sym, ap, subst, arith}
 use Rattle.std.specs.List.{All, AllZip, flat_map, list_any}
-use Rattle.std.proofs.lemmas.List.{append-nil, length-append, map-append, take_all}
-use Rattle.std.proofs.lemmas.List.Elements.{All-cons, All-head, All-nil, All-tail}
+use Rattle.std.proofs.lemmas.List.{append-nil, length-append, length-drop, length-take-le, map-append, take_all}
+use Rattle.std.proofs.lemmas.List.Elements.{All-append, All-cons, All-head, All-map, All-nil, All-tail}
 use Rattle.byte_store.proofs.LaidLaws.{laid-append as laid-both, length-laid}
-use Rattle.byte_store.specs.Laid.{Patch, laid}
+use Rattle.byte_store.specs.Composed.{Stands}
+use Rattle.byte_store.specs.Laid.{LiesIn, Patch, laid}
 use Rattle.byte_store.specs.Shown.{shifted}
 use Rattle.arwen_macho.proofs.ForCallers.{AreShown, shown-laid_over}
 use Rattle.arwen_macho.specs.FatState.{Slice, bytes_laid_over}
@@ -15,15 +16,22 @@ use Rattle.macho_image.specs.Checks.{file_fault}
 use Rattle.macho_image.specs.Fat.{archs_of, slice_of, table_fault}
 use Rattle.macho_image.specs.declared.fat.FatArch.{FatArch}
 use Rattle.macho_image.specs.declared.format.MachFault.{MachFault}
-use Rattle.macho_signatures.specs.Renewed.{laid as slots_on, with_slot}
+use Rattle.macho_signatures.specs.Directory.{hash_size}
+use Rattle.macho_signatures.specs.Pages.{Fits, hash_bytes, page_hash, slot_place}
+use Rattle.macho_signatures.specs.Renewed.{IsRenewed, SlotLies, laid as slots_on, with_slot}
+use Rattle.macho_signatures.specs.declared.directory.Directory.{Directory}
 use Rattle.macho_signatures.specs.declared.renewal.Slot.{Slot}
-use Rattle.macho_signing.specs.File.{first_fault, has_identity_in, part_fault, part_slots, parts_fault, parts_of, signed_slots, slice_part, slot_in}
+use Rattle.macho_signing.specs.File.{IsInside, IsSignedPart, first_fault, has_identity_in, pages_in, part_bytes, part_fault, part_slots, parts_fault, parts_of, signed_slots, slice_part, slot_in}
 use Rattle.macho_signing.specs.Front.{SignsThin}
-use Rattle.macho_signing.specs.Thin.{or_else, since, thin_slots}
+use Rattle.macho_signing.specs.Thin.{AreSlotsPlaced, Pages, adhoc_directories, or_else, since, thin_slots, touched_by}
 use Rattle.macho_signing.specs.declared.fault.SigningFault.{SigningFault}
 use Rattle.macho_signing.specs.declared.file.Part.{Part as FilePart}
-use Rattle.macho_signing.proofs.JoinedLaws.{SignsParts, signs_parts}
+use Rattle.macho_signatures.proofs.HashLengths.{length-page_hash}
+use Rattle.macho_signatures.proofs.LaidLaws.{Reads}
+use Rattle.macho_signatures.proofs.RenewedLaws.{all_slots, before_slots, page_hash-same}
+use Rattle.macho_signing.proofs.JoinedLaws.{SignsParts, parts_are, signs_parts}
 use Rattle.macho_signing.proofs.SignedLaws.{ArePlacedIn}
+use Rattle.macho_signing.proofs.ThinLaws.{thin_slots_lie}
 use Rattle.macho_commands_signing.proofs.ForCallers.{edit_keeps}
 use Rattle.macho_commands_signing.proofs.PieceLaws.{with_slot-is}
 use Rattle.macho_commands_signing.proofs.StepSignature.{fat_parts, thin_parts}
@@ -38,13 +46,14 @@ use Rattle.macho_commands.specs.Loading.{with_rest}
 use Rattle.macho_commands.specs.Meaning.{MachoMeaning}
 use Rattle.macho_commands.specs.Notes.{is_some_left}
 use Rattle.macho_commands.specs.Sliced.{EditedSlice, IsMade, edited_bytes, slice_patches}
+use Rattle.macho_commands.specs.Stores.{IsPartOf}
 use Rattle.macho_commands.specs.declared.signing.Signing.{Signing}
 use Rattle.macho_commands.specs.declared.signing.Signs.{Signs}
 use Rattle.macho_commands.specs.declared.signing.Signs.TheVariants.{Nothing, Touched}
 use Rattle.macho_commands.proofs.FrontLaws.{found_longer}
-use Rattle.macho_commands.proofs.LoadedLaws.{front_outcome, front_shows, laid-append, short_joined}
+use Rattle.macho_commands.proofs.LoadedLaws.{front_outcome, front_shows, laid-append, short_joined, stand_longer}
 use Rattle.macho_commands.proofs.SigningLaws.{made_is}
-use Rattle.macho_commands.proofs.SlicedLaws.{AreParts, AreSliceFronts, IsSliceFront, Part, arch_in, laid_mid, lie_in, over_in, part_made, patches_in, same_first, slice_in}
+use Rattle.macho_commands.proofs.SlicedLaws.{AreParts, AreSliceFronts, IsSliceFront, Part, arch_in, laid_mid, lie_in, over_in, part_made, patches_in, same_first, slice_in, stand_all, stand_further}
 
 abbrev pub front_in : EditedSlice → SliceFront
 front_in e = e.front
@@ -179,6 +188,53 @@ slots_laid : (slots : List Slot) (bytes' : List ℕ) → slots_on slots bytes' �
 slots_laid [] bytes' = refl
 slots_laid (slot ∷ slots) bytes' = slots_laid slots (with_slot slot bytes') ∙ ap (laid (map slot_patch slots)) (with_slot-is slot bytes')
 
+-- what is laid of them stands in what it makes
+
+-- the slot of a page that is made anew has its hash behind the others too
+thin_stand : (pages : Pages) (old new : List ℕ) → AreSlotsPlaced old → IsRenewed (adhoc_directories old) (touched_by pages old) old new → All (λ s. Reads s new) (thin_slots pages old)
+unfolding thin_slots Fits
+thin_stand pages old new are renewed =
+    all_slots (λ s. Reads s new) (touched_by pages old) old (adhoc_directories old) (λ k e here page inside touches.
+    let d : Directory = get_or (adhoc_directories old) k e in
+    let limit = (are.placed.each k e here).before in
+    let same : page_hash d page new ≡ page_hash d page old =
+    page_hash-same d page old new renewed.long (λ i from to. renewed.kept i (before_slots are.start (length old) (adhoc_directories old) (touched_by pages old) i are.placed (omega (arith, to, limit)))) in
+    let size : length (hash_bytes (page_hash d page old)) ≡ hash_size d.hash = length-page_hash d page old in
+    ap (λ (n : ℕ). take n (drop (slot_place d page) new)) size ∙ renewed.fits k e here page inside touches ∙ ap hash_bytes same)
+
+stand_read : (slots : List Slot) (bytes' : List ℕ) → All (λ s. Reads s bytes') slots → All (Stands bytes') (map slot_patch slots)
+stand_read slots bytes' reads = All-map (Stands bytes') slot_patch slots (λ i d below.
+    let s : Slot = get_or slots i d in
+    let n : ℕ = length (hash_bytes s.hash) in
+    let len : s.place + n - s.place ≡ n = omega arith in
+    ap (λ (k : ℕ). take k (drop s.place bytes')) len ∙ reads i d below)
+
+slots_inside : (n : ℕ) (slots : List Slot) → All (SlotLies n) slots → All (LiesIn n) (map slot_patch slots)
+slots_inside n slots lie = All-map (LiesIn n) slot_patch slots (λ i d below. lie i d below)
+
+part_stands : (pages : Pages) (edited new : List ℕ) (p : FilePart) → IsInside (length edited) p → ArePlacedIn edited p → IsSignedPart pages edited new p → All (Stands new) (map slot_patch (part_slots pages edited p))
+part_stands pages edited new p inside placed signed =
+    let slots : List Slot = thin_slots (pages_in pages p) (part_bytes edited p) in
+    let old_long : length (part_bytes edited p) ≡ p.size = length-take-le p.size (drop p.offset edited) (omega (arith, length-drop p.offset edited, inside)) in
+    let new_long : length (part_bytes new p) ≡ p.size = signed.long ∙ old_long in
+    let Inside : ℕ → Type 0 = λ n. All (LiesIn n) (map slot_patch slots) in
+    let lies : All (LiesIn p.size) (map slot_patch slots) =
+    subst Inside old_long (slots_inside (length (part_bytes edited p)) slots (thin_slots_lie (pages_in pages p) (part_bytes edited p) placed)) in
+    let stands = stand_read slots (part_bytes new p) (thin_stand (pages_in pages p) (part_bytes edited p) (part_bytes new p) placed signed) in
+    let Stood : List Patch → Type 0 = All (Stands new) in
+    subst Stood (sym (shift_slots p.offset slots)) (stand_further p.offset p.size new (part_bytes new p) (map slot_patch slots) refl new_long lies stands)
+
+slots_stand : (pages : Pages) (edited new : List ℕ) (parts : List FilePart) → All (IsInside (length edited)) parts → All (ArePlacedIn edited) parts → All (IsSignedPart pages edited new) parts → All (Stands new) (map slot_patch (flat_map (part_slots pages edited) parts))
+slots_stand pages edited new [] inside placed signed = All-nil (Stands new)
+slots_stand pages edited new (p ∷ parts) inside placed signed =
+    let here : List Slot = part_slots pages edited p in
+    let more : List Slot = flat_map (part_slots pages edited) parts in
+    let Stood : List Patch → Type 0 = All (Stands new) in
+    subst Stood (sym (map-append slot_patch here more))
+    (All-append (Stands new) (map slot_patch here) (map slot_patch more)
+    (part_stands pages edited new p (All-head (IsInside (length edited)) p parts inside) (All-head (ArePlacedIn edited) p parts placed) (All-head (IsSignedPart pages edited new) p parts signed))
+    (slots_stand pages edited new parts (All-tail (IsInside (length edited)) p parts inside) (All-tail (ArePlacedIn edited) p parts placed) (All-tail (IsSignedPart pages edited new) p parts signed)))
+
 -- ---- the file
 
 -- a table that is accepted passes
@@ -205,12 +261,14 @@ pub record RenewsFile (choice : Signing) (meaning : MachoMeaning) (file : List �
   pub shows : IsSignedOutcome choice meaning file (laid patches file)
   pub edited : List ℕ
   pub made : outcome_of (asked meaning) file ≡ new_bytes edited
+  pub stand : All (IsPartOf edited (laid patches file)) patches
   pub left_is : left ≡ is_some_left edited
 
 -- edits of a file, and the slots behind them
 pub record SignsEdits (a : Asked) (file : List ℕ) (patches : List Patch) (archs : List FatArch) (signs : List SignedFront) : Type 0 where
   pub edited : List ℕ
   pub is : edited ≡ laid patches file
+  pub stand : All (Stands edited) patches
   pub made : outcome_of a file ≡ new_bytes edited
   pub shows : ShowsEdited a file edited
   pub parts : parts_of file ≡ map slice_part archs
@@ -231,6 +289,12 @@ renews choice meaning file patches slots archs signs left touched by slots_is to
     let same : map slot_patch new ≡ slots = ap (λ (l : List FilePart). map slot_patch (flat_map (part_slots (since file) edited) l)) parts ∙ slots_are file edited archs signs by.each ∙ sym slots_is in
     let after : slots_on new edited ≡ laid (patches ++ slots) file =
     slots_laid new edited ∙ ap (λ (l : List Patch). laid l edited) same ∙ ap (laid slots) by.is ∙ sym (laid-both patches slots file) in
+    let Stood : List ℕ → Type 0 = λ l. All (Stands l) slots in
+    let Slots : List Patch → Type 0 = All (Stands (slots_on new edited)) in
+    let inside = (parts_are edited (parts_pass edited by.shows.shows.accepted)).inside in
+    let placed = subst Placed (sym parts) (all_placed file edited archs signs by.each) in
+    let stands : All (Stands (laid (patches ++ slots) file)) slots =
+    subst Stood after (subst Slots same (slots_stand (since file) edited (slots_on new edited) (parts_of edited) inside placed all.signed.parts)) in
     let Shown : List ℕ → Type 0 = ShowsSigned (since file) a file in
     let By : Signs → Type 0 = λ s. ShowsBy s a file (laid (patches ++ slots) file) in
     record {
@@ -238,6 +302,8 @@ renews choice meaning file patches slots archs signs left touched by slots_is to
       shows = subst By (sym touched) (subst Shown after (record { edited = edited; shows = by.shows; passes = all.passes; signed = all.signed; same = all.same }));
       edited = edited;
       made = by.made;
+      stand =
+          All-append (IsPartOf edited (laid (patches ++ slots) file)) patches slots (λ i d below. inl (by.stand i d below)) (λ i d below. inr (stands i d below));
       left_is = told ∙ left_is file edited archs signs by.each ∙ ap (list_any (has_identity_in edited)) (sym parts);
     }
 
@@ -251,6 +317,7 @@ fat_signs a known file start archs patches all signs knows has rising fronts mad
     let rise = subst Rising (sym by.archs_are) rising in
     let these = subst Fronts (sym by.archs_are) fronts in
     let slices : List Slice = map slice_in by.parts in
+    let Stood : List Patch → Type 0 = λ l. All (Stands (laid l file)) l in
     let over : bytes_laid_over slices file ≡ laid patches file =
     over_in shows.calls file file start (length file) by.parts refl rise (same_first file by.parts) by.are
     ∙ ap (λ (l : List Patch). laid l file) (patches_by file by.parts all these by.each ∙ sym patches_are) in
@@ -259,6 +326,7 @@ fat_signs a known file start archs patches all signs knows has rising fronts mad
     record {
       edited = laid patches file;
       is = refl;
+      stand = subst Stood (patches_by file by.parts all these by.each ∙ sym patches_are) (stand_all shows.calls file start by.parts rise by.are);
       made = is;
       shows = shows;
       parts = fat_parts file has.begins ∙ ap (map slice_part) has.archs_are;
@@ -287,6 +355,10 @@ thin_signs a known file n (e ∷ []) (s ∷ []) knows long short fronts made sam
     let many : length edited ≡ n = omega (arith, old_long, length-append (edited_bytes e) rest, ap length joined, length-append front rest, long) in
     let shown : slice_of edited (whole_arch n) ≡ laid e.here (slice_of file (whole_arch n)) =
     take_all n edited (omega (arith, many)) ∙ sym (laid-append e.here front rest here.inside) ∙ ap (laid e.here) is.is.joined in
+    let Stood : List Patch → Type 0 = All (Stands edited) in
+    let at_front : edited ≡ take (length edited) (drop e.front.offset edited) = sym (ap (λ (k : ℕ). take (length edited) (drop k edited)) is.offset ∙ take_all (length edited) edited (omega arith)) in
+    let within : All (LiesIn (length edited)) e.here = λ i d below. let lies = here.inside i d below in omega (arith, lies, old_long, length-append (edited_bytes e) rest) in
+    let stands : All (Stands edited) e.here = stand_longer e.here front rest here.inside here.stand in
     let both : e.front ∷ [] ≡ s.front ∷ [] = same in
     let other : edited_bytes e ∷ [] ≡ s.new ∷ [] = news in
     let head : e.front ≡ s.front = cc in
@@ -298,6 +370,7 @@ thin_signs a known file n (e ∷ []) (s ∷ []) knows long short fronts made sam
       is = sym (ap (λ (l : List Patch). laid l file) (append-nil (slice_patches e))
           ∙ ap (λ (k : ℕ). laid (map (shifted k) e.here) file) is.offset
           ∙ ap (laid (map (shifted 0) e.here)) (sym joined) ∙ laid_mid e.here [] front rest here.inside);
+      stand = subst Stood (sym (append-nil (slice_patches e))) (stand_further e.front.offset (length edited) edited edited e.here at_front refl within stands);
       made = front_outcome Nothing a front file of refl ∙ ap (with_rest rest) here.is;
       shows = front_shows Nothing a front file (edited_bytes e) of refl here.shows;
       parts = thin_parts file thin ∙ ap (λ (k : ℕ). record { offset = 0; size = k } ∷ []) long;

@@ -203,7 +203,15 @@ pub torn_renewed : (choice : Signing) (meaning : MachoMeaning) (old mid new : Op
 torn_renewed choice meaning old mid new read patches left m kept (inl stays) = inl (stays ∙ kept)
 torn_renewed choice meaning old mid new read patches left m kept (inr laid_first) = inr (λ file knows.
     let all = made_of choice meaning old read patches left file m knows in
-    (patches, all.is, (laid_first.0, laid_first.1 file (kept ∙ knows))))
+    record {
+      patches = patches;
+      makes = all.is;
+      edited = all.edited;
+      is_edited = all.made;
+      stand = all.stand;
+      count = laid_first.0;
+      first = laid_first.1 file (kept ∙ knows);
+    })
 
 pub told_renewed : (n : Notes) (choice : Signing) (meaning : MachoMeaning) (old : Option (List ℕ)) (read : SliceFronts) (patches : List Patch) (left : Bool) (path told : Text) → Makes choice meaning old read patches left → path ≡ file_of meaning → TellsLeft Touched n left path told → TellsWantedAt choice meaning n old told
 told_renewed LeftOut choice meaning old read patches left path told m same tells = tells

@@ -1,16 +1,18 @@
 -- What comes of a fat file, told by the fronts of its slices.
-use Rattle.std.proofs.Common.{◌≡◌, ◌≤◌, ◌<◌, ◌^◌, ◌+◌, ◌∙◌, ℕ, inl, inr, Bool, true, false, List, [], ◌∷◌, ◌++◌, length, take, drop, map, append_assoc, None, Option, Result, Ok, Err, refl, sym, ap, subst, arith}
+use Rattle.std.proofs.Common.{◌≡◌, ◌≤◌, ◌<◌, ◌^◌, ◌+◌, ◌∙◌, ℕ, inl, inr, Bool, true, false, List, [], ◌∷◌, ◌++◌, length, take, drop, map, get_or, append_assoc, None, Option, Result, Ok, Err, refl, sym, ap, subst, arith}
 use Rattle.std.specs.List.{All, AllZip, list_any}
 use Rattle.std.specs.Prelude.{⊤}
 use Rattle.std.proofs.Math.Seq.{drop-append-add, take-append-add}
 use Rattle.std.proofs.lemmas.List.{drop-drop, length-append, length-drop, length-take-le, take-append-drop}
-use Rattle.std.proofs.lemmas.List.Elements.{All-cons, All-head, All-nil, All-tail}
+use Rattle.std.proofs.lemmas.List.Elements.{All-append, All-cons, All-head, All-map, All-nil, All-tail}
 use Rattle.byte_store.proofs.LaidLaws.{laid-append as laid-both, length-laid, tail_lies}
+use Rattle.byte_store.proofs.StandLaws.{stands_shifted}
+use Rattle.byte_store.specs.Composed.{Stands}
 use Rattle.byte_store.specs.Known.{put_at}
 use Rattle.byte_store.specs.Laid.{LiesIn, Patch, laid}
 use Rattle.byte_store.specs.Shown.{shifted}
 use Rattle.macho_commands.proofs.FrontLaws.{first_fits, first_longer, found_longer, laid_made, longer_answer, longer_state, signed_longer, state_longer, step_fits, stepped, thin_container, thin_step}
-use Rattle.macho_commands.proofs.LoadedLaws.{laid-append, put_at-append, short_joined}
+use Rattle.macho_commands.proofs.LoadedLaws.{laid-append, put_at-append, short_joined, stand_longer}
 use Rattle.macho_commands.specs.Engine.{AreAsked, Asked, Outcome, ShowsEdited, Tells, outcome_of, written}
 use Rattle.macho_commands.specs.Engine.Asked.{one, several}
 use Rattle.macho_commands.specs.Engine.Outcome.{bytes as new_bytes, no_edits, not_signed, refused, refused_batch}
@@ -89,6 +91,7 @@ pub record IsPart (calls : List Call) (file : List ℕ) (p : Part) : Type 0 wher
   pub shows : Shows p.state (laid_bytes p.state)
   pub made : laid_bytes p.state ≡ laid p.patches (slice_of file p.arch)
   pub inside : All (LiesIn p.arch.size) p.patches
+  pub stand : All (Stands (laid_bytes p.state)) p.patches
   pub long : length (laid_bytes p.state) ≡ p.arch.size
 
 abbrev pub AreParts : List Call → List ℕ → List Part → Type 0
@@ -163,6 +166,30 @@ over_in calls file bytes start size (p ∷ parts) long rising same are =
     over_in calls file (put_at at part bytes) end size parts next rising.2 (same_after at end size part file bytes parts (omega arith) (omega arith) rising.2 same.1) are.1
     ∙ ap (laid (patches_in parts)) (sym here)
     ∙ sym (laid-both (map (shifted at) p.patches) (patches_in parts) bytes)
+
+-- what stands in a part of bytes stands in them, further behind
+pub stand_further : (at size : ℕ) (new part : List ℕ) (patches : List Patch) → part ≡ take size (drop at new) → length part ≡ size → All (LiesIn size) patches → All (Stands part) patches → All (Stands new) (map (shifted at) patches)
+stand_further at size new part patches is long inside stand =
+    All-map (Stands new) (shifted at) patches (λ i d below.
+    let lies = inside i d below in
+    let same : at + length part - at ≡ size = omega (arith, long) in
+    stands_shifted at part new (get_or patches i d) (omega (arith, lies, long)) (ap (λ (n : ℕ). take n (drop at new)) same ∙ sym is) (stand i d below))
+
+-- the patches of slices stand in bytes that show these
+stand_in : (calls : List Call) (file new : List ℕ) (parts : List Part) → AreParts calls file parts → AreShown new (map slice_in parts) → All (Stands new) (patches_in parts)
+stand_in calls file new [] are shown = All-nil (Stands new)
+stand_in calls file new (p ∷ parts) are shown =
+    All-append (Stands new) (map (shifted p.arch.offset) p.patches) (patches_in parts)
+    (stand_further p.arch.offset p.arch.size new (laid_bytes p.state) p.patches (sym shown.0) are.0.long are.0.inside are.0.stand)
+    (stand_in calls file new parts are.1 shown.1)
+
+pub stand_all : (calls : List Call) (file : List ℕ) (start : ℕ) (parts : List Part) → AreRising start (length file) (map arch_in parts) → AreParts calls file parts → All (Stands (laid (patches_in parts) file)) (patches_in parts)
+stand_all calls file start parts rising are =
+    let slices : List Slice = map slice_in parts in
+    let Shown : List ℕ → Type 0 = λ l. AreShown l slices in
+    let over : bytes_laid_over slices file ≡ laid (patches_in parts) file = over_in calls file file start (length file) parts refl rising (same_first file parts) are in
+    let shown = shown-laid_over (length file) slices file refl (lie_in calls file start (length file) parts rising are) in
+    stand_in calls file (laid (patches_in parts) file) parts are (subst Shown over shown)
 
 -- what these bytes show
 found_in : (calls : List Call) (file new : List ℕ) (parts : List Part) → AreParts calls file parts → AreShown new (map slice_in parts) → slices_found (map (slice_of new) (map arch_in parts)) ≡ None
@@ -268,13 +295,18 @@ part_made a calls file arch front patches are is makes =
     let slice = subst Made is.is.joined made.1 in
     let fits : length bytes' ≤ arch.size = omega (arith, is.long, ap length is.is.joined, length-append bytes' is.is.rest) in
     let Inside : ℕ → Type 0 = λ n. All (LiesIn n) patches in
-    let inside : All (LiesIn arch.size) patches = λ i d below. let lies = makes.inside i d below in omega (arith, lies, fits) in (
+    let inside : All (LiesIn arch.size) patches = λ i d below. let lies = makes.inside i d below in omega (arith, lies, fits) in
+    let Stood : List ℕ → Type 0 = λ l. All (Stands l) patches in
+    let Over : List ℕ → Type 0 = λ l. All (Stands (laid patches l)) patches in
+    let stands : All (Stands (laid patches (bytes' ++ is.is.rest))) patches =
+    subst Stood (sym (laid-append patches bytes' is.is.rest makes.inside)) (stand_longer patches bytes' is.is.rest makes.inside makes.stand) in (
       made.0,
       record {
         steps = slice.steps;
         shows = slice.shows;
         made = slice.made;
         inside = inside;
+        stand = subst Stood (sym slice.made) (subst Over is.is.joined stands);
         long = ap length slice.made ∙ length-laid patches (slice_of file arch) (subst Inside (sym is.long) inside) ∙ is.long;
       },
     )
@@ -365,7 +397,7 @@ outcome_shown (several edits) file new shows found =
     rw (shows.are, found) (ap (written refused_batch) shows.step ∙ ap (λ (l : List ℕ). new_bytes l) (sym shows.bytes))
 
 -- what edits make of a fat file is made by the patches of its slices' fronts
-pub sliced_makes : (a : Asked) (file : List ℕ) (start : ℕ) (archs : List FatArch) (fronts : List SliceFront) (patches : List Patch) → 0 < length archs → HasSlices file archs → AreRising start (length file) archs → AreSliceFronts file archs fronts → MakesFronts a fronts patches → (outcome_of a file ≡ new_bytes (laid patches file)) × ShowsEdited a file (laid patches file)
+pub sliced_makes : (a : Asked) (file : List ℕ) (start : ℕ) (archs : List FatArch) (fronts : List SliceFront) (patches : List Patch) → 0 < length archs → HasSlices file archs → AreRising start (length file) archs → AreSliceFronts file archs fronts → MakesFronts a fronts patches → (outcome_of a file ≡ new_bytes (laid patches file)) × ShowsEdited a file (laid patches file) × All (Stands (laid patches file)) patches
 sliced_makes a file start [] fronts patches some has rising are makes = absurd (omega (arith, some))
 sliced_makes a file start (arch ∷ archs) [] patches some has rising are makes = absurd are
 sliced_makes a file start (arch ∷ archs) (front ∷ fronts) patches some has rising are makes =
@@ -374,8 +406,13 @@ sliced_makes a file start (arch ∷ archs) (front ∷ fronts) patches some has r
     let Has : List FatArch → Type 0 = HasSlices file in
     let Rising : List FatArch → Type 0 = AreRising start (length file) in
     let Shown : List Patch → Type 0 = λ l. ShowsEdited a file (laid l file) in
-    let shows = subst Shown of.patches_are (edited_by_parts a calls file start of.parts makes.3.shows.are (subst Has (sym of.archs_are) has) (subst Rising (sym of.archs_are) rising) of.are) in
-    (outcome_shown a file (laid patches file) shows (sliced_found file (arch ∷ archs) (front ∷ fronts) has are), shows)
+    let Stood : List Patch → Type 0 = λ l. All (Stands (laid l file)) l in
+    let rise = subst Rising (sym of.archs_are) rising in
+    let shows = subst Shown of.patches_are (edited_by_parts a calls file start of.parts makes.3.shows.are (subst Has (sym of.archs_are) has) rise of.are) in (
+      outcome_shown a file (laid patches file) shows (sliced_found file (arch ∷ archs) (front ∷ fronts) has are),
+      shows,
+      subst Stood of.patches_are (stand_all calls file start of.parts rise of.are),
+    )
 
 -- ---- refusals
 

@@ -8,7 +8,7 @@ use Rattle.arwen_macho.specs.Fronts.{fronts_on}
 use Rattle.arwen_macho.specs.declared.front.Front.{Front}
 use Rattle.byte_store.specs.Laid.{LiesIn, Patch, laid, patches_of}
 use Rattle.byte_store.specs.Shown.{shifted}
-use Rattle.byte_store.specs.Composed.{owned_patches}
+use Rattle.byte_store.specs.Composed.{Stands, owned_patches}
 use Rattle.byte_store.specs.declared.composed.OwnedPiece.{OwnedPiece}
 use Rattle.byte_store.specs.declared.pieces.Piece.{Piece}
 use Rattle.command_words.specs.Rows.{Text}
@@ -22,7 +22,7 @@ use Rattle.byte_store.specs.declared.reading.ReadError.TheVariants as read
 use Rattle.macho_commands.specs.Engine.{Asked, IsSignedOutcome, MayFail, Outcome, ShowsBy, ShowsEdited, Tells, WritesEdits, asked, outcome, outcome_by, outcome_of, signs_of}
 use Rattle.macho_commands.specs.Failures.{HasCause}
 use Rattle.macho_commands.specs.Meaning.{MachoMeaning, file_of}
-use Rattle.macho_commands.specs.Stores.{FailsPatch, Patched, Torn}
+use Rattle.macho_commands.specs.Stores.{FailsPatch, IsPartOf, Patched, Torn}
 use Rattle.macho_commands.specs.declared.signing.Signing.{Signing}
 use Rattle.macho_commands.specs.declared.signing.Signs.{Signs}
 use Rattle.macho_commands.specs.declared.signing.Signs.TheVariants.{Nothing, Touched, Whole}
@@ -32,7 +32,7 @@ use Rattle.macho_commands.specs.Sliced.{AddsFront, EditedSlice, IsLoadedFront, I
 use Rattle.macho_commands.specs.declared.error.MachoCommandError.{MachoCommandError}
 use Rattle.macho_commands.specs.declared.error.MachoCommandError.TheVariants.{Edits, Io, Macho, MachoBatch, Memory, Signing as signing, Unfit}
 use Rattle.macho_commands_signing.specs.Loading.{IsThinFront}
-use Rattle.macho_commands_signing.specs.Pieces.{ArePiecesOf}
+use Rattle.macho_commands_signing.specs.Pieces.{ArePartsOf}
 use Rattle.macho_commands_signing.specs.Slices.{AreFrontsOf, AreRising, AreSlicesRead}
 use Rattle.macho_commands_signing.specs.declared.slices.SliceFront.{SliceFront}
 use Rattle.macho_commands_signing.specs.declared.slices.SliceFronts.{SliceFronts}
@@ -52,13 +52,15 @@ low_changes front patches is inside = λ i d below.
     let short : length front < 2 ^ 32 = (found front is.accepted).short in
     omega (arith, lies, short)
 
-pub adds_front : (a : Asked) (front : SliceFront) (edited : List ℕ) (fronts : List Front) (pieces : List Piece) (old new : List Patch) → WritesEdits a front.bytes.items fronts → ArePiecesOf front.bytes.items (fronts_on fronts front.bytes.items) pieces → new ≡ old ++ map (shifted front.offset) (patches_of pieces) → edited ≡ fronts_on fronts front.bytes.items → AddsFront a front edited old new
+pub adds_front : (a : Asked) (front : SliceFront) (edited : List ℕ) (fronts : List Front) (pieces : List Piece) (old new : List Patch) → WritesEdits a front.bytes.items fronts → ArePartsOf front.bytes.items (fronts_on fronts front.bytes.items) pieces → new ≡ old ++ map (shifted front.offset) (patches_of pieces) → edited ≡ fronts_on fronts front.bytes.items → AddsFront a front edited old new
 adds_front a front edited fronts pieces old new writes are push made =
-    let Shown : List ℕ → Type 0 = ShowsEdited a front.bytes.items in (
+    let Shown : List ℕ → Type 0 = ShowsEdited a front.bytes.items in
+    let Stood : List ℕ → Type 0 = λ l. All (Stands l) (patches_of pieces) in (
       patches_of pieces,
       push,
       record {
         inside = are.inside;
+        stand = subst Stood (sym are.same) are.stand;
         is = writes.is ∙ ap (λ (l : List ℕ). new_bytes l) (sym are.same);
         shows = subst Shown (sym are.same) writes.shows;
       },
@@ -220,6 +222,8 @@ read_slices known read file is knows = slices_of known file (table_end (length i
 record MakesFile (choice : Signing) (meaning : MachoMeaning) (patches : List Patch) (file : List ℕ) : Type 0 where
   is : outcome choice meaning file ≡ new_bytes (laid patches file)
   shows : IsSignedOutcome choice meaning file (laid patches file)
+  alone : outcome_of (asked meaning) file ≡ new_bytes (laid patches file)
+  stand : All (Stands (laid patches file)) patches
 
 makes_file : (choice : Signing) (meaning : MachoMeaning) (known : Option (List ℕ)) (read : SliceFronts) (patches : List Patch) (file : List ℕ) → signs_of choice meaning ≡ Nothing → AreSlicesRead known read → MakesFronts (asked meaning) read.fronts.items patches → known ≡ Some file → MakesFile choice meaning patches file
 makes_file choice meaning known read patches file leaves is makes knows =
@@ -230,6 +234,8 @@ makes_file choice meaning known read patches file leaves is makes knows =
     record {
       is = outcome_plain (signs_of choice meaning) (asked meaning) file leaves ∙ all.0;
       shows = shows_plain (signs_of choice meaning) (asked meaning) file (laid patches file) leaves all.1;
+      alone = all.0;
+      stand = all.2;
     }
 
 pub patched_slices : (choice : Signing) (meaning : MachoMeaning) (old new : Option (List ℕ)) (read : SliceFronts) (patches : List Patch) → signs_of choice meaning ≡ Nothing → AreSlicesRead old read → MakesFronts (asked meaning) read.fronts.items patches → Becomes (laid patches) old new → Patched choice meaning old new
@@ -237,11 +243,22 @@ patched_slices choice meaning old new read patches leaves is makes becomes file 
     let all = makes_file choice meaning old read patches file leaves is makes knows in
     (laid patches file, all.is, becomes file knows, all.shows)
 
+pub parts_of_edited : (edited made : List ℕ) (patches : List Patch) → All (Stands edited) patches → All (IsPartOf edited made) patches
+parts_of_edited edited made patches stand = λ i d below. inl (stand i d below)
+
 pub torn_slices : (choice : Signing) (meaning : MachoMeaning) (old new : Option (List ℕ)) (read : SliceFronts) (patches : List Patch) → signs_of choice meaning ≡ Nothing → AreSlicesRead old read → MakesFronts (asked meaning) read.fronts.items patches → Stays old new ⊎ BecomesLaid patches old new → Stays old new ⊎ Torn choice meaning old new
 torn_slices choice meaning old new read patches leaves is makes (inl stays) = inl stays
 torn_slices choice meaning old new read patches leaves is makes (inr laid_first) = inr (λ file knows.
     let all = makes_file choice meaning old read patches file leaves is makes knows in
-    (patches, all.is, (laid_first.0, laid_first.1 file knows)))
+    record {
+      patches = patches;
+      makes = all.is;
+      edited = laid patches file;
+      is_edited = all.alone;
+      stand = parts_of_edited (laid patches file) (laid patches file) patches all.stand;
+      count = laid_first.0;
+      first = laid_first.1 file knows;
+    })
 
 pub refused_slices : (choice : Signing) (meaning : MachoMeaning) (old : Option (List ℕ)) (read : SliceFronts) (e : MachoCommandError) → signs_of choice meaning ≡ Nothing → AreSlicesRead old read → RefusesFronts (asked meaning) read.fronts.items e → FailsPatch choice meaning old old e
 refused_slices choice meaning old read e leaves is refuses =

@@ -1,6 +1,8 @@
 -- Of a file that is too long its first bytes tell as much as the whole.
 use Rattle.std.proofs.Common.{◌≡◌, ◌≤◌, ◌-◌, ◌^◌, ◌⊎◌, inl, inr, if◌then◌else◌, ℕ, Bool, true, false, List, [], ◌∷◌, ◌++◌, length, take, Option, Some, Ok, Err, refl, sym, ap, ◌∙◌, subst, arith}
+use Rattle.byte_store.proofs.LaidLaws.{length-laid}
 use Rattle.byte_store.specs.declared.pieces.Piece.{Piece}
+use Rattle.byte_store.specs.Composed.{Stands}
 use Rattle.byte_store.specs.Fault.{BecomesLaid}
 use Rattle.byte_store.specs.Known.{Becomes, Stays}
 use Rattle.byte_store.specs.Laid.{LiesIn, Patch, laid, patches_of}
@@ -8,9 +10,9 @@ use Rattle.command_words.specs.Rows.{Text}
 use Rattle.command_words.specs.declared.noting.Notes.{Notes}
 use Rattle.arwen_macho.specs.declared.front.Front.{Front}
 use Rattle.arwen_macho.specs.Fronts.{fronts_on}
-use Rattle.macho_commands.specs.Stores.{FailsPatch, Patched, Torn}
+use Rattle.macho_commands.specs.Stores.{FailsPatch, IsPartOf, Patched, Torn}
 use Rattle.macho_commands_signing.specs.Loading.{IsFirstOf, IsFrontRead, IsLoaded}
-use Rattle.macho_commands_signing.specs.Pieces.{ArePiecesOf}
+use Rattle.macho_commands_signing.specs.Pieces.{ArePartsOf, ArePiecesOf}
 use Rattle.macho_commands_signing.specs.declared.loading.Loaded.{Loaded}
 use Rattle.macho_commands.specs.declared.signing.Signing.{Signing}
 use Rattle.macho_commands.specs.declared.signing.Signs.{Signs}
@@ -21,7 +23,7 @@ use Rattle.macho_signing.specs.Thin.{Pages, all, since}
 use Rattle.macho_commands.specs.Loading.{with_rest}
 use Rattle.macho_commands.specs.Meaning.{MachoMeaning, file_of}
 use Rattle.macho_commands.specs.Notes.{TellsBy, TellsCommand}
-use Rattle.macho_commands.proofs.LoadedLaws.{front_outcome, front_shows, front_told, laid-append, tells_with_rest}
+use Rattle.macho_commands.proofs.LoadedLaws.{front_outcome, front_shows, front_told, laid-append, stand_longer, tells_with_rest}
 use Rattle.macho_commands.specs.declared.error.MachoCommandError.{MachoCommandError}
 use Rattle.macho_commands.specs.declared.error.MachoCommandError.TheVariants.{Edits, Io, Macho, MachoBatch, Memory, Signing as signing, Unfit}
 use Rattle.std.specs.List.{All}
@@ -35,7 +37,7 @@ use Rattle.arwen_macho.specs.Found.{begins_fat, container_found, fat_found, foun
 use Rattle.arwen_macho.specs.Found.Found.{fault}
 use Rattle.macho_commands.specs.Engine.{Asked, IsSignedOutcome, MayFail, Outcome, ShowsBy, Tells, Writes, asked, edited_file, outcome, outcome_by, outcome_of, sign_on, signs_of}
 use Rattle.macho_commands.specs.Engine.Asked.{one, several}
-use Rattle.macho_commands.specs.Engine.Outcome.{bytes, no_file, refused, refused_batch}
+use Rattle.macho_commands.specs.Engine.Outcome.{bytes, no_edits, no_file, not_signed, refused, refused_batch}
 
 long_table : (file : List ℕ) → 2 ^ 32 ≤ length file → table_fault file ≡ Some TooLong
 unfolding table_fault
@@ -157,34 +159,58 @@ whole_read signs a loaded file new first makes =
 pub record MakesOf (signs : Signs) (a : Asked) (loaded : Loaded) (patches : List Patch) (file : List ℕ) : Type 0 where
   pub is : outcome_by signs a file ≡ bytes (laid patches file)
   pub shows : ShowsBy signs a file (laid patches file)
+  pub stand : All (Stands (laid patches file)) patches
   pub long : length file ≡ loaded.length
 
-makes_of : (signs : Signs) (a : Asked) (loaded : Loaded) (patches : List Patch) (file : List ℕ) → Reads signs loaded file → All (LiesIn (length loaded.bytes.items)) patches → outcome_by signs a loaded.bytes.items ≡ bytes (laid patches loaded.bytes.items) → ShowsBy signs a loaded.bytes.items (laid patches loaded.bytes.items) → MakesOf signs a loaded patches file
-makes_of signs a loaded patches file (inl first) inside makes shows =
+makes_of : (signs : Signs) (a : Asked) (loaded : Loaded) (patches : List Patch) (file : List ℕ) → Reads signs loaded file → All (LiesIn (length loaded.bytes.items)) patches → outcome_by signs a loaded.bytes.items ≡ bytes (laid patches loaded.bytes.items) → ShowsBy signs a loaded.bytes.items (laid patches loaded.bytes.items) → All (Stands (laid patches loaded.bytes.items)) patches → MakesOf signs a loaded patches file
+makes_of signs a loaded patches file (inl first) inside makes shows stand =
     let Shown : List ℕ → Type 0 = λ l. ShowsBy signs a l (laid patches l) in
+    let Stood : List ℕ → Type 0 = λ l. All (Stands (laid patches l)) patches in
     let whole : loaded.bytes.items ≡ file = whole_read signs a loaded file (laid patches loaded.bytes.items) first makes in
     record {
       is = ap (outcome_by signs a) (sym whole) ∙ makes ∙ ap (λ (l : List ℕ). bytes (laid patches l)) whole;
       shows = subst Shown whole shows;
+      stand = subst Stood whole stand;
       long = ap length (sym whole) ∙ sym first.long;
     }
-makes_of signs a loaded patches file (inr (leaves, read)) inside makes shows =
+makes_of signs a loaded patches file (inr (leaves, read)) inside makes shows stand =
     let front : List ℕ = loaded.bytes.items in
     let rest : List ℕ = read.front.rest in
     let over : laid patches front ++ rest ≡ laid patches file = sym (laid-append patches front rest inside) ∙ ap (laid patches) read.front.joined in
     let Shown : List ℕ → Type 0 = ShowsBy signs a file in
+    let Stood : List ℕ → Type 0 = λ l. All (Stands l) patches in
     record {
       is = front_outcome signs a front file read.front leaves ∙ ap (with_rest rest) makes ∙ ap (λ (l : List ℕ). bytes l) over;
       shows = subst Shown over (front_shows signs a front file (laid patches front) read.front leaves shows);
+      stand = subst Stood over (stand_longer patches front rest inside stand);
       long = sym read.long;
     }
 
 -- the same of what a command writes
-pub makes_store : (choice : Signing) (meaning : MachoMeaning) (old : Option (List ℕ)) (loaded : Loaded) (fronts : List Front) (slots : List Slot) (pieces : List Piece) (file : List ℕ) → ReadsStore (signs_of choice meaning) old loaded → old ≡ Some file → Writes choice meaning loaded.bytes.items fronts slots → ArePiecesOf loaded.bytes.items (slots_on slots (fronts_on fronts loaded.bytes.items)) pieces → MakesOf (signs_of choice meaning) (asked meaning) loaded (patches_of pieces) file
+pub makes_store : (choice : Signing) (meaning : MachoMeaning) (old : Option (List ℕ)) (loaded : Loaded) (fronts : List Front) (slots : List Slot) (pieces : List Piece) (file : List ℕ) → ReadsStore (signs_of choice meaning) old loaded → old ≡ Some file → Writes choice meaning loaded.bytes.items fronts slots → ArePartsOf loaded.bytes.items (slots_on slots (fronts_on fronts loaded.bytes.items)) pieces → MakesOf (signs_of choice meaning) (asked meaning) loaded (patches_of pieces) file
 makes_store choice meaning old loaded fronts slots pieces file reads known writes are =
     let Made : List ℕ → Type 0 = λ l. IsSignedOutcome choice meaning loaded.bytes.items l in
+    let Stood : List ℕ → Type 0 = λ l. All (Stands l) (patches_of pieces) in
     makes_of (signs_of choice meaning) (asked meaning) loaded (patches_of pieces) file (reads_file (signs_of choice meaning) old loaded file reads known)
     are.inside (writes.is ∙ ap (λ (l : List ℕ). bytes l) (sym are.same)) (subst Made (sym are.same) writes.shows)
+    (subst Stood (sym are.same) are.stand)
+
+-- pieces that were lent again with what stands in their places, in bytes that were written through
+pub standing_inside : (given now : List ℕ) (fronts : List Front) (slots : List Slot) (changes lent : List Piece) → ArePiecesOf given (slots_on slots (fronts_on fronts given)) changes → now ≡ slots_on slots (fronts_on fronts given) → lent ≡ changes → All (LiesIn (length now)) (patches_of lent)
+standing_inside given now fronts slots changes lent are made same =
+    let long : length given ≡ length now = sym (ap length made ∙ ap length (sym are.same) ∙ length-laid (patches_of changes) given are.inside) in
+    let Inside : ℕ → Type 0 = λ n. All (LiesIn n) (patches_of lent) in
+    let Lent : List Piece → Type 0 = λ l. All (LiesIn (length given)) (patches_of l) in
+    subst Inside long (subst Lent (sym same) are.inside)
+
+pub standing_parts : (file given now : List ℕ) (fronts : List Front) (slots : List Slot) (changes lent standing back : List Piece) → given ≡ file → ArePiecesOf given (slots_on slots (fronts_on fronts given)) changes → now ≡ slots_on slots (fronts_on fronts given) → lent ≡ changes → ((f : List ℕ) → ArePiecesOf f now lent → ArePartsOf f now standing) → back ≡ standing → ArePartsOf file (slots_on slots (fronts_on fronts file)) back
+standing_parts file given now fronts slots changes lent standing back read are made same all shown =
+    let To : List ℕ → Type 0 = λ l. ArePiecesOf given l changes in
+    let Lent : List Piece → Type 0 = λ l. ArePiecesOf given now l in
+    let Back : List Piece → Type 0 = λ l. ArePartsOf given now l in
+    let Made : List ℕ → Type 0 = λ l. ArePartsOf given l back in
+    let Of : List ℕ → Type 0 = λ l. ArePartsOf l (slots_on slots (fronts_on fronts l)) back in
+    subst Of read (subst Made made (subst Back (sym shown) (all given (subst Lent (sym same) (subst To (sym made) are)))))
 
 tells_file : (signs : Signs) (a : Asked) (loaded : Loaded) (file : List ℕ) (e : MachoCommandError) → Reads signs loaded file → Tells (outcome_by signs a loaded.bytes.items) e → Tells (outcome_by signs a file) e
 tells_file signs a loaded file e (inl first) tells =
@@ -212,16 +238,43 @@ pub refused_store : (choice : Signing) (meaning : MachoMeaning) (old mid : Optio
 refused_store choice meaning old mid loaded e reads kept tells =
     refused_by choice meaning old mid (outcome choice meaning loaded.bytes.items) e kept tells (tells_all choice meaning old loaded e reads tells)
 
-pub patched_store : (choice : Signing) (meaning : MachoMeaning) (old mid new : Option (List ℕ)) (loaded : Loaded) (fronts : List Front) (slots : List Slot) (pieces : List Piece) → ReadsStore (signs_of choice meaning) old loaded → Stays old mid → Writes choice meaning loaded.bytes.items fronts slots → ArePiecesOf loaded.bytes.items (slots_on slots (fronts_on fronts loaded.bytes.items)) pieces → Becomes (laid (patches_of pieces)) mid new → Patched choice meaning old new
+pub patched_store : (choice : Signing) (meaning : MachoMeaning) (old mid new : Option (List ℕ)) (loaded : Loaded) (fronts : List Front) (slots : List Slot) (pieces : List Piece) → ReadsStore (signs_of choice meaning) old loaded → Stays old mid → Writes choice meaning loaded.bytes.items fronts slots → ArePartsOf loaded.bytes.items (slots_on slots (fronts_on fronts loaded.bytes.items)) pieces → Becomes (laid (patches_of pieces)) mid new → Patched choice meaning old new
 patched_store choice meaning old mid new loaded fronts slots pieces reads kept writes are becomes file known =
     let makes = makes_store choice meaning old loaded fronts slots pieces file reads known writes are in
     (laid (patches_of pieces) file, makes.is, becomes file (kept ∙ known), makes.shows)
 
-pub torn_store : (choice : Signing) (meaning : MachoMeaning) (old mid new : Option (List ℕ)) (loaded : Loaded) (fronts : List Front) (slots : List Slot) (pieces : List Piece) → ReadsStore (signs_of choice meaning) old loaded → Stays old mid → Writes choice meaning loaded.bytes.items fronts slots → ArePiecesOf loaded.bytes.items (slots_on slots (fronts_on fronts loaded.bytes.items)) pieces → Stays mid new ⊎ BecomesLaid (patches_of pieces) mid new → Stays old new ⊎ Torn choice meaning old new
+-- where slots are made anew behind edits, the edits alone make something
+alone_on : (pages : Pages) (o : Outcome) (new : List ℕ) → sign_on pages o ≡ bytes new → (edited : List ℕ) × (o ≡ bytes edited)
+alone_on pages (bytes edited) new is = (edited, refl)
+alone_on pages (no_edits wrong) new is = absurd (let no : no_edits wrong ≡ bytes new = is in cc)
+alone_on pages (no_file found) new is = absurd (let no : no_file found ≡ bytes new = is in cc)
+alone_on pages (refused refusal) new is = absurd (let no : refused refusal ≡ bytes new = is in cc)
+alone_on pages (refused_batch refusal) new is = absurd (let no : refused_batch refusal ≡ bytes new = is in cc)
+alone_on pages (not_signed why) new is = absurd (let no : not_signed why ≡ bytes new = is in cc)
+
+edits_alone : (signs : Signs) (a : Asked) (file new : List ℕ) → outcome_by signs a file ≡ bytes new → (edited : List ℕ) × (outcome_of a file ≡ bytes edited)
+edits_alone Nothing a file new is = (new, is)
+edits_alone Touched a file new is = alone_on (since file) (outcome_of a file) new is
+edits_alone Whole a file new is = alone_on all (outcome_of a file) new is
+
+all_parts_of : (edited made : List ℕ) (patches : List Patch) → All (Stands made) patches → All (IsPartOf edited made) patches
+all_parts_of edited made patches stand = λ i d below. inr (stand i d below)
+
+pub torn_store : (choice : Signing) (meaning : MachoMeaning) (old mid new : Option (List ℕ)) (loaded : Loaded) (fronts : List Front) (slots : List Slot) (pieces : List Piece) → ReadsStore (signs_of choice meaning) old loaded → Stays old mid → Writes choice meaning loaded.bytes.items fronts slots → ArePartsOf loaded.bytes.items (slots_on slots (fronts_on fronts loaded.bytes.items)) pieces → Stays mid new ⊎ BecomesLaid (patches_of pieces) mid new → Stays old new ⊎ Torn choice meaning old new
 torn_store choice meaning old mid new loaded fronts slots pieces reads kept writes are (inl stays) = inl (stays ∙ kept)
 torn_store choice meaning old mid new loaded fronts slots pieces reads kept writes are (inr laid_first) = inr (λ file known.
     let makes = makes_store choice meaning old loaded fronts slots pieces file reads known writes are in
-    (patches_of pieces, makes.is, (laid_first.0, laid_first.1 file (kept ∙ known))))
+    let made : List ℕ = laid (patches_of pieces) file in
+    let alone = edits_alone (signs_of choice meaning) (asked meaning) file made makes.is in
+    record {
+      patches = patches_of pieces;
+      makes = makes.is;
+      edited = alone.0;
+      is_edited = alone.1;
+      stand = all_parts_of alone.0 made (patches_of pieces) makes.stand;
+      count = laid_first.0;
+      first = laid_first.1 file (kept ∙ known);
+    })
 
 -- the line that is told of what was read is told of the file
 told_file : (signs : Signs) (n : Notes) (a : Asked) (path : Text) (loaded : Loaded) (file new : List ℕ) (told : Text) → Reads signs loaded file → outcome_by signs a loaded.bytes.items ≡ bytes new → TellsBy signs n a path loaded.bytes.items told → TellsBy signs n a path file told

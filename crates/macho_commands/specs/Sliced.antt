@@ -2,6 +2,7 @@
 use Rattle.std.specs.Prelude.{ℕ, ◌≡◌, ◌<◌, ◌^◌, List, [], ◌∷◌, ◌++◌, All, Bool, length, map}
 use Rattle.std.specs.List.{flat_map, list_any}
 use Rattle.arwen_macho.specs.Container.{first_container}
+use Rattle.byte_store.specs.Composed.{Stands}
 use Rattle.byte_store.specs.Laid.{LiesIn, Patch, laid}
 use Rattle.byte_store.specs.Shown.{shifted}
 use Rattle.command_words.specs.Rows.{Text}
@@ -20,9 +21,10 @@ pub record IsLoadedFront (front : SliceFront) : Type 0 where
   pub low : front.offset < 2 ^ 32
   pub thin : IsThinFront front.bytes.items
 
--- patches that lie in a front, and make of it what edits make of it, which shows these
+-- patches that lie in a front, and make of it what edits make of it, which shows these, and in which each of them stands
 pub record MakesFront (a : Asked) (front : List ℕ) (patches : List Patch) : Type 0 where
   pub inside : All (LiesIn (length front)) patches
+  pub stand : All (Stands (laid patches front)) patches
   pub is : outcome_of a front ≡ bytes (laid patches front)
   pub shows : ShowsEdited a front (laid patches front)
 

@@ -1,10 +1,11 @@
 -- What a command makes of the bytes of a store, where they are known.
-use Rattle.std.specs.Prelude.{ℕ, ◌≡◌, ◌⊎◌, List, None, Option, Some, ⊤}
+use Rattle.std.specs.Prelude.{ℕ, ◌≡◌, ◌⊎◌, All, List, None, Option, Some, ⊤}
+use Rattle.byte_store.specs.Composed.{Stands}
 use Rattle.byte_store.specs.Known.{Stays}
 use Rattle.byte_store.specs.Laid.{Patch, first_bytes, laid}
 use Rattle.macho_commands.specs.declared.error.MachoCommandError.{MachoCommandError}
 use Rattle.macho_commands.specs.declared.error.MachoCommandError.TheVariants.{Io}
-use Rattle.macho_commands.specs.Engine.{IsSignedOutcome, Tells, outcome}
+use Rattle.macho_commands.specs.Engine.{IsSignedOutcome, Tells, asked, outcome, outcome_of}
 use Rattle.macho_commands.specs.Engine.Outcome.{bytes}
 use Rattle.macho_commands.specs.Meaning.{MachoMeaning}
 use Rattle.macho_commands.specs.declared.signing.Signing.{Signing}
@@ -15,11 +16,24 @@ Patched choice meaning old new = (file : List ℕ) → old ≡ Some file
     → (made : List ℕ) × (outcome choice meaning file ≡ bytes made) × (new ≡ Some made)
     × IsSignedOutcome choice meaning file made
 
--- known bytes get first bytes of patches laid over them, in order; all of these make what the command makes
+-- the bytes of a patch stand in the edited file, before or after slots of its signatures are made anew
+abbrev pub IsPartOf : List ℕ → List ℕ → Patch → Type 0
+IsPartOf edited made patch = Stands edited patch ⊎ Stands made patch
+
+-- The bytes of a file get first bytes of patches laid over them, in order. All of these make what the command makes, and each
+-- is part of that, or of what the edits alone make. So every byte is, at its position, one of the file or of these two.
+pub record IsTorn (choice : Signing) (meaning : MachoMeaning) (file : List ℕ) (new : Option (List ℕ)) : Type 0 where
+  pub patches : List Patch
+  pub makes : outcome choice meaning file ≡ bytes (laid patches file)
+  pub edited : List ℕ
+  pub is_edited : outcome_of (asked meaning) file ≡ bytes edited
+  pub stand : All (IsPartOf edited (laid patches file)) patches
+  pub count : ℕ
+  pub first : new ≡ Some (laid (first_bytes count patches) file)
+
+-- known bytes are torn
 abbrev pub Torn : Signing → MachoMeaning → Option (List ℕ) → Option (List ℕ) → Type 0
-Torn choice meaning old new = (file : List ℕ) → old ≡ Some file
-    → (patches : List Patch) × (outcome choice meaning file ≡ bytes (laid patches file))
-    × ((n : ℕ) × (new ≡ Some (laid (first_bytes n patches) file)))
+Torn choice meaning old new = (file : List ℕ) → old ≡ Some file → IsTorn choice meaning file new
 
 -- a refusal leaves the bytes, and tells the outcome
 abbrev pub RefusesPatch : Signing → MachoMeaning → Option (List ℕ) → Option (List ℕ) → MachoCommandError → Type 0

@@ -26,7 +26,8 @@ use arwen_macho::macho::{Front, MachoBatchError, MachoContainer, MachoEdit, lay_
 use byte_store::Store;
 use command_words::{NotDone, Notes, OpensOnce, RegularFiles, words_of};
 use macho_commands_signing::{
-    Loaded, changes_of, front_changes, load_for_edits, load_fronts, load_slices, write_changes_of,
+    Loaded, changes_of, front_changes, load_for_edits, load_fronts, load_slices, standing_pieces,
+    write_changes_of,
 };
 use macho_signatures::{Slot, lay_slots};
 use macho_signing::{NewSlots, Scope, signed_slots};
@@ -426,7 +427,8 @@ fn patch_loaded<S: Store>(
         slots,
         text,
     } = made_of(alloc, bytes.as_slice(), command, notes, signing)?;
-    let pieces = changes_of(alloc, &mut bytes, fronts.as_slice(), slots.as_slice())?;
+    let changes = changes_of(alloc, &mut bytes, fronts.as_slice(), slots.as_slice())?;
+    let pieces = standing_pieces(alloc, bytes.as_slice(), changes.as_slice())?;
     write_changes_of(store, length, pieces.as_slice())?;
     Ok(text)
 }

@@ -16,7 +16,8 @@ use crate::signing::{Signing, Signs};
 use byte_store::{OwnedPiece, Store};
 use command_words::Notes;
 use macho_commands_signing::{
-    SliceFront, SliceFronts, front_changes, lent_pieces, push_changes_at, write_changes_of,
+    SliceFront, SliceFronts, front_changes, lent_pieces, push_changes_at, standing_pieces,
+    write_changes_of,
 };
 use std::alloc::Global;
 
@@ -125,7 +126,9 @@ fn push_edited(
     let (fronts, text) = fronts_of(alloc, front.bytes.as_slice(), command, notes)?;
     let mut bytes = Vec::from_slice(alloc, front.bytes.as_slice())?;
     let changes = front_changes(alloc, &mut bytes, fronts.as_slice())?;
-    push_changes_at(alloc, pieces, front.offset, changes.as_slice())?;
+    let standing = standing_pieces(alloc, bytes.as_slice(), changes.as_slice())?;
+    push_changes_at(alloc, pieces, front.offset, standing.as_slice())?;
+    drop(standing);
     Ok(Edited { bytes, text })
 }
 

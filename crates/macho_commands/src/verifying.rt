@@ -1,9 +1,9 @@
 //! Telling whether the code signatures of a file fit.
-ghost use Rattle.std.specs.Prelude.{◌≡◌, IfErr, IfOk, string_bytes};
+ghost use Rattle.std.specs.Prelude.{◌≡◌, IfErr, IfOk, None, OnOk, string_bytes};
 ghost use Rattle.arwen_macho.specs.Found.{Finds, container_found};
 ghost use Rattle.macho_commands.specs.Engine.{MayFail};
 ghost use Rattle.macho_commands.specs.Meaning.{verify as verify_meaning};
-ghost use Rattle.macho_commands.specs.Verifying.{TellsUnread, do_pages_fit};
+ghost use Rattle.macho_commands.specs.Verifying.{IsReadWhole, TellsUnread, do_pages_fit};
 
 use crate::error::MachoCommandError;
 use arwen_macho::macho::{MachoContainer, MachoError};
@@ -21,6 +21,7 @@ use std::rt::Files;
 /// `Macho` where the bytes are no Mach-O file that is read, `Signing` where a signature is not, `Memory`.
 pub fn verify_bytes(alloc: Global, bytes: &[u8]) -> Result<Verdict, MachoCommandError>
     ensures ok { IfOk result (λ verdict. verdict.do_all_fit ≡ do_pages_fit bytes.now) }
+    ensures read { OnOk result (IsReadWhole bytes.now) }
     ensures err { IfErr result (TellsUnread bytes.now) }
 {
     parse_once(alloc, bytes)?;
@@ -30,7 +31,8 @@ pub fn verify_bytes(alloc: Global, bytes: &[u8]) -> Result<Verdict, MachoCommand
 
 /// Parses the bytes of a file, and keeps nothing.
 fn parse_once(alloc: Global, bytes: &[u8]) -> Result<(), MachoError>
-    ensures { IfErr result (λ e. Finds e (container_found bytes.now)) }
+    ensures ok { OnOk result (container_found bytes.now ≡ None) }
+    ensures err { IfErr result (λ e. Finds e (container_found bytes.now)) }
 {
     match MachoContainer::parse(alloc, bytes) {
         Ok(_) => Ok(()),

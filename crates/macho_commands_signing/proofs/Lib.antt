@@ -1,5 +1,6 @@
 pub mod LoadingLaws
 pub mod PieceLaws
+pub mod StandingLaws
 pub mod EditedSignature
 pub mod RenewedSignature
 pub mod StepSignature

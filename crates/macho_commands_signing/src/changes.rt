@@ -1,5 +1,5 @@
 //! The bytes that fronts and slots change, and writing them into a store.
-ghost use Rattle.std.specs.Prelude.{◌≡◌, ◌+◌, ◌^◌, ◌++◌, ◌<◌, ◌≤◌, ◌⊎◌, All, IfErr, IfOk, IsTrue, OnErr, OnOk, length, map};
+ghost use Rattle.std.specs.Prelude.{ℕ, ◌≡◌, ◌+◌, ◌^◌, ◌++◌, ◌<◌, ◌≤◌, ◌⊎◌, All, IfErr, IfOk, IsTrue, List, OnErr, OnOk, length, map};
 ghost use Rattle.byte_store.specs.Causes.{EndsBy};
 ghost use Rattle.byte_store.specs.Fault.{BecomesLaid};
 ghost use Rattle.byte_store.specs.Known.{Becomes, HasLength, Stays, put_at};
@@ -9,7 +9,7 @@ ghost use Rattle.byte_store.specs.Shown.{shifted};
 ghost use Rattle.arwen_macho.specs.Fronts.{LiesIn as IsInside, fronts_on};
 ghost use Rattle.macho_signatures.specs.Pages.{hash_bytes};
 ghost use Rattle.macho_signatures.specs.Renewed.{SlotLies, laid as slots_on};
-ghost use Rattle.macho_commands_signing.specs.Pieces.{ArePiecesOf, LaysOn, LiesOn};
+ghost use Rattle.macho_commands_signing.specs.Pieces.{ArePartsOf, ArePiecesOf, LaysOn, LiesOn};
 
 use arwen_macho::macho::Front;
 use byte_store::{OwnedPiece, Piece, Store, write_pieces};
@@ -29,6 +29,8 @@ pub fn changes_of<'a>(
     requires slots { All (SlotLies (length bytes.old)) slots.now }
     ensures ok { IfOk result (λ pieces. ArePiecesOf bytes.old
         (slots_on slots.now (fronts_on fronts.now bytes.old)) pieces.items) }
+    ensures bytes { OnOk result
+        (bytes.new ≡ slots_on slots.now (fronts_on fronts.now bytes.old)) }
 {
     let mut pieces = front_changes(alloc, bytes, fronts)?;
     lay_slots(&mut pieces, bytes, slots)?;
@@ -65,6 +67,7 @@ fn lay_slots<'a>(
     requires { All (SlotLies (length bytes.old)) slots.now }
     ensures laid { OnOk result (LaysOn pieces.old.items pieces.new.items bytes.old
         (slots_on slots.now bytes.old)) }
+    ensures bytes { OnOk result (bytes.new ≡ slots_on slots.now bytes.old) }
     ensures inside { OnOk result (LiesOn (length bytes.old) pieces.old.items pieces.new.items) }
 {
     for slot in slots {
@@ -110,6 +113,28 @@ fn put(bytes: &mut [u8], at: usize, part: &[u8])
     ensures { bytes.new ≡ put_at at part.now bytes.old }
 {
     bytes[at..at + part.len()].copy_from_slice(part);
+}
+
+/// Pieces in the places of others, with what stands there in the bytes that those make of a file. So each of them stands in
+/// these, also where others are laid over one another. Error: `AllocError`.
+pub fn standing_pieces<'a>(
+    alloc: Global,
+    bytes: &'a [u8],
+    pieces: &[Piece<'_>],
+) -> Result<Vec<Piece<'a>>, AllocError>
+    requires { All (LiesIn (length bytes.now)) (patches_of pieces.now) }
+    ensures { IfOk result (λ standing. (file : List ℕ)
+        → ArePiecesOf file bytes.now pieces.now → ArePartsOf file bytes.now standing.items) }
+{
+    let mut standing = Vec::with_capacity(alloc, pieces.len())?;
+    for piece in pieces {
+        let at = piece.offset as usize;
+        standing.push(Piece {
+            offset: piece.offset,
+            bytes: &bytes[at..at + piece.bytes.len()],
+        })?;
+    }
+    Ok(standing)
 }
 
 /// Puts copies of the changes of a slice, which begins at an offset, behind pieces of its file. Error: `AllocError`.

@@ -10,7 +10,9 @@ mod signed;
 mod slices;
 mod verdict;
 
-pub use changes::{changes_of, front_changes, lent_pieces, push_changes_at, write_changes_of};
+pub use changes::{
+    changes_of, front_changes, lent_pieces, push_changes_at, standing_pieces, write_changes_of,
+};
 pub use loading::{Loaded, load_for_edits};
 pub use renewing::{SliceSlots, load_slots};
 pub use signed::{is_signed_file, note_if};
