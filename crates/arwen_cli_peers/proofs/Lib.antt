@@ -1,2 +1,4 @@
+pub mod FlagLaws
 pub mod GroupLaws
 pub mod LineLaws
+pub mod Turns
