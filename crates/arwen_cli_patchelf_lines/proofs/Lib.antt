@@ -1,1 +1,2 @@
+pub mod MapLaws
 pub mod ValueLaws

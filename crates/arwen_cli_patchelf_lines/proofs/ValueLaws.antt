@@ -1,9 +1,9 @@
 -- Options that are put one behind another.
-use Rattle.std.proofs.Common.{◌≡◌, ◌+◌, ◌<◌, ◌≤◌, [], ℕ, Bool, List, Option, drop, get_or, inr, length, map, refl, subst, sym}
+use Rattle.std.proofs.Common.{◌≡◌, ◌+◌, ◌<◌, ◌≤◌, [], ℕ, Bool, List, Option, drop, get_or, inl, inr, length, map, refl, subst, sym}
 use Rattle.std.proofs.lemmas.List.{drop_all, drop_more}
 use Rattle.arwen_cli_peers.specs.Options.{Asked, Text, given_model}
 use Rattle.arwen_cli_peers.specs.declared.options.Given.{Given}
-use Rattle.arwen_cli_patchelf_lines.specs.Values.{AreResolvedFrom, IsPut, IsRefusedAmong, IsUnreadFrom, path_named}
+use Rattle.arwen_cli_patchelf_lines.specs.Values.{AreResolvedFrom, IsPut, IsRefusedAmong, IsRefusedOf, IsUnreadFrom, path_named}
 use Rattle.std.specs.Str.{IsUtf8}
 use Rattle.byte_store.specs.Known.{IsAll}
 use Rattle.byte_store.specs.declared.reading.ReadError.{ReadError}
@@ -41,6 +41,12 @@ pub one_past : (known : Text → Option (List ℕ)) (fails : Text → ReadError 
     → Stops known fails shrinks given (drop (i + 1) given)
 one_past known fails shrinks given i d old new inside before put = λ refused more.
     before refused (subst (λ (left : List Given). IsRefusedAmong known fails shrinks (map given_model left) refused) (sym (drop_more given i d inside)) (inr (put.0, put.1, more)))
+
+pub one_refused : (known : Text → Option (List ℕ)) (fails : Text → ReadError → Type 0) (shrinks : Bool) (given : List Given) (i : ℕ) (d : Given) (refused : ValueRefused) → i < length given
+    → Stops known fails shrinks given (drop i given) → IsRefusedOf known fails shrinks (given_model (get_or given i d)) refused
+    → IsRefusedAmong known fails shrinks (map given_model given) refused
+one_refused known fails shrinks given i d refused inside before told =
+    before refused (subst (λ (left : List Given). IsRefusedAmong known fails shrinks (map given_model left) refused) (sym (drop_more given i d inside)) (inl told))
 
 -- ## Files that aren't read, or are no text
 

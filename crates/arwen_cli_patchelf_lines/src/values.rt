@@ -4,7 +4,7 @@ ghost use Rattle.std.specs.Str.{IsUtf8};
 ghost use Rattle.arwen_cli_peers.specs.EditWords.{asked_model};
 ghost use Rattle.arwen_cli_peers.specs.Options.{given_model};
 ghost use Rattle.arwen_cli_patchelf_lines.specs.NameMaps.{lent_pair};
-ghost use Rattle.arwen_cli_patchelf_lines.specs.Values.{AreResolved, IsPut, IsPutFrom, IsRefusedAmong, IsRefusedOf, IsUnreadFrom, abi_asked, first_asked, first_replaced, is_passed_over as is_passed, is_run_path as sets_run_path, path_from, path_named, rename_asked, source_of as source_by, takes_file as may_stand_in_file};
+ghost use Rattle.arwen_cli_patchelf_lines.specs.Values.{AreResolved, IsPut, IsPutFrom, IsRefusedAmong, IsRefusedOf, IsUnreadFrom, abi_asked, abi_by, first_asked, first_replaced, is_passed_over as is_passed, is_run_path as sets_run_path, path_from, path_named, rename_asked, source_of as source_by, takes_file as may_stand_in_file};
 ghost use Rattle.arwen_cli_patchelf_lines.specs.declared.values.Source.TheVariants.{File, NameMap};
 ghost use Rattle.arwen_cli_patchelf_lines.specs.declared.values.ValueCause.TheVariants.{NotText};
 
@@ -287,20 +287,26 @@ fn first_of(alloc: Global, name: &str, first: &str) -> Result<String, AllocError
     }
 }
 
-/// The name that an ABI has here.
-#[tactic(auto, unfolding(crate::specs::Values::abi_by))]
+/// The name that an ABI has here, by one that patchelf knows in letters of either case, with white space around it or not.
 fn abi_name(alloc: Global, name: &str) -> Result<String, AllocError>
     ensures { IfOk result (λ here. string_bytes here ≡ abi_asked name.now) }
 {
     let small = name.trim().to_ascii_lowercase(alloc)?;
-    let here = match small.as_str() {
+    String::from_str(alloc, abi_here(small.as_str()))
+}
+
+/// The name that an ABI has here, by one that patchelf knows in small letters.
+#[tactic(auto, unfolding(crate::specs::Values::abi_by))]
+fn abi_here(small: &str) -> &str
+    ensures { result.now ≡ abi_by small.entry.now }
+{
+    match small {
         "system v" | "system-v" => "sysv",
         "hp-ux" => "hpux",
         "gnu" => "linux",
         "gnu hurd" | "gnu-hurd" => "hurd",
         other => other,
-    };
-    String::from_str(alloc, here)
+    }
 }
 
 /// Puts an option whose value stands in a file behind others.
