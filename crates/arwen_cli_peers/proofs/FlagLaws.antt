@@ -1,6 +1,6 @@
 -- Words of a line that stay, without an option.
-use Rattle.std.proofs.Common.{◌≡◌, ◌∙◌, ◌+◌, ◌<◌, ◌++◌, [], ◌∷◌, ℕ, Bool, List, ap, append_assoc, cond, drop, false, get_or, if◌then◌else◌, length, map, refl, sym, true}
-use Rattle.std.proofs.lemmas.List.{at_drop_more, map_push}
+use Rattle.std.proofs.Common.{◌≡◌, ◌∙◌, ◌+◌, ◌<◌, ◌≤◌, ◌++◌, append-nil, [], ◌∷◌, ℕ, Bool, List, ap, append_assoc, cond, drop, false, get_or, if◌then◌else◌, length, map, refl, sym, true}
+use Rattle.std.proofs.lemmas.List.{at_drop_all, at_drop_more, map_push}
 use Rattle.arwen_cli_peers.specs.Flags.{is_mark, without_flag}
 use Rattle.arwen_cli_peers.specs.Options.{Text}
 
@@ -30,3 +30,25 @@ module _ {S : Type 0} (text : S → Text) (is_flag : Text → Bool) (ws : List S
       ∙ ap (λ l. map text old ++ l) (sym (stays_first (is_flag (text word)) (is_mark (text word)) wanted after (text word) (without_flag is_flag rest) rest plain is)
       ∙ sym (at_drop_more (stays_from wanted) ws i d inside))
       ∙ before
+
+  -- what stays where the word at the place is the option before the mark
+  pub one_goes : (d : S) (wanted : Bool) (heard : List S) (meant : List Text) → i < length ws → wanted ≡ true → is_flag (text (get_or ws i d)) ≡ true
+      → map text heard ++ stays_from wanted (drop i ws) ≡ meant → map text heard ++ stays_from wanted (drop (i + 1) ws) ≡ meant
+  one_goes d wanted heard meant inside is_wanted is before =
+      let word : Text = text (get_or ws i d) in
+      let rest : List Text = map text (drop (i + 1) ws) in
+      let some : List Text = without_flag is_flag rest in
+      ap (λ l. map text heard ++ l) (sym (at_drop_more (stays_from wanted) ws i d inside
+      ∙ ap (λ b. cond b (cond (is_flag word) some (cond (is_mark word) (word ∷ rest) (word ∷ some))) (word ∷ rest)) is_wanted
+      ∙ ap (λ b. cond b some (cond (is_mark word) (word ∷ rest) (word ∷ some))) is
+      ∙ ap (λ b. cond b some rest) (sym is_wanted)))
+      ∙ before
+
+  none_left : (wanted : Bool) → stays_from wanted [] ≡ []
+  none_left true = refl
+  none_left false = refl
+
+  -- no word is left
+  pub all_stay : (wanted : Bool) (heard : List S) (meant : List Text) → length ws ≤ i → map text heard ++ stays_from wanted (drop i ws) ≡ meant → map text heard ≡ meant
+  all_stay wanted heard meant past before =
+      sym (append-nil (map text heard)) ∙ ap (λ l. map text heard ++ l) (sym (at_drop_all (stays_from wanted) ws i past ∙ none_left wanted)) ∙ before

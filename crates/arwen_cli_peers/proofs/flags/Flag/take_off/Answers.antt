@@ -3,7 +3,7 @@ use Rattle.std.proofs.Common.{◌≡◌, ◌∙◌, [], Bor, ap, cond, false, ge
 use Rattle.std.proofs.lemmas.Bool.{false≢true}
 use Rattle.arwen_cli_peers.specs.Flags.{is_flag_word, is_mark}
 use Rattle.arwen_cli_peers.specs.Options.{Text}
-use Rattle.arwen_cli_peers.proofs.FlagLaws.{one_stays}
+use Rattle.arwen_cli_peers.proofs.FlagLaws.{all_stay, one_goes, one_stays}
 use Rattle.arwen_cli_peers.proofs.flags.Flag.take_off.Goals.{else-is_open-via-then-is_open+else-is_word, else-is_open-via-else-is_open, then-is_mark, else-is_mark}
 use Rattle.arwen_cli_peers.proofs.flags.Flag.take_off.Goals as goal
 
@@ -23,3 +23,11 @@ loop-word-preserved c =
     ] in
     one_stays (λ w. w.now) (is_flag_word c.args.self) c.args.words.now c.loop-word.word-index none c.loop-word.is_open c.if-is_mark.is_open
     c.loop-word.heard.items c.push.new.self.items _ c.loop-word-test.true plain after c.in_ok-push.ensures.items c.loop-word.invariant
+
+pub returns : goal.returns
+returns c = all_stay (λ w. w.now) (is_flag_word c.args.self) c.args.words.now c.loop-word.word-index c.loop-word.is_open c.loop-word.heard.items _ c.loop-word-test.false c.loop-word.invariant
+
+pub loop-word-preserved-then-is_word : goal.loop-word-preserved-then-is_word
+loop-word-preserved-then-is_word c =
+    one_goes (λ w. w.now) (is_flag_word c.args.self) c.args.words.now c.loop-word.word-index none c.loop-word.is_open c.loop-word.heard.items _
+    c.loop-word-test.true c.if-is_open.true (sym c.is_word.ensures ∙ c.if-is_word.true) c.loop-word.invariant
