@@ -1,18 +1,18 @@
 -- Options that are put one behind another.
-use Rattle.std.proofs.Common.{◌≡◌, ◌+◌, ◌<◌, ◌≤◌, [], ℕ, Bool, List, Option, drop, get_or, inl, inr, length, map, refl, subst, sym}
+use Rattle.std.proofs.Common.{◌≡◌, ◌∙◌, ◌+◌, ◌<◌, ◌≤◌, [], ℕ, Bool, List, Option, Result, Ok, Err, IfErr, ap, drop, get_or, inl, inr, length, map, refl, subst, sym}
 use Rattle.std.proofs.lemmas.List.{drop_all, drop_more}
 use Rattle.arwen_cli_peers.specs.Options.{Asked, Text, given_model}
 use Rattle.arwen_cli_peers.specs.declared.options.Given.{Given}
-use Rattle.arwen_cli_patchelf_lines.specs.Values.{AreResolvedFrom, IsPut, IsRefusedAmong, IsRefusedOf, IsUnreadFrom, path_named}
+use Rattle.arwen_cli_patchelf_lines.specs.Values.{ArePut, AreResolvedFrom, IsMapText, IsPut, IsPutFrom, IsRefusedAmong, IsRefusedOf, IsUnreadFrom, TellsWrongMap, path_named, rename_asked}
 use Rattle.std.specs.Str.{IsUtf8}
 use Rattle.byte_store.specs.Known.{IsAll}
 use Rattle.byte_store.specs.declared.reading.ReadError.{ReadError}
 use Rattle.byte_store.specs.declared.reading.ReadError.TheVariants as read
 use Rattle.arwen_cli_patchelf_lines.specs.Causes.{cause_of_read}
-use Rattle.arwen_cli_patchelf_lines.specs.NameMaps.{spaced_all}
+use Rattle.arwen_cli_patchelf_lines.specs.NameMaps.{pairs_of, spaced_all}
 use Rattle.arwen_cli_patchelf_lines.specs.declared.values.Source.TheVariants.{File, NameMap}
 use Rattle.arwen_cli_patchelf_lines.specs.declared.values.ValueCause.{ValueCause}
-use Rattle.arwen_cli_patchelf_lines.specs.declared.values.ValueCause.TheVariants.{NotText}
+use Rattle.arwen_cli_patchelf_lines.specs.declared.values.ValueCause.TheVariants.{Io, Map, Memory, NotText}
 use Rattle.arwen_cli_patchelf_lines.specs.declared.values.ValueRefused.{ValueRefused}
 
 -- what the options that are left ask for behind those so far is what all ask for
@@ -66,9 +66,27 @@ no_text known fails one bytes cause all is never =
     let P : ValueCause → Type 0 = λ told. IsUnreadFrom File known fails one told in
     subst P (sym is) (bytes, all, never)
 
-pub no_map_text : (known : Text → Option (List ℕ)) (fails : Text → ReadError → Type 0) (one : Asked) (bytes text : List ℕ) (cause : ValueCause) → IsAll (known one.first) bytes → text ≡ spaced_all bytes → cause ≡ NotText → (IsUtf8 text → ⊥)
+no_map_text : (known : Text → Option (List ℕ)) (fails : Text → ReadError → Type 0) (one : Asked) (bytes text : List ℕ) (cause : ValueCause) → IsAll (known one.first) bytes → text ≡ spaced_all bytes → cause ≡ NotText → (IsUtf8 text → ⊥)
     → IsUnreadFrom NameMap known fails one cause
 no_map_text known fails one bytes text cause all same is never =
     let P : ValueCause → Type 0 = λ told. IsUnreadFrom NameMap known fails one told in
     let Never : List ℕ → Type 0 = λ l. IsUtf8 l → ⊥ in
     subst P (sym is) (bytes, all, subst Never same never)
+
+-- the text that the bytes of a map are, or that they are none
+pub map_unread : {X : Type 0} (known : Text → Option (List ℕ)) (fails : Text → ReadError → Type 0) (one : Asked) (bytes text : List ℕ) (result : Result X ValueCause) → IsAll (known one.first) bytes → text ≡ spaced_all bytes
+    → IfErr result (λ cause. cause ≡ NotText) → IfErr result (λ _. IsUtf8 text → ⊥) → IfErr result (IsUnreadFrom NameMap known fails one)
+map_unread known fails one bytes text (Ok made) all same is never = tt
+map_unread known fails one bytes text (Err cause) all same is never = no_map_text known fails one bytes text cause all same is never
+
+-- ## Maps of names
+
+pub map_put : (known : Text → Option (List ℕ)) (one : Asked) (text lent : Text) (old new : List Asked) → lent ≡ text → IsMapText (known one.first) text → ArePut one.name lent old new → IsPutFrom NameMap known one old new
+map_put known one text lent old new same read put =
+    (map (rename_asked one.name) put.0, (read.0, put.0, read.1, ap pairs_of (sym (same ∙ read.2)) ∙ put.1, refl), put.2)
+
+pub map_wrong : (known : Text → Option (List ℕ)) (fails : Text → ReadError → Type 0) (one : Asked) (text lent : Text) (cause : ValueCause) → lent ≡ text → IsMapText (known one.first) text → TellsWrongMap lent cause → IsUnreadFrom NameMap known fails one cause
+map_wrong known fails one text lent Memory same read told = tt
+map_wrong known fails one text lent (Map wrong line) same read told = (read.0, read.1, ap pairs_of (sym (same ∙ read.2)) ∙ told)
+map_wrong known fails one text lent (Io e) same read told = absurd told
+map_wrong known fails one text lent NotText same read told = absurd told

@@ -94,6 +94,14 @@ IsResolvedFrom NameMap known one asked =
 abbrev pub IsResolved : (Text → Option (List ℕ)) → Bool → Asked → List Asked → Type 0
 IsResolved known shrinks one asked = IsResolvedFrom (source_of shrinks one) known one asked
 
+-- the text of a map of names, where the bytes of its file are known
+abbrev pub IsMapText : Option (List ℕ) → Text → Type 0
+IsMapText known text = (bytes : List ℕ) × IsAll known bytes × (text ≡ spaced_all bytes)
+
+-- options get those of a name behind them that the pairs of a map with this text ask for
+abbrev pub ArePut : Text → Text → List Asked → List Asked → Type 0
+ArePut name text old new = (pairs : List (Text × Text)) × (pairs_of text ≡ Ok pairs) × (new ≡ old ++ map (rename_asked name) pairs)
+
 -- options get those behind them that one asks for
 abbrev pub IsPut : (Text → Option (List ℕ)) → Bool → Asked → List Asked → List Asked → Type 0
 IsPut known shrinks one old new = (first : List Asked) × IsResolved known shrinks one first × (new ≡ old ++ first)
@@ -124,6 +132,12 @@ IsNoText f known = (bytes : List ℕ) × IsAll known bytes × (IsUtf8 (f bytes) 
 -- a line of the map of names at a path, where its bytes are known, is the first that is wrong
 abbrev pub IsWrongMap : MapWrong → ℕ → Option (List ℕ) → Type 0
 IsWrongMap wrong line known = (bytes : List ℕ) × IsAll known bytes × (pairs_of (spaced_all bytes) ≡ Err (wrong, line))
+
+-- a cause tells the first line that is wrong of a map with this text, or want of memory
+abbrev pub TellsWrongMap : Text → ValueCause → Type 0
+TellsWrongMap text cause.Memory = ⊤
+TellsWrongMap text (cause.Map wrong line) = pairs_of text ≡ Err (wrong, line)
+TellsWrongMap text cause = ⊥
 
 -- why a value that stands there isn't read: reading its file fails so, or it is no text, or no map of names. There may be no memory
 -- anywhere

@@ -4,7 +4,7 @@ ghost use Rattle.std.specs.Str.{IsUtf8};
 ghost use Rattle.arwen_cli_peers.specs.EditWords.{asked_model};
 ghost use Rattle.arwen_cli_peers.specs.Options.{given_model};
 ghost use Rattle.arwen_cli_patchelf_lines.specs.NameMaps.{lent_pair};
-ghost use Rattle.arwen_cli_patchelf_lines.specs.Values.{AreResolved, IsPut, IsPutFrom, IsRefusedAmong, IsRefusedOf, IsUnreadFrom, abi_asked, abi_by, first_asked, first_replaced, is_passed_over as is_passed, is_run_path as sets_run_path, path_from, path_named, rename_asked, source_of as source_by, takes_file as may_stand_in_file};
+ghost use Rattle.arwen_cli_patchelf_lines.specs.Values.{ArePut, AreResolved, IsMapText, IsPut, IsPutFrom, IsRefusedAmong, IsRefusedOf, IsUnreadFrom, TellsWrongMap, abi_asked, abi_by, first_asked, first_replaced, is_passed_over as is_passed, is_run_path as sets_run_path, path_from, path_named, rename_asked, source_of as source_by, takes_file as may_stand_in_file};
 ghost use Rattle.arwen_cli_patchelf_lines.specs.declared.values.Source.TheVariants.{File, NameMap};
 ghost use Rattle.arwen_cli_patchelf_lines.specs.declared.values.ValueCause.TheVariants.{NotText};
 
@@ -352,10 +352,35 @@ fn put_pairs<'a, F: FileBytes>(
         (IsUnreadFrom NameMap (F.contents files.now) (F.may_fail files.now)
         (given_model one.now)) }
 {
+    let text = map_text(alloc, files, one)?;
+    put_mapped(alloc, one.name, text.as_str(), asked)
+}
+
+/// The text of a map of names, with a space in the place of each tab.
+fn map_text<F: FileBytes>(alloc: Global, files: &F, one: &Given<'_>) -> Result<String, ValueCause>
+    ensures ok { IfOk result (λ text.
+        IsMapText (F.contents files.now one.now.first.now) (string_bytes text)) }
+    ensures err { IfErr result
+        (IsUnreadFrom NameMap (F.contents files.now) (F.may_fail files.now)
+        (given_model one.now)) }
+{
     let bytes = files.bytes(alloc, one.first)?;
-    let text = text_of(spaced(alloc, bytes.as_slice())?)?;
-    let pairs = pairs_in(alloc, text.as_str())?;
-    Ok(put_renames(alloc, one.name, pairs.as_slice(), asked)?)
+    text_of(spaced(alloc, bytes.as_slice())?)
+}
+
+/// Puts an option of this name for each pair of a map of names with this text behind others.
+fn put_mapped(
+    alloc: Global,
+    name: &'static str,
+    text: &str,
+    asked: &mut Vec<AskedOption>,
+) -> Result<(), ValueCause>
+    ensures ok { OnOk result (ArePut name.now text.now
+        (map asked_model asked.old.items) (map asked_model asked.new.items)) }
+    ensures err { IfErr result (TellsWrongMap text.now) }
+{
+    let pairs = pairs_in(alloc, text)?;
+    Ok(put_renames(alloc, name, pairs.as_slice(), asked)?)
 }
 
 /// Puts an option of this name for each pair behind others.
