@@ -1,5 +1,5 @@
 -- What a caller in C finds after a call.
-use Rattle.std.specs.Prelude.{ℕ, ◌≡◌, ◌<◌, ◌≤◌, ◌++◌, Bool, false, List, length, drop}
+use Rattle.std.specs.Prelude.{ℕ, ◌≡◌, ◌<◌, ◌≤◌, ◌++◌, Bool, false, List, Some, length, drop, slice_get}
 use Rattle.elf_commands.specs.ElfCommandError.{ElfCommandError}
 use Rattle.elf_commands.specs.ElfCommandError.TheVariants as elf
 use Rattle.macho_commands.specs.declared.error.MachoCommandError.{MachoCommandError}
@@ -8,6 +8,10 @@ use Rattle.arwen_c.specs.Edited.{IsMadeWith, TellsWhyWith}
 use Rattle.arwen_c.specs.Words.{words_in}
 use Rattle.arwen_c.specs.declared.editing.EditError.{EditError}
 use Rattle.arwen_c.specs.declared.editing.EditError.TheVariants.{Elf, Macho, Memory, NoText}
+
+-- a buffer that has room for a byte has a NUL, so that it holds a text of C
+abbrev pub EndsInNul : List ℕ → Type 0
+EndsInNul buffer = 0 < length buffer → (end : ℕ) × (slice_get buffer end ≡ Some 0)
 
 -- the edited bytes, without leave or with it, stand at the front of the buffer, which has room for them; what stands behind them stays
 pub record GivesWith (leave : Bool) (words bytes old new : List ℕ) (size : ℕ) : Type 0 where

@@ -1,6 +1,6 @@
 //! What is exported to C.
 ghost use Rattle.std.specs.Prelude.{◌≡◌, ◌==◌, ◌<◌, ◌≤◌, ◌++◌, IsTrue, drop, false, length, not, true};
-ghost use Rattle.arwen_c.specs.Export.{Gives, GivesWith, RefusesWith, Wants, WantsWith, answer_to};
+ghost use Rattle.arwen_c.specs.Export.{EndsInNul, Gives, GivesWith, RefusesWith, Wants, WantsWith, answer_to};
 
 use crate::editing::{EditError, edited, edited_moving};
 use arwen_macho::macho::MachoError;
@@ -41,6 +41,10 @@ pub extern "C" fn arwen_apply(
     ensures refuses { IsTrue (not (result == ARWEN_OK)) → IsTrue (not (result == ARWEN_ROOM))
         → RefusesWith false words.now bytes.now result size.new }
     ensures stays { IsTrue (not (result == ARWEN_OK)) → out.new ≡ out.old }
+    ensures message { IsTrue (not (result == ARWEN_OK)) → IsTrue (not (result == ARWEN_ROOM))
+        → EndsInNul message.new }
+    ensures given { result ≡ ARWEN_OK → message.new ≡ message.old }
+    ensures wanted { result ≡ ARWEN_ROOM → message.new ≡ message.old }
 {
     match edited(alloc, bytes, words) {
         Ok(new) => give(new.as_slice(), out, size),
@@ -69,6 +73,10 @@ pub extern "C" fn arwen_apply_moving(
     ensures refuses { IsTrue (not (result == ARWEN_OK)) → IsTrue (not (result == ARWEN_ROOM))
         → RefusesWith true words.now bytes.now result size.new }
     ensures stays { IsTrue (not (result == ARWEN_OK)) → out.new ≡ out.old }
+    ensures message { IsTrue (not (result == ARWEN_OK)) → IsTrue (not (result == ARWEN_ROOM))
+        → EndsInNul message.new }
+    ensures given { result ≡ ARWEN_OK → message.new ≡ message.old }
+    ensures wanted { result ≡ ARWEN_ROOM → message.new ≡ message.old }
 {
     match edited_moving(alloc, bytes, words) {
         Ok(new) => give(new.as_slice(), out, size),
@@ -108,6 +116,7 @@ fn tell(alloc: Global, error: &EditError, message: &mut [u8]) -> u32
     ensures answer { result ≡ answer_to error.now }
     ensures failed { IsTrue (not (result == ARWEN_OK)) }
     ensures other { IsTrue (not (result == ARWEN_ROOM)) }
+    ensures message { EndsInNul message.new }
 {
     match text_of(alloc, error) {
         Ok(text) => put(text.as_bytes(), message),
@@ -191,7 +200,7 @@ fn macho_fault_text(alloc: Global, fault: &MachoError) -> Result<String, AllocEr
 
 /// Puts a text into a buffer, cut so that a NUL stands behind it; nothing into an empty one.
 fn put(text: &[u8], buffer: &mut [u8])
-    ensures { length buffer.new ≡ length buffer.old }
+    ensures { EndsInNul buffer.new }
 {
     if buffer.is_empty() {
         return;
