@@ -159,7 +159,8 @@ fn edited_macho(
 ) -> Result<Vec<u8>, MachoCommandError>
     ensures { MatchResult result
         (λ new. IsMachoMade (map string_bytes words.items) bytes.now new.items)
-        (λ e. Tells (outcome_of (Asked.several (edits_of (map string_bytes words.items))) bytes.now) e) }
+        (λ e. Tells
+        (outcome_of (Asked.several (edits_of (map string_bytes words.items))) bytes.now) e) }
 {
     let command = MachoCommand::Apply(apply::Args {
         path_to_binary: String::new(alloc),

@@ -127,7 +127,8 @@ fn patch_by<S: Store>(
 ) -> Result<String, MachoCommandError>
     ensures patched { OnOk result (IsPatchedBy path.now (map string_bytes words.items)
         (S.contents store.old) (S.contents store.new)) }
-    ensures left { IfErr result (FailsPatch Left (apply_meant path.now (map string_bytes words.items))
+    ensures left { IfErr result (FailsPatch Left
+        (apply_meant path.now (map string_bytes words.items))
         (S.contents store.old) (S.contents store.new)) }
     ensures cause { IfErr result (HasCause S.may_fail_read S.may_fail_write S.may_take_none
         (S.contents store.old) (S.failed store.old) (S.failed store.new)) }

@@ -81,7 +81,8 @@ fn path_in<'a>(given: &[Given<'a>]) -> Result<&'a str, NameRefused>
 
 /// The one file that is given.
 fn file_in<'a>(given: &[Given<'a>]) -> Result<&'a str, NameRefused>
-    ensures { path_told result ≡ one_file (values_given (codes "FILE") (map given_model given.now)) }
+    ensures { path_told result
+        ≡ one_file (values_given (codes "FILE") (map given_model given.now)) }
 {
     let mut found = None;
     for one in given {

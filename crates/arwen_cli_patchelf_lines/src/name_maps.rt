@@ -147,7 +147,8 @@ fn pair_in<'t>(
 
 /// A pair of names behind others, or what is wrong with it.
 fn checked<'t>(old: &'t str, new: &'t str, pairs: &[NamePair<'t>]) -> Result<NamePair<'t>, MapWrong>
-    ensures { pair_told result ≡ checked_pair (map lent_pair pairs.now) old.entry.now new.entry.now }
+    ensures { pair_told result
+        ≡ checked_pair (map lent_pair pairs.now) old.entry.now new.entry.now }
 {
     if is_old(old, pairs) {
         return Err(MapWrong::Twice);

@@ -29,7 +29,8 @@ pub fn plan_of(alloc: Global, asked: &[AskedOption]) -> Result<Plan, AllocError>
 
 /// The prefixes that are allowed where run paths are to shrink.
 fn shrinks_of(alloc: Global, asked: &[AskedOption]) -> Result<Option<Vec<String>>, AllocError>
-    ensures { IfOk result (λ shrinks. option_map (λ prefixes. map string_bytes prefixes.items) shrinks
+    ensures { IfOk result (λ shrinks.
+        option_map (λ prefixes. map string_bytes prefixes.items) shrinks
         ≡ shrinks_of_options (map asked_model asked.now)) }
 {
     if is_given(asked, "--shrink-rpath") {

@@ -46,7 +46,8 @@ fn put_option(
     names: &Names,
 ) -> Result<(), AllocError>
     ensures { OnOk result (map string_bytes words.new.items ≡ joined
-        (map string_bytes words.old.items) (option_groups (names_model names.now) (given_model given.now))) }
+        (map string_bytes words.old.items)
+        (option_groups (names_model names.now) (given_model given.now))) }
 {
     match given.name {
         "-add_rpath" => put_one(alloc, words, "add-rpath", given.first),
@@ -99,7 +100,8 @@ fn put_each(
     paths: &[String],
 ) -> Result<(), AllocError>
     ensures { OnOk result (map string_bytes words.new.items ≡ joined
-        (map string_bytes words.old.items) (map (command_of command.now) (map string_bytes paths.now))) }
+        (map string_bytes words.old.items)
+        (map (command_of command.now) (map string_bytes paths.now))) }
 {
     for path in paths {
         put_group(alloc, words, command, slice::from_ref(path))?;

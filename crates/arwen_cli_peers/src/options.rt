@@ -176,7 +176,8 @@ fn stepped<'a>(
     word: &'a str,
 ) -> Result<Step<'a>, LineFault<'a>>
     ensures means { IfOk result (λ step.
-        step_meant (map row_model rows.now) (wants_model wants.entry) word.now ≡ ok (step_model step)) }
+        step_meant (map row_model rows.now) (wants_model wants.entry) word.now
+        ≡ ok (step_model step)) }
     ensures refused { IfErr result
         (TellsWrong (step_meant (map row_model rows.now) (wants_model wants.entry) word.now)) }
 {
