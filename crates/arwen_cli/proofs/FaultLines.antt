@@ -8,15 +8,15 @@ use Rattle.arwen_cli.specs.Telling.{IsCausesText, IsLineWith, is_of_line, path_f
 use Rattle.arwen_cli.specs.declared.cli.error.ArwenError.{ArwenError}
 
 -- a line without a path
-pub plain_line : (path : Option Text) (error : ArwenError) (line : Text) → path ≡ None → IsCausesText error line → IsLineWith path error line
-plain_line path error line none are =
-    let P : Option Text → Type 0 = λ p. IsLineWith p error line in
-    subst P (sym none) (record { causes = line; causes_are = are; bracket = None; line_is = refl })
+pub plain_line : (path : Option Text) (meaning : Option Meaning) (error : ArwenError) (line : Text) → path ≡ None → IsCausesText error line → IsLineWith path meaning error line
+plain_line path meaning error line none are =
+    let P : Option Text → Type 0 = λ p. IsLineWith p meaning error line in
+    subst P (sym none) (record { causes = line; causes_are = are; bracket = None; bracket_is = tt; line_is = refl })
 
 -- a fault of the line itself names none
-pub of_line : (error : ArwenError) (meaning : Option Meaning) (line : Text) → is_of_line error ≡ true → IsCausesText error line → IsLineWith (path_for error meaning) error line
+pub of_line : (error : ArwenError) (meaning : Option Meaning) (line : Text) → is_of_line error ≡ true → IsCausesText error line → IsLineWith (path_for error meaning) meaning error line
 of_line error meaning line is are =
-    plain_line (path_for error meaning) error line (ap (λ (b : Bool). if b then None else path_in meaning) is) are
+    plain_line (path_for error meaning) meaning error line (ap (λ (b : Bool). if b then None else path_in meaning) is) are
 
 no_meaning : (meaning : Option Meaning) → ((m : Meaning) → meaning ≡ Some m → ⊥) → meaning ≡ None
 no_meaning None none = refl
@@ -26,18 +26,19 @@ path_is : (error : ArwenError) (meaning : Option Meaning) → is_of_line error �
 path_is error meaning isnt = ap (λ (b : Bool). if b then None else path_in meaning) isnt
 
 -- words that mean no command name none
-pub of_no_command : (error : ArwenError) (meaning : Option Meaning) (line : Text) → is_of_line error ≡ false → ((m : Meaning) → meaning ≡ Some m → ⊥) → IsCausesText error line → IsLineWith (path_for error meaning) error line
+pub of_no_command : (error : ArwenError) (meaning : Option Meaning) (line : Text) → is_of_line error ≡ false → ((m : Meaning) → meaning ≡ Some m → ⊥) → IsCausesText error line → IsLineWith (path_for error meaning) meaning error line
 of_no_command error meaning line isnt none are =
-    plain_line (path_for error meaning) error line (path_is error meaning isnt ∙ ap path_in (no_meaning meaning none)) are
+    plain_line (path_for error meaning) meaning error line (path_is error meaning isnt ∙ ap path_in (no_meaning meaning none)) are
 
 -- those of a command name its path
-pub of_command : (error : ArwenError) (meaning : Option Meaning) (m : Meaning) (line : Text) → is_of_line error ≡ false → meaning ≡ Some m → IsLineWith (path_of m) error line → IsLineWith (path_for error meaning) error line
+pub of_command : (error : ArwenError) (meaning : Option Meaning) (m : Meaning) (line : Text) → is_of_line error ≡ false → meaning ≡ Some m → IsLineWith (path_of m) (Some m) error line → IsLineWith (path_for error meaning) meaning error line
 of_command error meaning m line isnt is line_is =
-    let P : Option Text → Type 0 = λ p. IsLineWith p error line in
-    subst P (sym (path_is error meaning isnt ∙ ap path_in is)) line_is
+    let P : Option Text → Type 0 = λ p. IsLineWith p meaning error line in
+    let Q : Option Meaning → Type 0 = λ asked. IsLineWith (path_of m) asked error line in
+    subst P (sym (path_is error meaning isnt ∙ ap path_in is)) (subst Q (sym is) line_is)
 
 -- the line of words that were not read, unless there was no memory for it
 pub of_unread : {E Plain Unread : Type 0} (r : Result (String Global) E) (error : ArwenError) (meaning : Option Meaning) → is_of_line error ≡ false → (Plain → (m : Meaning) → meaning ≡ Some m → Unread) → IfOk r (λ line. Unread → ⊥)
-    → IfOk r (λ line. IsCausesText error (string_bytes line)) → IfOk r (λ line. Plain → IsLineWith (path_for error meaning) error (string_bytes line))
+    → IfOk r (λ line. IsCausesText error (string_bytes line)) → IfOk r (λ line. Plain → IsLineWith (path_for error meaning) meaning error (string_bytes line))
 of_unread (Ok line) error meaning isnt refused read are = λ plain. of_no_command error meaning (string_bytes line) isnt (λ m is. read (refused plain m is)) are
 of_unread (Err e) error meaning isnt refused read are = tt

@@ -1,8 +1,9 @@
 //! What the program says beside what is asked for: of a fault its file and what it leaves open.
-ghost use Rattle.std.specs.Prelude.{◌≡◌, ◌++◌, None, Some, IfOk, IfSome, codes, map, option_map, string_bytes};
+ghost use Rattle.std.specs.Prelude.{◌≡◌, ◌++◌, Some, IfOk, IfSome, codes, map, option_map, string_bytes};
+ghost use Rattle.arwen_cli_show.specs.Texts.{text_model};
 ghost use Rattle.arwen_cli.specs.Fault.{words_told};
 ghost use Rattle.arwen_cli.specs.Meaning.{shown};
-ghost use Rattle.arwen_cli.specs.Telling.{IsCausesText, IsFaultLine, IsLineWith, TellsBytes, TellsOverlapOf, is_of_line as is_line_fault, path_if, path_of as path_told, words_of as words_for};
+ghost use Rattle.arwen_cli.specs.Telling.{IsBracket, IsCausesText, IsElfRule, IsFaultLine, IsLineWith, IsReason, TellsBytes, TellsOverlapOf, is_of_bytes as is_bytes_fault, is_of_line as is_line_fault, is_overlap as is_overlap_fault, path_if, path_of as path_told, words_of as words_for};
 ghost use Rattle.command_words.specs.Rows.{Text};
 ghost use Rattle.elf_commands.specs.Meaning.{elf_command_model, elf_file_of};
 
@@ -93,7 +94,8 @@ fn named_line<R: Files + AllocGlobal>(
     error: &ArwenError,
 ) -> Result<String, AllocError>
     ensures { IfOk result (λ line.
-        IsLineWith (path_told (shown command.now)) error.now (string_bytes line)) }
+        IsLineWith (path_told (shown command.now)) (Some (shown command.now)) error.now
+        (string_bytes line)) }
 {
     let causes = causes_text(rt.alloc(), error)?;
     let Some(path) = path_of(command) else {
@@ -127,7 +129,10 @@ fn bracket_at<R: Files + AllocGlobal>(
     command: &Command,
     path: &str,
     error: &ArwenError,
-) -> Result<Option<String>, AllocError> {
+) -> Result<Option<String>, AllocError>
+    ensures { IfOk result (λ bracket.
+        IsBracket (Some (shown command.now)) error.now (text_model bracket)) }
+{
     match command {
         Command::Elf(elf) if is_overlap(error) => {
             let files = RegularBytes { files: rt };
@@ -138,7 +143,9 @@ fn bracket_at<R: Files + AllocGlobal>(
 }
 
 /// Whether a fault is that two blocks overlap that never move.
-fn is_overlap(error: &ArwenError) -> bool {
+fn is_overlap(error: &ArwenError) -> bool
+    ensures { result ≡ is_overlap_fault error.now }
+{
     matches!(
         error,
         ArwenError::Elf(ElfError::Modify(ModifyCause::Overlap))
@@ -159,7 +166,9 @@ fn reason_at<R: Files + AllocGlobal>(
     rt: &R,
     path: &str,
     error: &ArwenError,
-) -> Option<Told<'static>> {
+) -> Option<Told<'static>>
+    ensures { IsReason error.now result }
+{
     if !is_of_bytes(error) {
         return None;
     }
@@ -169,7 +178,9 @@ fn reason_at<R: Files + AllocGlobal>(
 }
 
 /// Whether a fault is one of the bytes of a file.
-fn is_of_bytes(error: &ArwenError) -> bool {
+fn is_of_bytes(error: &ArwenError) -> bool
+    ensures { result ≡ is_bytes_fault error.now }
+{
     matches!(
         error,
         ArwenError::Elf(ElfError::Parse(_)) | ArwenError::Macho(MachoError::Parsing(_))
@@ -178,7 +189,8 @@ fn is_of_bytes(error: &ArwenError) -> bool {
 
 /// What the fault of a file leaves open, by its bytes: what the file is, or the read rule that it breaks.
 fn reason_of(alloc: Global, error: &ArwenError, bytes: &[u8]) -> Option<Told<'static>>
-    ensures { TellsBytes error.now bytes.now result }
+    ensures tells { TellsBytes error.now bytes.now result }
+    ensures rule { IsElfRule error.now result }
 {
     if let Some(words) = words_of(error, bytes) {
         return Some(Told::Words(words));
