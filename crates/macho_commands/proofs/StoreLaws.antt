@@ -204,13 +204,13 @@ standing_inside given now fronts slots changes lent are made same =
     subst Inside long (subst Lent (sym same) are.inside)
 
 pub standing_parts : (file given now : List ℕ) (fronts : List Front) (slots : List Slot) (changes lent standing back : List Piece) → given ≡ file → ArePiecesOf given (slots_on slots (fronts_on fronts given)) changes → now ≡ slots_on slots (fronts_on fronts given) → lent ≡ changes → ((f : List ℕ) → ArePiecesOf f now lent → ArePartsOf f now standing) → back ≡ standing → ArePartsOf file (slots_on slots (fronts_on fronts file)) back
-standing_parts file given now fronts slots changes lent standing back read are made same all shown =
+standing_parts file given now fronts slots changes lent standing back was are made same lends shown =
     let To : List ℕ → Type 0 = λ l. ArePiecesOf given l changes in
     let Lent : List Piece → Type 0 = λ l. ArePiecesOf given now l in
     let Back : List Piece → Type 0 = λ l. ArePartsOf given now l in
     let Made : List ℕ → Type 0 = λ l. ArePartsOf given l back in
     let Of : List ℕ → Type 0 = λ l. ArePartsOf l (slots_on slots (fronts_on fronts l)) back in
-    subst Of read (subst Made made (subst Back (sym shown) (all given (subst Lent (sym same) (subst To (sym made) are)))))
+    subst Of was (subst Made made (subst Back (sym shown) (lends given (subst Lent (sym same) (subst To (sym made) are)))))
 
 tells_file : (signs : Signs) (a : Asked) (loaded : Loaded) (file : List ℕ) (e : MachoCommandError) → Reads signs loaded file → Tells (outcome_by signs a loaded.bytes.items) e → Tells (outcome_by signs a file) e
 tells_file signs a loaded file e (inl first) tells =
