@@ -1,5 +1,5 @@
 -- Of a file that is too long its first bytes tell as much as the whole.
-use Rattle.std.proofs.Common.{◌≡◌, ◌≤◌, ◌-◌, ◌^◌, ◌⊎◌, inl, inr, if◌then◌else◌, ℕ, Bool, true, false, List, [], ◌∷◌, ◌++◌, length, take, Option, Some, Ok, Err, refl, sym, ap, ◌∙◌, subst, arith}
+use Rattle.std.proofs.Common.{◌≡◌, ◌≤◌, ◌-◌, ◌^◌, ◌⊎◌, inl, inr, if◌then◌else◌, ℕ, Bool, true, false, List, [], ◌∷◌, ◌++◌, length, take, drop, Option, Some, Ok, Err, refl, sym, ap, ◌∙◌, subst, arith}
 use Rattle.byte_store.proofs.LaidLaws.{length-laid}
 use Rattle.byte_store.specs.declared.pieces.Piece.{Piece}
 use Rattle.byte_store.specs.Composed.{Stands}
@@ -29,7 +29,7 @@ use Rattle.macho_commands.specs.declared.error.MachoCommandError.TheVariants.{Ed
 use Rattle.std.specs.List.{All}
 use Rattle.std.specs.Prelude.{IsTrue}
 use Rattle.std.proofs.lemmas.Bool.{cases_lt, cond-true, lt-ltb}
-use Rattle.std.proofs.lemmas.List.{length-take-le, take_all}
+use Rattle.std.proofs.lemmas.List.{length-take-le, take-append-le, take_all}
 use Rattle.macho_image.specs.Checks.{file_fault}
 use Rattle.macho_image.specs.Fat.{table_fault}
 use Rattle.macho_image.specs.declared.format.MachFault.TheVariants.{TooLong}
@@ -194,6 +194,10 @@ makes_store choice meaning old loaded fronts slots pieces file reads known write
     makes_of (signs_of choice meaning) (asked meaning) loaded (patches_of pieces) file (reads_file (signs_of choice meaning) old loaded file reads known)
     are.inside (writes.is ∙ ap (λ (l : List ℕ). bytes l) (sym are.same)) (subst Made (sym are.same) writes.shows)
     (subst Stood (sym are.same) are.stand)
+
+-- bytes that were written through
+pub shown_back : (n : ℕ) (now new items made : List ℕ) → now ≡ take n (new ++ drop (length new) items) → n ≤ length new → length new ≤ n → new ≡ made → now ≡ made
+shown_back n now new items made is few many same = is ∙ take-append-le n new (drop (length new) items) few ∙ take_all n new many ∙ same
 
 -- pieces that were lent again with what stands in their places, in bytes that were written through
 pub standing_inside : (given now : List ℕ) (fronts : List Front) (slots : List Slot) (changes lent : List Piece) → ArePiecesOf given (slots_on slots (fronts_on fronts given)) changes → now ≡ slots_on slots (fronts_on fronts given) → lent ≡ changes → All (LiesIn (length now)) (patches_of lent)

@@ -1,12 +1,13 @@
 -- What was read of the store tells of its file.
 use Rattle.std.proofs.Common.{◌∙◌, arith, sym}
 use Rattle.std.proofs.lemmas.Result.{err_from_is_err_and}
+use Rattle.arwen_macho.specs.Fronts.{fronts_on}
+use Rattle.macho_signatures.specs.Renewed.{laid as slots_on}
 use Rattle.macho_commands_signing.specs.declared.loading.Loaded.{Loaded}
 use Rattle.macho_commands.specs.Engine.{signs_of}
 use Rattle.macho_commands.specs.Meaning.{macho_command_model}
 use Rattle.macho_commands.proofs.NotingLaws.{told_of_store}
-use Rattle.macho_commands.proofs.SlicedRuns.{written_back}
-use Rattle.macho_commands.proofs.StoreLaws.{ReadsStore, makes_store, patched_store, refused_store, standing_inside, standing_parts, torn_store}
+use Rattle.macho_commands.proofs.StoreLaws.{ReadsStore, makes_store, patched_store, refused_store, shown_back, standing_inside, standing_parts, torn_store}
 use Rattle.macho_commands.proofs.engine.patch_loaded.Goals as goal
 
 pub returns-in_err-fronts-clause-left : goal.returns-in_err-fronts-clause-left
@@ -26,9 +27,8 @@ returns-clause-patched g c =
     (rw (sym c.as_slice.ensures.value, c.as_slice-2.ensures.value, c.as_slice-3.ensures.value) c.in_ok-fronts.ensures.ok)
     (standing_parts loaded.bytes.items c.deref_mut.result.now c.as_slice-4.result.now c.as_slice-2.result.now c.as_slice-3.result.now c.in_ok-changes.changes.items c.as_slice-5.result.now c.in_ok-pieces.pieces.items c.as_slice-6.result.now
     c.deref_mut.ensures.value c.in_ok-changes.ensures.ok
-    (c.as_slice-4.ensures.value
-    ∙ written_back loaded.bytes.len c.changes_of.new.bytes loaded.bytes.items (omega (arith, c.changes_of.auto.bytes, c.deref_mut.ensures.len)) (omega (arith, c.changes_of.auto.bytes, c.deref_mut.ensures.len))
-    ∙ c.in_ok-changes.ensures.bytes)
+    (shown_back loaded.bytes.len c.as_slice-4.result.now c.changes_of.new.bytes loaded.bytes.items (slots_on c.as_slice-3.result.now (fronts_on c.as_slice-2.result.now c.deref_mut.result.now)) c.as_slice-4.ensures.value
+    (omega (arith, c.changes_of.auto.bytes, c.deref_mut.ensures.len)) (omega (arith, c.changes_of.auto.bytes, c.deref_mut.ensures.len)) c.in_ok-changes.ensures.bytes)
     c.as_slice-5.ensures.value c.in_ok-pieces.ensures c.as_slice-6.ensures.value)
     c.in_ok-write_changes_of.ensures.ok
 
@@ -38,9 +38,8 @@ standing_pieces-requires g c =
     let loaded : Loaded = c.in_ok-bytes.field-0 in
     standing_inside c.deref_mut.result.now c.as_slice-4.result.now c.as_slice-2.result.now c.as_slice-3.result.now c.in_ok-changes.changes.items c.as_slice-5.result.now
     c.in_ok-changes.ensures.ok
-    (c.as_slice-4.ensures.value
-    ∙ written_back loaded.bytes.len c.changes_of.new.bytes loaded.bytes.items (omega (arith, c.changes_of.auto.bytes, c.deref_mut.ensures.len)) (omega (arith, c.changes_of.auto.bytes, c.deref_mut.ensures.len))
-    ∙ c.in_ok-changes.ensures.bytes)
+    (shown_back loaded.bytes.len c.as_slice-4.result.now c.changes_of.new.bytes loaded.bytes.items (slots_on c.as_slice-3.result.now (fronts_on c.as_slice-2.result.now c.deref_mut.result.now)) c.as_slice-4.ensures.value
+    (omega (arith, c.changes_of.auto.bytes, c.deref_mut.ensures.len)) (omega (arith, c.changes_of.auto.bytes, c.deref_mut.ensures.len)) c.in_ok-changes.ensures.bytes)
     c.as_slice-5.ensures.value
 
 pub write_changes_of-requires-clause-inside : goal.write_changes_of-requires-clause-inside
@@ -49,9 +48,8 @@ write_changes_of-requires-clause-inside g c =
     let parts =
     standing_parts loaded.bytes.items c.deref_mut.result.now c.as_slice-4.result.now c.as_slice-2.result.now c.as_slice-3.result.now c.in_ok-changes.changes.items c.as_slice-5.result.now c.in_ok-pieces.pieces.items c.as_slice-6.result.now
     c.deref_mut.ensures.value c.in_ok-changes.ensures.ok
-    (c.as_slice-4.ensures.value
-    ∙ written_back loaded.bytes.len c.changes_of.new.bytes loaded.bytes.items (omega (arith, c.changes_of.auto.bytes, c.deref_mut.ensures.len)) (omega (arith, c.changes_of.auto.bytes, c.deref_mut.ensures.len))
-    ∙ c.in_ok-changes.ensures.bytes)
+    (shown_back loaded.bytes.len c.as_slice-4.result.now c.changes_of.new.bytes loaded.bytes.items (slots_on c.as_slice-3.result.now (fronts_on c.as_slice-2.result.now c.deref_mut.result.now)) c.as_slice-4.ensures.value
+    (omega (arith, c.changes_of.auto.bytes, c.deref_mut.ensures.len)) (omega (arith, c.changes_of.auto.bytes, c.deref_mut.ensures.len)) c.in_ok-changes.ensures.bytes)
     c.as_slice-5.ensures.value c.in_ok-pieces.ensures c.as_slice-6.ensures.value in
     λ i d below. let lies = parts.inside i d below in omega (arith, lies, c.in_ok-bytes.ensures.within, loaded.bytes.ok)
 
@@ -64,9 +62,8 @@ write_changes_of-requires-clause-old g c = λ file known.
     (rw (sym c.as_slice.ensures.value, c.as_slice-2.ensures.value, c.as_slice-3.ensures.value) c.in_ok-fronts.ensures.ok)
     (standing_parts loaded.bytes.items c.deref_mut.result.now c.as_slice-4.result.now c.as_slice-2.result.now c.as_slice-3.result.now c.in_ok-changes.changes.items c.as_slice-5.result.now c.in_ok-pieces.pieces.items c.as_slice-6.result.now
     c.deref_mut.ensures.value c.in_ok-changes.ensures.ok
-    (c.as_slice-4.ensures.value
-    ∙ written_back loaded.bytes.len c.changes_of.new.bytes loaded.bytes.items (omega (arith, c.changes_of.auto.bytes, c.deref_mut.ensures.len)) (omega (arith, c.changes_of.auto.bytes, c.deref_mut.ensures.len))
-    ∙ c.in_ok-changes.ensures.bytes)
+    (shown_back loaded.bytes.len c.as_slice-4.result.now c.changes_of.new.bytes loaded.bytes.items (slots_on c.as_slice-3.result.now (fronts_on c.as_slice-2.result.now c.deref_mut.result.now)) c.as_slice-4.ensures.value
+    (omega (arith, c.changes_of.auto.bytes, c.deref_mut.ensures.len)) (omega (arith, c.changes_of.auto.bytes, c.deref_mut.ensures.len)) c.in_ok-changes.ensures.bytes)
     c.as_slice-5.ensures.value c.in_ok-pieces.ensures c.as_slice-6.ensures.value)).long
 
 pub returns-in_err-write_changes_of-clause-left : goal.returns-in_err-write_changes_of-clause-left
@@ -79,9 +76,8 @@ returns-in_err-write_changes_of-clause-left g c =
     (rw (sym c.as_slice.ensures.value, c.as_slice-2.ensures.value, c.as_slice-3.ensures.value) c.in_ok-fronts.ensures.ok)
     (standing_parts loaded.bytes.items c.deref_mut.result.now c.as_slice-4.result.now c.as_slice-2.result.now c.as_slice-3.result.now c.in_ok-changes.changes.items c.as_slice-5.result.now c.in_ok-pieces.pieces.items c.as_slice-6.result.now
     c.deref_mut.ensures.value c.in_ok-changes.ensures.ok
-    (c.as_slice-4.ensures.value
-    ∙ written_back loaded.bytes.len c.changes_of.new.bytes loaded.bytes.items (omega (arith, c.changes_of.auto.bytes, c.deref_mut.ensures.len)) (omega (arith, c.changes_of.auto.bytes, c.deref_mut.ensures.len))
-    ∙ c.in_ok-changes.ensures.bytes)
+    (shown_back loaded.bytes.len c.as_slice-4.result.now c.changes_of.new.bytes loaded.bytes.items (slots_on c.as_slice-3.result.now (fronts_on c.as_slice-2.result.now c.deref_mut.result.now)) c.as_slice-4.ensures.value
+    (omega (arith, c.changes_of.auto.bytes, c.deref_mut.ensures.len)) (omega (arith, c.changes_of.auto.bytes, c.deref_mut.ensures.len)) c.in_ok-changes.ensures.bytes)
     c.as_slice-5.ensures.value c.in_ok-pieces.ensures c.as_slice-6.ensures.value)
     c.in_err-write_changes_of.ensures.err)
 
