@@ -22,7 +22,7 @@ returns-in_err-write_all_counted-clause-quiet g c =
     let Gets : List ℕ → Type 0 = λ l. Appends (g.W.Write.contents c.args.out.now) (g.W.Write.contents c.write_all_counted.new.w) (take stops.0 l) in
     rw (p.1, p.2) (inr (gets_first (g.P.Probe.may_find c.args.probe.now) (map string_bytes c.args.prefixes.now) (g.S.Store.contents c.args.store.now)
     (g.W.Write.contents c.args.out.now) (g.W.Write.contents c.write_all_counted.new.w) c.args.bytes.now c.in_ok-shrunk.shrunk.difference (string_bytes c.in_ok-shrunk.shrunk.text) stops.0
-    c.requires.whole c.in_ok-shrunk.ensures.shrunk (subst Gets c.as_bytes.ensures.value stops.1.1.0)))
+    c.requires.whole c.in_ok-shrunk.ensures.shrunk (subst Gets c.as_bytes.ensures.value stops.2)))
 
 pub returns-in_err-shrunk-clause-cause : goal.returns-in_err-shrunk-clause-cause
 returns-in_err-shrunk-clause-cause g c =
