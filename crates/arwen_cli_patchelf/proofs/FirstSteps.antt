@@ -11,12 +11,13 @@ use Rattle.elf_edits.proofs.ForCallers.{other_way}
 use Rattle.elf_edits_shrink.specs.ShrinkModel.{answer_model, pair_lent}
 use Rattle.elf_edits_shrink.specs.declared.probe.ProbeAnswer.{ProbeAnswer}
 use Rattle.elf_commands.specs.ElfAsked.{one}
-use Rattle.elf_commands.specs.ElfEngine.{TellsEdit}
+use Rattle.elf_commands.specs.ElfEngine.{LeavesElf, TellsEdit}
 use Rattle.elf_commands.specs.Shrinking.{Answers, Finding, asked_of}
 use Rattle.elf_commands.specs.ElfCommandError.{ElfCommandError}
 use Rattle.elf_commands.specs.ElfCommandError.TheVariants.{Edits, Elf, ElfBatch, Io, Memory}
 use Rattle.arwen_cli_peers.specs.Options.{Text}
-use Rattle.arwen_cli_patchelf.specs.FirstFound.{AreFirstFound, AreFirstFoundIn, IsFirstFound, TellsFirstShrunk, finds_unless, is_found_for, is_settled}
+use Rattle.arwen_cli_patchelf.specs.FirstFound.{AreFirstFound, AreFirstFoundIn, IsFirstFound, TellsFirstShrunk, finds_unless, has_nothing_to_shrink, is_found_for, is_settled}
+use Rattle.arwen_cli_patchelf.specs.Made.{IsShrunkTo, IsShrunkUnless}
 
 -- ## One more of them
 
@@ -105,13 +106,28 @@ is_put b old new name other is step =
     ∙ ap (λ (d : Bool). has_name old other || d) (other_way name other)
     ∙ sym (ap (λ (e : Bool). has_name old other || (e && bytes_eq other name)) is)
 
+-- ## Files without a run path
+
+-- their bytes stay as they are
+pub nothing_shrinks : (finds : Finding) (prefixes : List Text) (file : List ℕ) → has_nothing_to_shrink file ≡ true → IsShrunkTo finds (Some prefixes) file file
+nothing_shrinks finds prefixes file nothing =
+    let Of : Bool → Type 0 = λ b. IsShrunkUnless b finds prefixes file file in
+    subst Of (sym nothing) refl
+
+-- others shrink by answers
+pub some_shrink : (finds : Finding) (prefixes : List Text) (file new : List ℕ) (answers : List Answer) → has_nothing_to_shrink file ≡ false → AreFirstFoundIn finds prefixes file answers
+    → LeavesElf (one (ShrinkRunPath prefixes answers)) file new → IsShrunkTo finds (Some prefixes) file new
+some_shrink finds prefixes file new answers some found leaves =
+    let Of : Bool → Type 0 = λ b. IsShrunkUnless b finds prefixes file new in
+    subst Of (sym some) (answers, found, leaves)
+
 -- ## What errors tell
 
 -- an error of the edit by such answers
-pub first_tells : (finds : Finding) (prefixes : List Text) (file : List ℕ) (answers : List Answer) (e : ElfCommandError) → AreFirstFoundIn finds prefixes file answers
+pub first_tells : (finds : Finding) (prefixes : List Text) (file : List ℕ) (answers : List Answer) (e : ElfCommandError) → has_nothing_to_shrink file ≡ false → AreFirstFoundIn finds prefixes file answers
     → TellsEdit (one (ShrinkRunPath prefixes answers)) file e → TellsFirstShrunk finds prefixes file e
-first_tells finds prefixes file answers Memory found tells = tt
-first_tells finds prefixes file answers (Io e) found tells = (answers, found, tells)
-first_tells finds prefixes file answers (Edits wrong) found tells = (answers, found, tells)
-first_tells finds prefixes file answers (Elf e) found tells = (answers, found, tells)
-first_tells finds prefixes file answers (ElfBatch e) found tells = (answers, found, tells)
+first_tells finds prefixes file answers Memory some found tells = tt
+first_tells finds prefixes file answers (Io e) some found tells = (some, answers, found, tells)
+first_tells finds prefixes file answers (Edits wrong) some found tells = (some, answers, found, tells)
+first_tells finds prefixes file answers (Elf e) some found tells = (some, answers, found, tells)
+first_tells finds prefixes file answers (ElfBatch e) some found tells = (some, answers, found, tells)

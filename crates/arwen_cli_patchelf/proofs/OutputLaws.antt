@@ -20,7 +20,7 @@ use Rattle.arwen_cli_patchelf.specs.Patched.{HoldsBytes, HoldsKnown, IsMadeKnown
 -- a plan is refused for what it is and what the file is
 never_unshrunk : (finds : Finding) (shrinks : Option (List Text)) (file : List ℕ) (e : Error) → TellsUnshrunk finds shrinks file (Io e) → ⊥
 never_unshrunk finds None file e tells = tells
-never_unshrunk finds (Some prefixes) file e tells = tells.2
+never_unshrunk finds (Some prefixes) file e tells = tells.3
 
 never_unapplied : (words : List Text) (file : List ℕ) (e : Error) → TellsUnapplied words file (Io e) → ⊥
 never_unapplied [] file e tells = tells

@@ -1,5 +1,5 @@
 -- What plans make of the bytes of a file, and why they make nothing.
-use Rattle.std.specs.Prelude.{ℕ, ◌≡◌, ◌⊎◌, List, [], ◌∷◌, map, Option, Some, None, option_map, string_bytes, ⊤}
+use Rattle.std.specs.Prelude.{ℕ, ◌≡◌, ◌⊎◌, List, [], ◌∷◌, Bool, true, false, map, Option, Some, None, option_map, string_bytes, ⊤}
 use Rattle.std.specs.declared.alloc.Global.{Global}
 use Rattle.std.specs.declared.string.String.{String}
 use Rattle.std.specs.declared.vec.Vec.{Vec}
@@ -12,7 +12,7 @@ use Rattle.elf_commands.specs.ElfCommandError.TheVariants.{Io, Memory}
 use Rattle.elf_commands.specs.Shrinking.{Finding}
 use Rattle.arwen_cli_peers.specs.Options.{Text}
 use Rattle.arwen_cli_patchelf_lines.specs.Plans.{PlanMeant}
-use Rattle.arwen_cli_patchelf.specs.FirstFound.{AreFirstFoundIn, TellsFirstShrunk}
+use Rattle.arwen_cli_patchelf.specs.FirstFound.{AreFirstFoundIn, TellsFirstShrunk, has_nothing_to_shrink}
 
 -- the prefixes by which run paths shrink, where they do
 abbrev pub prefixes_model : Option (Vec (String Global) Global) → Option (List Text)
@@ -24,11 +24,16 @@ words_ask words = elf_asked (apply_moving_elf [] words)
 
 -- ## The two steps
 
--- bytes with run paths that shrank by answers that keep the first directories alone; without this step they stay
+-- bytes with run paths that shrank by answers that keep the first directories alone; they stay where there is nothing to shrink
+abbrev pub IsShrunkUnless : Bool → Finding → List Text → List ℕ → List ℕ → Type 0
+IsShrunkUnless true finds prefixes file new = new ≡ file
+IsShrunkUnless false finds prefixes file new =
+    (answers : List Answer) × AreFirstFoundIn finds prefixes file answers × LeavesElf (one (ShrinkRunPath prefixes answers)) file new
+
+-- bytes with run paths that shrank, where they are to; without this step, and of a file without a run path, they stay
 abbrev pub IsShrunkTo : Finding → Option (List Text) → List ℕ → List ℕ → Type 0
 IsShrunkTo finds None file new = new ≡ file
-IsShrunkTo finds (Some prefixes) file new =
-    (answers : List Answer) × AreFirstFoundIn finds prefixes file answers × LeavesElf (one (ShrinkRunPath prefixes answers)) file new
+IsShrunkTo finds (Some prefixes) file new = IsShrunkUnless (has_nothing_to_shrink file) finds prefixes file new
 
 -- bytes that `apply` makes with these words; without words they stay
 abbrev pub IsAppliedTo : List Text → List ℕ → List ℕ → Type 0

@@ -11,7 +11,7 @@ ghost use Rattle.elf_commands.specs.ElfAsked.{one};
 ghost use Rattle.elf_commands.specs.ElfEngine.{LeavesElf, TellsEdit, bytes_left};
 ghost use Rattle.elf_commands.specs.Meaning.{elf_command_model, shrink_elf};
 ghost use Rattle.elf_commands.specs.Shrinking.{Answers};
-ghost use Rattle.arwen_cli_patchelf.specs.FirstFound.{AreFirstFound, AreFirstFoundIn, AreFirstFoundOf, TellsFirstShrunk, finds_unless, is_found_for};
+ghost use Rattle.arwen_cli_patchelf.specs.FirstFound.{AreFirstFound, AreFirstFoundIf, AreFirstFoundWhere, TellsFirstShrunk, answers_model, finds_unless, is_found_for, lists_no_run_path};
 ghost use Rattle.arwen_cli_patchelf.specs.Made.{IsShrunkTo};
 
 use crate::steps::{in_memory, texts_copied};
@@ -19,17 +19,19 @@ use crate::unheard::Unheard;
 use elf_commands::elf::{Probe, run_elf, shrink_rpath};
 use elf_commands::files::{ElfContainer, ProbeAnswer};
 use elf_commands::{ElfCommand, ElfCommandError};
+use elf_edits::image_facts;
 use elf_edits::laws::edits_show;
 use elf_image::laws::read_images_hold_parts;
 use patch_bytes::ByteString;
 use std::alloc::{AllocError, Global};
 use std::collections::HashSet;
 
-/// The bytes of a file with run paths that shrank, or `None` where they stay as they were. What goes is not told.
+/// The bytes of a file with run paths that shrank, or `None` where they stay as they were, also those of a file without a run
+/// path. What goes is not told.
 ///
 /// # Errors
 ///
-/// Those of `run_elf`, but `Memory` for `Io`.
+/// Those of `run_elf`, but `Memory` for `Io`; never that there is no run path.
 pub(crate) fn shrunk_bytes<P: Probe>(
     alloc: Global,
     bytes: &[u8],
@@ -41,10 +43,15 @@ pub(crate) fn shrunk_bytes<P: Probe>(
     ensures err { IfErr result (TellsFirstShrunk (P.may_find probe.now)
         (map string_bytes prefixes.now) bytes.now) }
 {
-    let answers = first_answers(alloc, bytes, prefixes, probe)?;
-    let made = shrunk_by(alloc, bytes, prefixes, answers.as_slice());
-    drop(answers);
-    made
+    let found = first_answers(alloc, bytes, prefixes, probe)?;
+    match found {
+        None => Ok(None),
+        Some(answers) => {
+            let made = shrunk_by(alloc, bytes, prefixes, answers.as_slice());
+            drop(answers);
+            made
+        }
+    }
 }
 
 /// The bytes of a file with run paths that shrank by these answers, or `None` where they stay as they were.
@@ -82,23 +89,23 @@ fn shrink_command(alloc: Global, prefixes: &[String]) -> Result<ElfCommand, Allo
     }))
 }
 
-/// The answers by which the run paths of a file shrink.
+/// The answers by which the run paths of a file shrink, `None` for a file without a run path.
 fn first_answers<P: Probe>(
     alloc: Global,
     bytes: &[u8],
     prefixes: &[String],
     probe: &P,
-) -> Result<Vec<ProbeAnswer<'static>>, ElfCommandError>
-    ensures found { IfOk result (λ answers. AreFirstFoundIn (P.may_find probe.now)
-        (map string_bytes prefixes.now) bytes.now (map answer_model answers.items)) }
+) -> Result<Option<Vec<ProbeAnswer<'static>>>, ElfCommandError>
+    ensures found { IfOk result (λ found. AreFirstFoundWhere (P.may_find probe.now)
+        (map string_bytes prefixes.now) bytes.now (answers_model found)) }
     ensures err { IfErr result (TellsFirstShrunk (P.may_find probe.now)
         (map string_bytes prefixes.now) bytes.now) }
 {
     let elf = ElfContainer::parse(alloc, bytes)?;
-    let answers = answers_of(alloc, &elf, prefixes, probe);
+    let found = answers_of(alloc, &elf, prefixes, probe);
     drop(elf);
-    match answers {
-        Ok(answers) => Ok(answers),
+    match found {
+        Ok(found) => Ok(found),
         Err(error) => Err(ElfCommandError::from(error)),
     }
 }
@@ -109,13 +116,25 @@ fn answers_of<P: Probe>(
     elf: &ElfContainer<'_>,
     prefixes: &[String],
     probe: &P,
-) -> Result<Vec<ProbeAnswer<'static>>, AllocError>
-    ensures { IfOk result (λ answers. AreFirstFoundOf (P.may_find probe.now)
-        (map string_bytes prefixes.now) elf.now.inner (map answer_model answers.items)) }
+) -> Result<Option<Vec<ProbeAnswer<'static>>>, AllocError>
+    ensures { IfOk result (λ found. AreFirstFoundIf (P.may_find probe.now)
+        (map string_bytes prefixes.now) elf.now.inner (answers_model found)) }
 {
+    if has_no_run_path(elf) {
+        return Ok(None);
+    }
     let machine = elf.inner.header().e_machine;
     let questions = elf.inner.elf_shrink_questions(alloc)?;
-    answers_to(alloc, probe, prefixes, machine, questions.as_slice())
+    let answers = answers_to(alloc, probe, prefixes, machine, questions.as_slice())?;
+    Ok(Some(answers))
+}
+
+/// Whether a file has a dynamic list without a run path. Takes no memory.
+fn has_no_run_path(elf: &ElfContainer<'_>) -> bool
+    ensures { result ≡ lists_no_run_path elf.now.inner }
+{
+    let facts = image_facts(elf.inner.builder());
+    facts.has_list && !facts.has_run_path
 }
 
 /// The answers for pairs of a directory and a needed library, in order. A library is looked for until it was found for the

@@ -11,7 +11,8 @@ use elf_commands::ElfCommandError;
 use elf_commands::elf::Probe;
 use std::alloc::Global;
 
-/// The bytes that a plan makes of those of a file: those that `apply` makes of those with shrunk run paths.
+/// The bytes that a plan makes of those of a file: those that `apply` makes of those with shrunk run paths. A file with a dynamic
+/// list but without a run path has nothing to shrink, and goes to `apply` as it is.
 ///
 /// # Errors
 ///
@@ -31,7 +32,7 @@ pub fn made_bytes<P: Probe>(
     applied(alloc, shrunk, plan.words.as_slice())
 }
 
-/// The bytes with shrunk run paths, where these are to shrink.
+/// The bytes with shrunk run paths, where these are to shrink and there are some.
 fn shrink_if<P: Probe>(
     alloc: Global,
     bytes: Vec<u8>,
