@@ -1,3 +1,2 @@
 pub mod EndLaws
 pub mod RunLaws
-pub mod BracketLaws

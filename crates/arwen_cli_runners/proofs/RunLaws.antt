@@ -65,7 +65,7 @@ module _ {W : Type 0} (written : W → Option (List ℕ)) (failed : W → ℕ) (
       before.0 (written now) (subst (λ (left : List (String Global)). AreDone finds prints plan contents (map string_bytes left) (written now) (written now)) (sym (drop_all i paths past)) refl)
 
   -- the ending that tells a fault is that of all files
-  pub ends_by : {E : Type 0} (r : Result Ending E) (path : Text) (now : W) (e : PatchelfError) → IfOk r (IsFaultEnding plan contents path e)
+  pub ends_by : {E : Type 0} (r : Result Ending E) (path : Text) (now : W) (e : PatchelfError) → IfOk r (IsFaultEnding path e)
       → StopsAt written failed finds prints plan contents (map string_bytes paths) first now path e
       → IfOk r (EndsFiles written failed finds prints plan contents (map string_bytes paths) first now)
   ends_by (Ok (Failed line)) path now e is stops = (path, e, stops, is)
@@ -75,7 +75,7 @@ module _ {W : Type 0} (written : W → Option (List ℕ)) (failed : W → ℕ) (
 
 -- what an ending of files says of any line
 pub read_ends : {W : Type 0} {E : Type 0} (written : W → Option (List ℕ)) (failed : W → ℕ) (finds : Finding) (prints : List Print) (plan : PlanMeant) (contents : Text → Option (List ℕ)) (paths : List Text) (first now : W) (r : Result Ending E)
-    → IfOk r (EndsFiles written failed finds prints plan contents paths first now) → IfOk r (EndsReadLine plan contents)
+    → IfOk r (EndsFiles written failed finds prints plan contents paths first now) → IfOk r EndsReadLine
 read_ends written failed finds prints plan contents paths first now (Ok Done) ends = tt
 read_ends written failed finds prints plan contents paths first now (Ok (Failed line)) ends = (ends.0, ends.1, ends.3)
 read_ends written failed finds prints plan contents paths first now (Ok (Told text)) ends = absurd ends

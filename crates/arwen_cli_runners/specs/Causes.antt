@@ -1,22 +1,16 @@
 -- Why files aren't edited, in words.
-use Rattle.std.specs.Prelude.{ℕ, ◌≡◌, ◌++◌, List, [], Bool, true, false, Option, Some, None, codes, ◌⊎◌, ⊤}
+use Rattle.std.specs.Prelude.{ℕ, ◌≡◌, ◌++◌, List, [], Option, Some, None, codes, ⊤}
 use Rattle.byte_store.specs.Known.{IsAll}
-use Rattle.elf_commands.specs.ElfAsked.{elf_asked}
-use Rattle.elf_commands.specs.ElfError.{ElfError}
-use Rattle.elf_commands.specs.ElfError.TheVariants as fault
 use Rattle.elf_commands.specs.Meaning.{apply_moving_elf, elf_command_model}
-use Rattle.elf_apply.specs.declared.error.ModifyCause.TheVariants as cause
 use Rattle.elf_commands.specs.declared.command.ElfCommand.{ElfCommand}
 use Rattle.elf_commands.specs.ElfCommandError.{ElfCommandError}
 use Rattle.elf_commands.specs.ElfCommandError.TheVariants as elf
 use Rattle.macho_commands.specs.declared.error.MachoCommandError.{MachoCommandError}
 use Rattle.macho_commands.specs.declared.error.MachoCommandError.TheVariants as macho
-use Rattle.arwen_cli_facts.specs.Reasons.{IsToldText, TellsWords, elf_words, file_line, macho_words}
+use Rattle.arwen_cli_facts.specs.Reasons.{TellsWords, file_line, macho_words}
 use Rattle.arwen_cli_facts.specs.declared.refusal.Told.{Told}
-use Rattle.arwen_cli_facts.specs.declared.refusal.Told.TheVariants as told
 use Rattle.arwen_cli_install_names.specs.declared.editing.NamesError.{NamesError}
 use Rattle.arwen_cli_install_names.specs.declared.editing.NamesError.TheVariants.{Command, Unlike}
-use Rattle.arwen_cli_overlaps.specs.Overlaps.{TellsOverlap}
 use Rattle.arwen_cli_patchelf.specs.declared.error.PatchelfError.{PatchelfError}
 use Rattle.arwen_cli_patchelf.specs.declared.error.PatchelfError.TheVariants.{Absent}
 use Rattle.arwen_cli_patchelf.specs.declared.error.PatchelfError.TheVariants as patchelf
@@ -71,83 +65,34 @@ AreNameCauses e causes = (inner : Text) × (causes ≡ names_kind e ++ inner)
 
 -- ## What they leave open
 
--- a fault of the bytes of an ELF file, which are refused
-abbrev pub is_of_bytes : ElfError → Bool
-is_of_bytes (fault.Parse broken) = true
-is_of_bytes e = false
+-- what is told of known bytes: what the file is, or else the rule that it breaks. Nothing may be told
+abbrev pub TellsElfKnown : (List ℕ → Option (List ℕ)) → Option (List ℕ) → Option Told → Type 0
+TellsElfKnown words known None = ⊤
+TellsElfKnown words known (Some told) = (file : List ℕ) × IsAll known file × TellsWords (words file) file (Some told)
 
--- what is told of known bytes that are refused: what the file is, or else the rule that it breaks. Nothing may be told
-abbrev pub TellsElfKnown : ElfError → Option (List ℕ) → Option Told → Type 0
-TellsElfKnown e known None = ⊤
-TellsElfKnown e known (Some reason) =
-    (is_of_bytes e ≡ true) × ((file : List ℕ) × IsAll known file × TellsWords (elf_words e file) file (Some reason))
-
--- the same of a Mach-O file: what it is, and never a rule
-abbrev pub TellsMachoFile : NamesError → List ℕ → Told → Type 0
-TellsMachoFile (Command (macho.Macho e)) file (told.Words text) = macho_words e file ≡ Some text.now
-TellsMachoFile e file reason = ⊥
+abbrev pub TellsMachoFile : NamesError → List ℕ → Option Told → Type 0
+TellsMachoFile (Command (macho.Macho e)) file told = TellsWords (macho_words e file) file told
+TellsMachoFile e file told = ⊥
 
 abbrev pub TellsMachoKnown : NamesError → Option (List ℕ) → Option Told → Type 0
 TellsMachoKnown e known None = ⊤
-TellsMachoKnown e known (Some reason) = (file : List ℕ) × IsAll known file × TellsMachoFile e file reason
+TellsMachoKnown e known (Some told) = (file : List ℕ) × IsAll known file × TellsMachoFile e file (Some told)
 
 -- the command that makes the words of a plan, with leave that the dynamic section moves
 abbrev pub IsApplyCommand : PlanMeant → ElfCommand → Type 0
 IsApplyCommand plan command = elf_command_model command ≡ apply_moving_elf [] plan.words
 
--- a text names two blocks of known bytes that stand against that command
-abbrev pub TellsPlanOverlap : PlanMeant → Option (List ℕ) → Text → Type 0
-TellsPlanOverlap plan known text =
-    (file : List ℕ) × IsAll known file × TellsOverlap (elf_asked (apply_moving_elf [] plan.words)) file text
-
--- ## The text in brackets
-
--- it is that of what is told. How a rule is put into words isn't said
-abbrev pub IsReasonText : (Option Told → Type 0) → Text → Type 0
-IsReasonText Tells text = (reason : Told) × Tells (Some reason) × IsToldText reason text
-
--- a fault that two blocks overlap that never move
-abbrev pub is_overlap : ElfError → Bool
-is_overlap (fault.Modify cause.Overlap) = true
-is_overlap e = false
-
--- of an edit of an ELF file that is refused: it names two blocks, or tells of bytes that aren't read
-abbrev pub IsElfText : PlanMeant → Option (List ℕ) → ElfError → Text → Type 0
-IsElfText plan known e text =
-    ((is_overlap e ≡ true) × TellsPlanOverlap plan known text) ⊎ IsReasonText (TellsElfKnown e known) text
-
--- behind another fault there is none
-abbrev pub IsElfFaultText : PlanMeant → Option (List ℕ) → PatchelfError → Text → Type 0
-IsElfFaultText plan known (patchelf.Command (elf.Elf e)) text = IsElfText plan known e text
-IsElfFaultText plan known e text = ⊥
-
-abbrev pub IsElfBracket : PlanMeant → Option (List ℕ) → PatchelfError → Option Text → Type 0
-IsElfBracket plan known e None = ⊤
-IsElfBracket plan known e (Some text) = IsElfFaultText plan known e text
-
-abbrev pub IsFaultBracket : PlanMeant → Option (List ℕ) → ElfError → Option Text → Type 0
-IsFaultBracket plan known e bracket = IsElfBracket plan known (patchelf.Command (elf.Elf e)) bracket
-
--- the same of a Mach-O file
-abbrev pub IsNamesBracket : Option (List ℕ) → NamesError → Option Text → Type 0
-IsNamesBracket known e None = ⊤
-IsNamesBracket known e (Some text) = IsReasonText (TellsMachoKnown e known) text
-
 -- ## Lines
 
 -- The line of a tool that tells why the file at a path isn't edited: the path, the causes, and perhaps a text in brackets.
-pub record IsLineOf (tool path : Text) (AreCauses : Text → Type 0) (IsBracket : Option Text → Type 0) (line : Text) : Type 0 where
+pub record IsLineOf (tool path : Text) (AreCauses : Text → Type 0) (line : Text) : Type 0 where
   pub causes : Text
   pub are : AreCauses causes
   pub bracket : Option Text
-  pub bracket_is : IsBracket bracket
   pub is : line ≡ tool ++ file_line path causes bracket
 
--- of a plan, and of what is known of the bytes of the file
-abbrev pub IsElfFaultLine : PlanMeant → Option (List ℕ) → Text → PatchelfError → Text → Type 0
-IsElfFaultLine plan known path e line =
-    IsLineOf (codes "patchelf: ") path (AreElfCauses e) (IsElfBracket plan known e) line
+abbrev pub IsElfFaultLine : Text → PatchelfError → Text → Type 0
+IsElfFaultLine path e line = IsLineOf (codes "patchelf: ") path (AreElfCauses e) line
 
-abbrev pub IsNamesFaultLine : Option (List ℕ) → Text → NamesError → Text → Type 0
-IsNamesFaultLine known path e line =
-    IsLineOf (codes "install_name_tool: ") path (AreNameCauses e) (IsNamesBracket known e) line
+abbrev pub IsNamesFaultLine : Text → NamesError → Text → Type 0
+IsNamesFaultLine path e line = IsLineOf (codes "install_name_tool: ") path (AreNameCauses e) line

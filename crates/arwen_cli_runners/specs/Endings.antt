@@ -7,7 +7,6 @@ use Rattle.arwen_cli_install_names.specs.declared.line.NameLine.{NameLine}
 use Rattle.arwen_cli_install_names.specs.declared.line.NameLineError.{NameLineError}
 use Rattle.arwen_cli_patchelf.specs.declared.error.PatchelfError.{PatchelfError}
 use Rattle.arwen_cli_patchelf_lines.specs.Line.{ReadsLine, TellsLine}
-use Rattle.arwen_cli_patchelf_lines.specs.Plans.{PlanMeant, plan_model}
 use Rattle.arwen_cli_patchelf_lines.specs.declared.line.Line.{Line}
 use Rattle.arwen_cli_patchelf_lines.specs.declared.line.LineError.{LineError}
 use Rattle.arwen_cli_peers.specs.Options.{Text, help, line_of, version}
@@ -36,23 +35,22 @@ any_error path e = ⊤
 
 -- ## Lines that were read
 
--- all is done of a line of patchelf with this plan, or its ending tells the fault of a file
-abbrev pub EndsReadLine : PlanMeant → (Text → Option (List ℕ)) → Ending → Type 0
-EndsReadLine plan contents Done = ⊤
-EndsReadLine plan contents (Failed line) =
-    (path : Text) × (e : PatchelfError) × IsElfFaultLine plan (contents path) path e (string_bytes line)
-EndsReadLine plan contents (Told text) = ⊥
+-- all is done of a line of patchelf, or its ending tells the fault of a file
+abbrev pub EndsReadLine : Ending → Type 0
+EndsReadLine Done = ⊤
+EndsReadLine (Failed line) = (path : Text) × (e : PatchelfError) × IsElfFaultLine path e (string_bytes line)
+EndsReadLine (Told text) = ⊥
 
 -- the ending tells why the file of a line of install_name_tool isn't edited
 abbrev pub IsNamesEnding : Text → NamesError → Ending → Type 0
-IsNamesEnding path e (Failed line) = IsNamesFaultLine (unknown path) path e (string_bytes line)
+IsNamesEnding path e (Failed line) = IsNamesFaultLine path e (string_bytes line)
 IsNamesEnding path e Done = ⊥
 IsNamesEnding path e (Told text) = ⊥
 
 -- it is edited, or the ending tells why it isn't
 abbrev pub EndsReadNames : Text → Ending → Type 0
 EndsReadNames path Done = ⊤
-EndsReadNames path (Failed line) = (e : NamesError) × IsNamesFaultLine (unknown path) path e (string_bytes line)
+EndsReadNames path (Failed line) = (e : NamesError) × IsNamesFaultLine path e (string_bytes line)
 EndsReadNames path (Told text) = ⊥
 
 -- ## Lines
@@ -61,7 +59,7 @@ EndsReadNames path (Told text) = ⊥
 abbrev pub EndsPatchelf : List Text → Ending → Type 0
 EndsPatchelf words ending =
     ((e : LineError) × (said : Sayings) × TellsLine unknown any_error words e × (said.name.now ≡ codes "patchelf") × EndsUnread said e ending)
-    ⊎ ((line : Line) × ReadsLine unknown words line × EndsReadLine (plan_model line.plan) unknown ending)
+    ⊎ ((line : Line) × ReadsLine unknown words line × EndsReadLine ending)
 
 abbrev pub EndsNames : List Text → Ending → Type 0
 EndsNames words ending =

@@ -48,15 +48,15 @@ StopsAt {W} written failed finds prints plan contents (path ∷ rest) old new at
     × StopsAt written failed finds prints plan contents rest mid new at e)
 
 -- a line ends with one that tells the fault of the file at a path
-abbrev pub IsFaultEnding : PlanMeant → (Text → Option (List ℕ)) → Text → PatchelfError → Ending → Type 0
-IsFaultEnding plan contents path e (Failed line) = IsElfFaultLine plan (contents path) path e (string_bytes line)
-IsFaultEnding plan contents path e Done = ⊥
-IsFaultEnding plan contents path e (Told text) = ⊥
+abbrev pub IsFaultEnding : Text → PatchelfError → Ending → Type 0
+IsFaultEnding path e (Failed line) = IsElfFaultLine path e (string_bytes line)
+IsFaultEnding path e Done = ⊥
+IsFaultEnding path e (Told text) = ⊥
 
 -- how a line ends: all is done of all its files, or a line tells the first of which not all is done
 abbrev pub EndsFiles : {W : Type 0} → (W → Option (List ℕ)) → (W → ℕ) → Finding → List Print → PlanMeant → (Text → Option (List ℕ)) → List Text → W → W → Ending → Type 0
 EndsFiles written failed finds prints plan contents paths old new Done = AreDone finds prints plan contents paths (written old) (written new)
 EndsFiles written failed finds prints plan contents paths old new (Failed line) =
     (path : Text) × (e : PatchelfError) × StopsAt written failed finds prints plan contents paths old new path e
-    × IsElfFaultLine plan (contents path) path e (string_bytes line)
+    × IsElfFaultLine path e (string_bytes line)
 EndsFiles written failed finds prints plan contents paths old new (Told text) = ⊥

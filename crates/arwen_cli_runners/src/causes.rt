@@ -1,9 +1,9 @@
 //! Why files aren't edited, in words.
 ghost use Rattle.std.specs.Prelude.{◌≡◌, IfOk, IfSome, map, string_bytes};
 ghost use Rattle.byte_store.specs.Known.{IsAll};
-ghost use Rattle.arwen_cli_facts.specs.Texts.{text_model};
+ghost use Rattle.arwen_cli_facts.specs.Reasons.{elf_words as elf_told};
 ghost use Rattle.arwen_cli_patchelf_lines.specs.Plans.{plan_model};
-ghost use Rattle.arwen_cli_runners.specs.Causes.{AreElfCauses, AreNameCauses, IsApplyCommand, IsElfBracket, IsElfFaultLine, IsFaultBracket, IsNamesBracket, IsNamesFaultLine, TellsElfKnown, TellsMachoKnown, TellsPlanOverlap, absent_words as absent_told, command_kind as command_kind_of, elf_kind as elf_kind_of, names_kind as names_kind_of};
+ghost use Rattle.arwen_cli_runners.specs.Causes.{AreElfCauses, AreNameCauses, IsApplyCommand, IsElfFaultLine, IsNamesFaultLine, TellsElfKnown, TellsMachoKnown, absent_words as absent_told, command_kind as command_kind_of, elf_kind as elf_kind_of, names_kind as names_kind_of};
 
 use crate::ending::joined;
 use arwen_cli_facts::{
@@ -31,8 +31,7 @@ pub(crate) fn elf_fault_line<'p, O: Opens<'p>>(
     path: &'p str,
     error: &PatchelfError,
 ) -> Result<String, AllocError>
-    ensures { IfOk result (λ line. IsElfFaultLine (plan_model plan.now)
-        (O.contents files.now path.entry.now) path.entry.now error.now (string_bytes line)) }
+    ensures { IfOk result (λ line. IsElfFaultLine path.entry.now error.now (string_bytes line)) }
 {
     let causes = elf_causes(alloc, error)?;
     let bracket = elf_bracket(alloc, files, plan, path, error)?;
@@ -105,46 +104,26 @@ fn elf_bracket<'p, O: Opens<'p>>(
     plan: &Plan,
     path: &'p str,
     error: &PatchelfError,
-) -> Result<Option<String>, AllocError>
-    ensures { IfOk result (λ bracket. IsElfBracket (plan_model plan.now)
-        (O.contents files.now path.entry.now) error.now (text_model bracket)) }
-{
+) -> Result<Option<String>, AllocError> {
+    let PatchelfError::Command(error) = error else {
+        return Ok(None);
+    };
     match error {
-        PatchelfError::Command(ElfCommandError::Elf(fault)) => {
-            fault_bracket(alloc, files, plan, path, fault)
+        ElfCommandError::Elf(ElfError::Modify(ModifyCause::Overlap)) => {
+            Ok(overlap_at(alloc, files, plan, path))
         }
+        ElfCommandError::Elf(fault) => bracket_of(alloc, elf_reason_at(alloc, files, path, fault)),
         _ => Ok(None),
     }
 }
 
-/// The same where an edit is refused, or the file isn't read.
-fn fault_bracket<'p, O: Opens<'p>>(
-    alloc: Global,
-    files: &O,
-    plan: &Plan,
-    path: &'p str,
-    fault: &ElfError,
-) -> Result<Option<String>, AllocError>
-    ensures { IfOk result (λ bracket. IsFaultBracket (plan_model plan.now)
-        (O.contents files.now path.entry.now) fault.now (text_model bracket)) }
-{
-    match fault {
-        ElfError::Modify(ModifyCause::Overlap) => Ok(overlap_at(alloc, files, plan, path)),
-        _ => bracket_of(alloc, elf_reason_at(alloc, files, path, fault)),
-    }
-}
-
 /// What is said of two blocks of the file at a path that stand against the edits of a plan; `None` where nothing is found.
-#[tactic(auto, using(crate::proofs::BracketLaws::plan_overlap))]
 fn overlap_at<'p, O: Opens<'p>>(
     alloc: Global,
     files: &O,
     plan: &Plan,
     path: &'p str,
-) -> Option<String>
-    ensures { IfSome result (λ text. TellsPlanOverlap (plan_model plan.now)
-        (O.contents files.now path.entry.now) (string_bytes text)) }
-{
+) -> Option<String> {
     let bytes = bytes_at(alloc, files, path)?;
     let command = apply_command(alloc, plan).ok()?;
     let text = overlap_text(alloc, bytes.as_slice(), &command);
@@ -173,11 +152,11 @@ fn elf_reason_at<'p, 't, O: Opens<'p>>(
     path: &'p str,
     fault: &ElfError,
 ) -> Option<Told<'t>>
-    ensures { TellsElfKnown fault.now (O.contents files.now path.entry.now) result }
+    ensures { TellsElfKnown (elf_told fault.now) (O.contents files.now path.entry.now) result }
 {
-    let ElfError::Parse(_) = fault else {
+    if !matches!(fault, ElfError::Parse(_)) {
         return None;
-    };
+    }
     let bytes = bytes_at(alloc, files, path)?;
     match elf_words(fault, bytes.as_slice()) {
         Some(words) => Some(Told::Words(words)),
@@ -203,11 +182,10 @@ pub(crate) fn names_fault_line<'p, O: Opens<'p>>(
     path: &'p str,
     error: &NamesError,
 ) -> Result<String, AllocError>
-    ensures { IfOk result (λ line. IsNamesFaultLine (O.contents files.now path.entry.now)
-        path.entry.now error.now (string_bytes line)) }
+    ensures { IfOk result (λ line. IsNamesFaultLine path.entry.now error.now (string_bytes line)) }
 {
     let causes = names_causes(alloc, error)?;
-    let bracket = names_bracket(alloc, files, path, error)?;
+    let bracket = bracket_of(alloc, macho_reason_at(alloc, files, path, error))?;
     let line = file_line(alloc, path, causes.as_str(), &bracket)?;
     joined(alloc, "install_name_tool: ", line.as_str())
 }
@@ -254,19 +232,6 @@ fn names_inner(alloc: Global, error: &NamesError) -> Result<String, AllocError> 
         MachoCommandError::Signing(fault) => format!(in alloc; "{fault}"),
         MachoCommandError::Unfit | MachoCommandError::Memory => Ok(String::new(alloc)),
     }
-}
-
-/// What stands in brackets behind the causes of a fault of the Mach-O file at a path.
-fn names_bracket<'p, O: Opens<'p>>(
-    alloc: Global,
-    files: &O,
-    path: &'p str,
-    error: &NamesError,
-) -> Result<Option<String>, AllocError>
-    ensures { IfOk result (λ bracket. IsNamesBracket (O.contents files.now path.entry.now)
-        error.now (text_model bracket)) }
-{
-    bracket_of(alloc, macho_reason_at(alloc, files, path, error))
 }
 
 /// What the fault of the Mach-O file at a path leaves open; `None` where it isn't one of reading it.

@@ -51,8 +51,7 @@ fn fault_ending<'p, O: Opens<'p>>(
     path: &'p str,
     error: PatchelfError,
 ) -> Result<Ending, AllocError>
-    ensures { IfOk result (IsFaultEnding (plan_model plan.now) (O.contents files.now) path.now
-        error) }
+    ensures { IfOk result (IsFaultEnding path.now error) }
 {
     let text = elf_fault_line(alloc, files, plan, path, &error);
     drop(error);

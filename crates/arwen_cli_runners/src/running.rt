@@ -1,7 +1,6 @@
 //! Lines, run with a runtime.
 ghost use Rattle.std.specs.Prelude.{◌≡◌, ◌⊎◌, IfOk, map};
-ghost use Rattle.arwen_cli_patchelf_lines.specs.Plans.{plan_model};
-ghost use Rattle.arwen_cli_runners.specs.Endings.{EndsLine, EndsNames, EndsPatchelf, EndsReadLine, EndsReadNames, IsNamesEnding, MayBeDone, status_of, unknown};
+ghost use Rattle.arwen_cli_runners.specs.Endings.{EndsLine, EndsNames, EndsPatchelf, EndsReadLine, EndsReadNames, IsNamesEnding, MayBeDone, status_of};
 
 use crate::causes::names_fault_line;
 use crate::elf_lines::files_ending;
@@ -88,7 +87,7 @@ fn patchelf_ending<R: Files + Print + AllocGlobal>(
 
 /// How a line of patchelf ends that was read.
 fn run_patchelf<R: Files + Print + AllocGlobal>(rt: &R, line: Line) -> Result<Ending, AllocError>
-    ensures { IfOk result (EndsReadLine (plan_model line.entry.plan) unknown) }
+    ensures { IfOk result EndsReadLine }
 {
     let ending = run_lent(rt, &line);
     drop(line);
@@ -97,7 +96,7 @@ fn run_patchelf<R: Files + Print + AllocGlobal>(rt: &R, line: Line) -> Result<En
 
 /// The same of a line that is lent.
 fn run_lent<R: Files + Print + AllocGlobal>(rt: &R, line: &Line) -> Result<Ending, AllocError>
-    ensures { IfOk result (EndsReadLine (plan_model line.now.plan) unknown) }
+    ensures { IfOk result EndsReadLine }
 {
     let prints = prints_asked(rt.alloc(), line.asked.as_slice())?;
     let files = LineFiles { files: rt };
