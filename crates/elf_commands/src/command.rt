@@ -17,7 +17,7 @@ use std::alloc::{AllocError, Global};
 use std::slice;
 
 /// What is asked of an ELF file.
-#[derive(Drop)]
+#[derive(Debug, Drop)]
 pub enum ElfCommand {
     /// Add an entry for a debugger.
     AddDebugTag(add_debug_tag::Args),

@@ -71,7 +71,7 @@ fn execute_unprobed<R: Files + Print + Eprint + AllocGlobal>(
 /// Values that are a path alone.
 pub(crate) mod path_alone {
     /// The file of a command.
-    #[derive(Drop)]
+    #[derive(Debug, Drop)]
     pub struct Args {
         /// Path to the file to change, or to read.
         pub path_to_binary: String,
@@ -182,7 +182,7 @@ pub mod add_rpath {
     pub const NAME: &str = "add-rpath";
 
     /// The values of the command.
-    #[derive(Drop)]
+    #[derive(Debug, Drop)]
     pub struct Args {
         /// Directory to add.
         pub new_rpath: String,
@@ -206,7 +206,7 @@ pub mod set_rpath {
     pub const NAME: &str = "set-rpath";
 
     /// The values of the command.
-    #[derive(Drop)]
+    #[derive(Debug, Drop)]
     pub struct Args {
         /// Directories, with a colon between two.
         pub new_rpath: String,
@@ -230,7 +230,7 @@ pub mod set_interpreter {
     pub const NAME: &str = "set-interpreter";
 
     /// The values of the command.
-    #[derive(Drop)]
+    #[derive(Debug, Drop)]
     pub struct Args {
         /// Path of the interpreter.
         pub interpreter: String,
@@ -254,7 +254,7 @@ pub mod set_os_abi {
     pub const NAME: &str = "set-os-abi";
 
     /// The values of the command.
-    #[derive(Drop)]
+    #[derive(Debug, Drop)]
     pub struct Args {
         /// Name of the ABI.
         pub os_abi: String,
@@ -278,7 +278,7 @@ pub mod set_soname {
     pub const NAME: &str = "set-soname";
 
     /// The values of the command.
-    #[derive(Drop)]
+    #[derive(Debug, Drop)]
     pub struct Args {
         /// New name.
         pub soname: String,
@@ -302,7 +302,7 @@ pub mod set_page_size {
     pub const NAME: &str = "set-page-size";
 
     /// The values of the command.
-    #[derive(Drop)]
+    #[derive(Debug, Drop)]
     pub struct Args {
         /// Page size in bytes, a power of two from 1,024 on.
         pub page_size: u32,
@@ -326,7 +326,7 @@ pub mod clear_version_symbol {
     pub const NAME: &str = "clear-symbol-version";
 
     /// The values of the command.
-    #[derive(Drop)]
+    #[derive(Debug, Drop)]
     pub struct Args {
         /// Name of the dynamic symbols.
         pub symbol: String,
@@ -351,7 +351,7 @@ pub mod add_needed {
     pub const NAME: &str = "add-needed";
 
     /// The values of the command.
-    #[derive(Drop)]
+    #[derive(Debug, Drop)]
     pub struct Args {
         /// Path to the file to change.
         pub path_to_binary: String,
@@ -375,7 +375,7 @@ pub mod remove_needed {
     pub const NAME: &str = "remove-needed";
 
     /// The values of the command.
-    #[derive(Drop)]
+    #[derive(Debug, Drop)]
     pub struct Args {
         /// Path to the file to change.
         pub path_to_binary: String,
@@ -399,7 +399,7 @@ pub mod replace_needed {
     pub const NAME: &str = "replace-needed";
 
     /// The values of the command.
-    #[derive(Drop)]
+    #[derive(Debug, Drop)]
     pub struct Args {
         /// Path to the file to change.
         pub path_to_binary: String,
@@ -424,7 +424,7 @@ pub mod replace_library {
     pub const NAME: &str = "replace-library";
 
     /// The values of the command.
-    #[derive(Drop)]
+    #[derive(Debug, Drop)]
     pub struct Args {
         /// Path to the file to change.
         pub path_to_binary: String,
@@ -448,7 +448,7 @@ pub mod rename_dynamic_symbols {
     pub const NAME: &str = "rename-dynamic-symbols";
 
     /// The values of the command.
-    #[derive(Drop)]
+    #[derive(Debug, Drop)]
     pub struct Args {
         /// Path to the file to change.
         pub path_to_binary: String,
@@ -473,7 +473,7 @@ pub mod apply {
     pub const NAME: &str = "apply";
 
     /// The values of the command.
-    #[derive(Drop)]
+    #[derive(Debug, Drop)]
     pub struct Args {
         /// Path to the file to change.
         pub path_to_binary: String,
@@ -497,7 +497,7 @@ pub mod shrink_rpath {
     pub const NAME: &str = "shrink-rpath";
 
     /// The values of the command.
-    #[derive(Drop)]
+    #[derive(Debug, Drop)]
     pub struct Args {
         /// Path to the file to change.
         pub path_to_binary: String,
@@ -524,7 +524,7 @@ pub mod rename_symbols {
     pub const NAME: &str = "rename-symbols";
 
     /// The values of the command.
-    #[derive(Drop)]
+    #[derive(Debug, Drop)]
     pub struct Args {
         /// Path to the file to change.
         pub path_to_binary: String,
@@ -548,7 +548,7 @@ pub mod delete_symbols {
     pub const NAME: &str = "delete-symbols";
 
     /// The values of the command.
-    #[derive(Drop)]
+    #[derive(Debug, Drop)]
     pub struct Args {
         /// Path to the file to change.
         pub path_to_binary: String,
@@ -572,7 +572,7 @@ pub mod rename_sections {
     pub const NAME: &str = "rename-sections";
 
     /// The values of the command.
-    #[derive(Drop)]
+    #[derive(Debug, Drop)]
     pub struct Args {
         /// Path to the file to change.
         pub path_to_binary: String,
@@ -596,7 +596,7 @@ pub mod delete_sections {
     pub const NAME: &str = "delete-sections";
 
     /// The values of the command.
-    #[derive(Drop)]
+    #[derive(Debug, Drop)]
     pub struct Args {
         /// Path to the file to change.
         pub path_to_binary: String,

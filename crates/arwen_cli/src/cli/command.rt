@@ -4,7 +4,7 @@ use elf_commands::ElfCommand;
 use macho_commands::MachoCommand;
 
 /// What is asked for.
-#[derive(Drop)]
+#[derive(Debug, Drop)]
 pub enum Command {
     /// Something of a Mach-O file.
     Macho(MachoCommand),
