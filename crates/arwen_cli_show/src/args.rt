@@ -28,7 +28,7 @@ const USAGE: &str =
     "Usage: arwen show [OPTIONS] <FILE>...\n\nFor more information, try '--help'.\n";
 
 /// What `show` is asked for.
-#[derive(Drop)]
+#[derive(Debug, Drop)]
 pub struct Args {
     /// The paths of the files, in the order in which they are told of.
     pub paths: Vec<String>,

@@ -17,7 +17,7 @@ use std::alloc::{AllocError, Global};
 use std::io::Write;
 
 /// How facts are written.
-#[derive(Clone, Copy)]
+#[derive(Clone, Copy, Debug)]
 pub enum Style {
     /// The file's name with a colon, and a line for each fact: two blanks, a key, its value.
     Lines,
