@@ -1,4 +1,5 @@
 pub mod FlagLaws
 pub mod GroupLaws
 pub mod LineLaws
+pub mod NameLaws
 pub mod Turns

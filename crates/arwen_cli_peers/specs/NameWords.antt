@@ -1,5 +1,5 @@
 -- The words of `apply` that install_name_tool's options ask for, option by option.
-use Rattle.std.specs.Prelude.{◌++◌, Bool, List, [], ◌∷◌, map, codes, if◌then◌else◌, string_bytes}
+use Rattle.std.specs.Prelude.{◌++◌, Bool, List, [], ◌∷◌, map, filter, not, codes, if◌then◌else◌, string_bytes}
 use Rattle.std.specs.List.{list_any}
 use Rattle.std.specs.Str.{bytes_eq}
 use Rattle.arwen_cli_peers.specs.EditWords.{Group, joined}
@@ -55,6 +55,20 @@ abbrev pub with_options : FileNames → List Text → List Asked → List Text
 with_options names words [] = words
 with_options names words (asked ∷ rest) = with_options names (joined words (option_groups names asked)) rest
 
--- the words of `apply` for the edits of a line
+-- ## What a line means
+
+-- the option puts a run path before all others
+abbrev pub is_prepending : Asked → Bool
+is_prepending asked = bytes_eq asked.name (codes "-prepend_rpath")
+
+-- the options of a line that do so, in its order
+abbrev pub prepending_options : List Asked → List Asked
+prepending_options asked = filter is_prepending asked
+
+-- its other options, in its order
+abbrev pub other_options : List Asked → List Asked
+other_options asked = filter (λ one. not (is_prepending one)) asked
+
+-- the words of `apply` for the edits of a line: run paths are put in front before any other option changes or deletes one
 abbrev pub name_words : FileNames → List Asked → List Text
-name_words names asked = with_options names [] asked
+name_words names asked = with_options names [] (prepending_options asked ++ other_options asked)

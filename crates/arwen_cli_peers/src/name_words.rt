@@ -1,7 +1,7 @@
 //! The words of `apply` that install_name_tool's options ask for.
 ghost use Rattle.std.specs.Prelude.{◌≡◌, ◌∷◌, ◌++◌, [], IfOk, OnOk, codes, map, string_bytes};
 ghost use Rattle.arwen_cli_peers.specs.EditWords.{joined, with_group};
-ghost use Rattle.arwen_cli_peers.specs.NameWords.{added, command_of, deleted, is_among as among, name_words as words_meant, names_model, option_groups};
+ghost use Rattle.arwen_cli_peers.specs.NameWords.{added, command_of, deleted, is_among as among, name_words as words_meant, names_model, option_groups, other_options, prepending_options, with_options};
 ghost use Rattle.arwen_cli_peers.specs.Options.{given_model};
 
 use crate::asked::put_copy;
@@ -21,7 +21,9 @@ pub struct Names {
     pub run_paths: Vec<String>,
 }
 
-/// The words of `apply` that options ask for, of a file that has these names. Error: `AllocError`.
+/// The words of `apply` that options ask for, of a file that has these names: those of the options that put a run path in front
+/// come first. Error: `AllocError`.
+#[tactic(auto, using(crate::proofs::NameLaws::with_options_append))]
 pub fn name_words(
     alloc: Global,
     given: &[Given<'_>],
@@ -31,10 +33,47 @@ pub fn name_words(
         ≡ words_meant (names_model names.now) (map given_model given.now)) }
 {
     let mut words = Vec::new(alloc);
-    for one in given {
-        put_option(alloc, &mut words, one, names)?;
-    }
+    put_prepending_options(alloc, &mut words, given, names)?;
+    put_other_options(alloc, &mut words, given, names)?;
     Ok(words)
+}
+
+/// Puts the edits of the options that put a run path in front.
+fn put_prepending_options(
+    alloc: Global,
+    words: &mut Vec<String>,
+    given: &[Given<'_>],
+    names: &Names,
+) -> Result<(), AllocError>
+    ensures { OnOk result (map string_bytes words.new.items ≡ with_options
+        (names_model names.now) (map string_bytes words.old.items)
+        (prepending_options (map given_model given.now))) }
+{
+    for one in given {
+        if one.name == "-prepend_rpath" {
+            put_option(alloc, words, one, names)?;
+        }
+    }
+    Ok(())
+}
+
+/// Puts the edits of the other options.
+fn put_other_options(
+    alloc: Global,
+    words: &mut Vec<String>,
+    given: &[Given<'_>],
+    names: &Names,
+) -> Result<(), AllocError>
+    ensures { OnOk result (map string_bytes words.new.items ≡ with_options
+        (names_model names.now) (map string_bytes words.old.items)
+        (other_options (map given_model given.now))) }
+{
+    for one in given {
+        if one.name != "-prepend_rpath" {
+            put_option(alloc, words, one, names)?;
+        }
+    }
+    Ok(())
 }
 
 /// Puts the edits of an option.

@@ -79,7 +79,8 @@ const INSTALL_NAME_TOOL: Sayings = Sayings {
     help: "Usage: install_name_tool OPTION.. FILE
 
 Edits the names and run paths of a Mach-O file in its place.
-All edits of a line are made, or none, in the order of the line.
+All edits of a line are made, or none: those of -prepend_rpath first, then
+the others, both in the order of the line.
 
 Options:
   -add_rpath PATH      add a run path
