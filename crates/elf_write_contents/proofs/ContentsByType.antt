@@ -16,13 +16,14 @@ use Rattle.elf_format.specs.Options.{list_at}
 use Rattle.elf_format.specs.Places.{occupies_file}
 use Rattle.elf_format.specs.Records.{entry_size}
 use Rattle.elf_format.specs.Rules.{is_opaque_relocation}
+use Rattle.elf_format.proofs.ForCallers.ViewsAgree.{there_if}
 use Rattle.elf_image.specs.Kept.{interpreter_number, is_numbered, kept_of_type}
 use Rattle.elf_layout_plan.specs.Needs.{written_entries}
 use Rattle.elf_layout_plan.specs.Plan.{Layout, resized}
 use Rattle.elf_layout_plan.specs.Sizes.{interpreter_size, new_size, strings_size}
 use Rattle.elf_layout_plan.specs.Texts.{is_table_copied, texts_in_use}
-use Rattle.elf_tables.specs.Strings.{table_length}
-use Rattle.elf_write_spec.specs.Contents.{AreEntriesOf, IsContentByKind, spelled_list}
+use Rattle.elf_tables.specs.Strings.{IsTableOf, PlacesStand, Strings, place_of}
+use Rattle.elf_write_spec.specs.Contents.{AreEntriesOf, IsContentByKind, IsStringTableOf, IsTableMadeOf, spelled_list}
 use Rattle.elf_write_spec.specs.Final.{final}
 use Rattle.elf_tables.specs.Spelled.{spelled_entry}
 use Rattle.elf_tables.proofs.ForCallers.EntryBack.{entries_are_read_back}
@@ -43,6 +44,18 @@ use Rattle.elf_write_contents.specs.Inner.{AreRaw, IsMadeContent}
 use Rattle.elf_write_contents.proofs.OthersCopied.{others_copied}
 use Rattle.elf_write_contents.proofs.ContentsMade.{IsOther, PlacedAt, content_by, content_from, content_plain, is_plain, kind_is, kind_plain, plain_long, relocations_stored, resized_with, stored, typed, typed_size}
 use Rattle.elf_write_contents.proofs.ContentsCopied.{content_long, content_sized, copied_size}
+
+-- ## A table that is made
+
+-- its texts stand where it tells
+table_made : (texts : List (List ℕ)) (table : Strings) → IsTableOf texts table → PlacesStand table → IsTableMadeOf texts table.bytes
+table_made texts table holds stand = record {
+  first = holds.first;
+  stand = λ text among.
+      let (place, is_place) = there_if (place_of table text) (holds.added text among) in
+      (place, stand text place is_place);
+  long = holds.long;
+}
 
 module _ (read image : Image) (plan : Layout) (made : List Made) (raw : List EntryNumbers) (is : IsEditedReady read image) (f : ReadFacts read image)
     (i : ℕ) (at : PlacedAt read image plan f.parts i) (apart : is_numbered (interpreter_number read) (kept_as i at.here.number at.here.section) ≡ false) where
@@ -83,12 +96,12 @@ module _ (read image : Image) (plan : Layout) (made : List Made) (raw : List Ent
 
   -- a table's bytes: those that were read where it is copied, as many as its texts need where it is made anew
   record IsTable (bytes : List ℕ) : Type 0 where
-    copied : is_table_copied read image n ≡ true → bytes ≡ at.here.section.content
+    shown : IsStringTableOf read image (kept_as i n at.here.section) bytes
     long : length at.here.section.content ≡ at.here.section.sh_size → length bytes ≡ strings_size read image (kept_as i at.here.number at.here.section)
 
   copied_table : (bytes : List ℕ) → bytes ≡ content_read image n → is_table_copied read image n ≡ true → IsTable bytes
   copied_table bytes e copied = record {
-    copied = λ _. e ∙ content_as_read;
+    shown = record { copied = λ _. e ∙ content_as_read; anew = λ anew. absurd (false≢true (sym anew ∙ copied)) };
     long = λ long. ap length (e ∙ content_as_read) ∙ long ∙ sym (cond-true (is_table_copied read image n) at.here.section.sh_size _ copied);
   }
 
@@ -101,10 +114,12 @@ module _ (read image : Image) (plan : Layout) (made : List Made) (raw : List Ent
           copied_table m.table.bytes (told.copied (ap (is_table_copied read image) number ∙ copied) ∙ ap (content_read image) number) copied
       by_copied false anew =
           let has = told.anew (ap (is_table_copied read image) number ∙ anew) in
+          let of_texts : IsTableMadeOf (texts_in_use read image n) m.table.bytes =
+          subst (λ (k : ℕ). IsTableMadeOf (texts_in_use read image k) m.table.bytes) number
+          (table_made (texts_in_use read image m.number) m.table has.holds has.stand) in
           record {
-            copied = λ yes. absurd (false≢true (sym anew ∙ yes));
-            long = λ _. has.holds.long ∙ ap (λ k. table_length (texts_in_use read image k)) number
-                ∙ sym (cond-false (is_table_copied read image n) at.here.section.sh_size _ anew);
+            shown = record { copied = λ yes. absurd (false≢true (sym anew ∙ yes)); anew = λ _. of_texts };
+            long = λ _. of_texts.long ∙ sym (cond-false (is_table_copied read image n) at.here.section.sh_size _ anew);
           }
 
   -- a table that isn't told anew is copied
@@ -129,7 +144,7 @@ module _ (read image : Image) (plan : Layout) (made : List Made) (raw : List Ent
             ∙ sym (typed_size read image plan made raw f.parts i at apart SHT_STRTAB e)
             ∙ sym (stored read image plan made raw f.parts i at apart SHT_STRTAB e refl);
         content = content_by read image plan made raw f.parts i at apart (strings_at image made at.here.section.sh_link) (strings_at image made n)
-            SHT_STRTAB e kinds.Strings (λ opaque. refl) table.copied;
+            SHT_STRTAB e kinds.Strings (λ opaque. refl) table.shown;
         strings = λ _. refl;
       }
 

@@ -1,6 +1,6 @@
 -- What the bytes that are written of a section are, by the section's type.
 use Rattle.std.proofs.Common.{◌≡◌, ℕ, List, length, Bool, true, false, refl, sym, ap, ◌∙◌, subst}
-use Rattle.std.specs.Prelude.{IsTrue, ◌==◌, unwrap_or}
+use Rattle.std.specs.Prelude.{◌==◌, unwrap_or}
 use Rattle.std.proofs.lemmas.Bool.{false≢true}
 use Rattle.elf_format.specs.declared.constants.TheConstants.{SHT_DYNAMIC, SHT_DYNSYM, SHT_GNU_HASH, SHT_GNU_VERDEF, SHT_GNU_VERNEED, SHT_GNU_VERSYM, SHT_HASH, SHT_PROGBITS, SHT_STRTAB, SHT_SYMTAB}
 use Rattle.elf_format.specs.declared.section_data.SectionData.{SectionData}
@@ -14,9 +14,8 @@ use Rattle.elf_hashes.specs.Versions.{AreVersionsOf}
 use Rattle.elf_image.specs.Kept.{image_at_read}
 use Rattle.elf_image.specs.Names.{are_names_changed}
 use Rattle.elf_layout_plan.specs.Plan.{resized}
-use Rattle.elf_layout_plan.specs.Texts.{is_table_copied}
 use Rattle.elf_write_spec.specs.Base.{is_interpreter}
-use Rattle.elf_write_spec.specs.Contents.{AreDefinitionsIn, AreEntriesOf, AreNeedsIn, AreSymbolsOf, IsContent, IsContentOfKind, IsGabiContent, IsGnuContent, content_at_number, spelled_list}
+use Rattle.elf_write_spec.specs.Contents.{AreDefinitionsIn, AreEntriesOf, AreNeedsIn, AreSymbolsOf, IsContent, IsContentOfKind, IsGabiContent, IsGnuContent, IsStringTableOf, content_at_number, spelled_list}
 use Rattle.elf_write_spec.specs.Final.{final}
 use Rattle.elf_write_spec.specs.Output.{IsPlannedOutput, Output}
 use Rattle.elf_write_spec.specs.WrittenFile.{is_kind_copied}
@@ -69,8 +68,7 @@ module _ (w : Output) (is : IsPlannedOutput w) (f : ReadFacts w) (i : ℕ) (at :
       × (at.bytes ≡ spelled_list w.image.form w.raw (length at.bytes))
   dynamic_shown h = shows SHT_DYNAMIC h refl kinds.Dynamic refl
 
-  pub strings_shown : at.old.sh_type ≡ SHT_STRTAB → IsTrue (is_table_copied (image_at_read w.image) w.image at.number)
-      → at.bytes ≡ at.section.content
+  pub strings_shown : at.old.sh_type ≡ SHT_STRTAB → IsStringTableOf (image_at_read w.image) w.image (kept_as i at.number at.section) at.bytes
   strings_shown h = shows SHT_STRTAB h refl kinds.Strings refl
 
   pub dynamic_symbols_shown : at.old.sh_type ≡ SHT_DYNSYM

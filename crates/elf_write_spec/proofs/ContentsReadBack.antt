@@ -83,7 +83,7 @@ module _ (w : Output) (is : IsPlannedOutput w) (f : ReadFacts w) where
   pub strings_content : (i : ℕ) (at : SectionAt w f.parts i) → at.old.sh_type ≡ SHT_STRTAB
       → is_table_copied (image_at_read w.image) w.image at.number ≡ true
       → at.bytes ≡ at.section.content
-  strings_content i at e copied = content_by i at SHT_STRTAB e (λ h. omega (arith, h)) kinds.Strings (λ opaque. refl) copied
+  strings_content i at e = (content_by i at SHT_STRTAB e (λ h. omega (arith, h)) kinds.Strings (λ opaque. refl)).copied
 
   pub symbols_content : (i : ℕ) (at : SectionAt w f.parts i) → at.old.sh_type ≡ SHT_SYMTAB
       → AreSymbolsOf (content_at_number w.image w.contents at.section.sh_link) (final (image_at_read w.image) w.image).symbols

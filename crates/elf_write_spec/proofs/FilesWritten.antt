@@ -7,7 +7,7 @@ use Rattle.std.proofs.lemmas.List.{length-map}
 use Rattle.std.proofs.lemmas.Option.{none-some, same_Some, slice_get_within}
 use Rattle.patch_bytes.specs.Memory.{memory_of}
 use Rattle.patch_bytes.specs.Number.{field}
-use Rattle.elf_format.specs.declared.constants.TheConstants.{SHT_DYNAMIC, SHT_GNU_VERSYM, SHT_NOBITS, SHT_NULL}
+use Rattle.elf_format.specs.declared.constants.TheConstants.{SHT_DYNAMIC, SHT_GNU_VERSYM, SHT_NOBITS, SHT_NULL, SHT_STRTAB}
 use Rattle.elf_format.specs.declared.records.EntryNumbers.{EntryNumbers}
 use Rattle.elf_format.specs.declared.records.SectionHeader.{SectionHeader}
 use Rattle.elf_format.specs.Dynamic.{entries_at}
@@ -35,7 +35,7 @@ use Rattle.elf_layout_plan.proofs.ForCallers.ApartSections.{kept-at}
 use Rattle.elf_layout_plan.proofs.ForCallers.PlacedLists.{all-at, filter-from, slice_get-at}
 use Rattle.elf_write_spec.specs.ReadBack.{rewritten_section}
 use Rattle.elf_write_spec.specs.Base.{has_position, is_interpreter}
-use Rattle.elf_write_spec.specs.Contents.{AreDefinitionsSpelled, AreNeedsSpelled, IsContentByKind, content_at_number}
+use Rattle.elf_write_spec.specs.Contents.{AreDefinitionsSpelled, AreNeedsSpelled, IsContentByKind, IsStringTableOf, content_at_number}
 use Rattle.elf_write_spec.specs.Final.{final, is_static_renumbered}
 use Rattle.elf_write_spec.specs.KeptSymbols.{AreRelocationsKept}
 use Rattle.elf_write_spec.specs.Laws.{section_table}
@@ -44,7 +44,7 @@ use Rattle.elf_write_spec.specs.Stays.{AreHashesSeen, IsSeenAt, written_places}
 use Rattle.elf_write_spec.specs.Output.{IsPlannedOutput, Output, written_bytes}
 use Rattle.elf_write_spec.specs.WrittenFile.{AreVersionsSpelled, EachSection, IsNumberedList, IsSectionKept, IsWrittenByPlan, IsWrittenOf, is_copied, is_fixed, is_kind_copied, is_loaded_with_bytes, places_in, unchanged_for}
 use Rattle.elf_write_spec.proofs.ApartInFile.{plans_are_apart_in_file}
-use Rattle.elf_write_spec.proofs.ContentFacts.{definitions_shown, needs_shown, versions_shown}
+use Rattle.elf_write_spec.proofs.ContentFacts.{definitions_shown, needs_shown, strings_shown, versions_shown}
 use Rattle.elf_write_spec.proofs.DataSeen.{written_files_keep_data, written_files_keep_hashes, written_files_keep_others}
 use Rattle.elf_write_spec.proofs.FileParts.{other_than, written_files_have_parts}
 use Rattle.elf_write_spec.proofs.NamesFound.{written_files_find_names}
@@ -330,6 +330,9 @@ files_are_written are_apart show_notes w is =
           → AreVersionsOf w.image.form (final (image_at_read w.image) w.image).dynamic_symbols now.content)
           (λ i at type. versions_shown w is f i at (sym (ap (λ (x : ImageSection). x.sh_type) at.of_old.fields) ∙ type));
       versions = each_section w is f (AreVersionsSpelled (rewritten_image w)) (versions_at w is f);
+      strings = each_section w is f
+          (λ s now. s.section.sh_type ≡ SHT_STRTAB → IsStringTableOf (image_at_read w.image) w.image s now.content)
+          (λ i at type. strings_shown w is f i at (sym (ap (λ (x : ImageSection). x.sh_type) at.of_old.fields) ∙ type));
       apart = record {
         memory =
             ap (λ (ps : List Place). all_apart (header_addresses r w.plan

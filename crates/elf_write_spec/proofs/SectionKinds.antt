@@ -126,7 +126,7 @@ module _ (r : Resized) (plan : Layout) (raw : List EntryNumbers) (strings : List
       by_test false true changed against same apart h = absurd (false≢true h)
       by_test false false changed against same apart h = ap (λ (c : Bool). changed && c) (apart refl) ∙ either changed
   copied_by u told kinds.Note h content = content
-  copied_by u told kinds.Strings h content = content (told.table h)
+  copied_by u told kinds.Strings h content = content.copied (told.table h)
   copied_by u told kinds.Symbols h content = content.copied (told.symbols h)
   copied_by u told kinds.DynamicSymbols h content = absurd (false≢true h)
   copied_by u told kinds.Hash h content = subst (λ (b : Bool). elim b as (λ _. Type 0) [

@@ -1,5 +1,5 @@
 -- The bytes of each section that is written.
-use Rattle.std.specs.Prelude.{ℕ, ◌-◌, ◌*◌, ◌≤◌, ◌≡◌, List, [], ◌∷◌, ◌++◌, length, map, replicate, true, ◌&&◌, Option, Some, IsTrue, ◌==◌, if◌then◌else◌, unwrap_or}
+use Rattle.std.specs.Prelude.{ℕ, ◌-◌, ◌*◌, ◌≤◌, ◌≡◌, List, [], ◌∷◌, ◌++◌, length, map, replicate, Contains, true, false, ◌&&◌, Option, Some, IsTrue, ◌==◌, if◌then◌else◌, unwrap_or}
 use Rattle.std.specs.List.{flat_map, slice_get}
 use Rattle.patch_bytes.specs.Memory.{◌>>=◌, memory_of}
 use Rattle.patch_bytes.specs.declared.number.ByteOrder2.{ByteOrder2}
@@ -17,7 +17,7 @@ use Rattle.elf_format.specs.Records.{entry_size, symbol_size, symbols_in}
 use Rattle.elf_format.specs.Versions.{VersionDefinition, VersionNeeds}
 use Rattle.elf_format.specs.Views.{NamedSymbol, Table, defined_versions, needed_versions}
 use Rattle.elf_layout_plan.specs.Spelled.{spelled_entry}
-use Rattle.elf_layout_plan.specs.Strings.{PlacesStand, Strings}
+use Rattle.elf_layout_plan.specs.Strings.{PlacesStand, StandsAt, Strings, table_length}
 use Rattle.elf_layout_plan.specs.VersionRecords.{definition_table, has_definition_texts, has_needs_texts, needs_table, placed_definition, placed_needs}
 use Rattle.elf_format.specs.Hashes.{GnuHeader, gnu_header, word_of_table}
 use Rattle.elf_hashes.specs.declared.gnu.GnuSizes.{GnuSizes}
@@ -32,7 +32,7 @@ use Rattle.elf_image.specs.Staying.{table_number}
 use Rattle.elf_image.specs.Kept.{KeptSection, dynamic_strings_number, kept_at_number, kept_of_type}
 use Rattle.elf_layout_plan.specs.Memory.{Resized}
 use Rattle.elf_layout_plan.specs.Plan.{Layout}
-use Rattle.elf_layout_plan.specs.Texts.{is_table_copied}
+use Rattle.elf_layout_plan.specs.Texts.{is_table_copied, texts_in_use}
 use Rattle.elf_write_spec.specs.Base.{is_interpreter}
 use Rattle.elf_write_spec.specs.Final.{are_symbols_kept, are_versions_kept, final, is_static_renumbered, new_dynamic_symbols, new_static_symbols}
 use Rattle.elf_write_spec.specs.Headers.{Reads}
@@ -85,6 +85,25 @@ AreEntriesOf r plan strings (e ∷ es) (x ∷ xs) = IsEntryOf r plan strings e x
 -- the entries end to end, zeros behind them, which begin with a DT_NULL
 unfoldable pub spelled_list : Form → List EntryNumbers → ℕ → List ℕ
 spelled_list form raw size = flat_map (spelled_entry form) raw ++ replicate (size - length raw * entry_size form) 0
+
+-- ## String tables (gABI, String Table)
+
+-- The bytes are a string table that is made of these texts.
+pub record IsTableMadeOf (texts : List (List ℕ)) (bytes : List ℕ) : Type 0 where
+  -- the first byte is a NUL, so the text at 0 is empty
+  pub first : slice_get bytes 0 ≡ Some 0
+  -- each text stands somewhere, a NUL behind it
+  pub stand : (text : List ℕ) → Contains texts text → (place : ℕ) × StandsAt bytes place text
+  -- no byte more than they need, where texts share their ends
+  pub long : length bytes ≡ table_length texts
+
+-- The bytes of a string table: those that were read, or a table that is made anew.
+pub record IsStringTableOf (read image : Image) (s : KeptSection) (bytes : List ℕ) : Type 0 where
+  -- as it was read, where no text of it was added or changed
+  pub copied : IsTrue (is_table_copied read image s.number) → bytes ≡ s.section.content
+  -- else made of the texts that the image uses of it
+  pub anew : is_table_copied read image s.number ≡ false
+      → IsTableMadeOf (texts_in_use read image s.number) bytes
 
 -- ## Symbols (gABI, Symbol Table)
 
@@ -201,11 +220,11 @@ abbrev pub content_at_number : Image → List (List ℕ) → ℕ → List ℕ
 content_at_number image contents number = unwrap_or (kept_at_number number image >>= λ s. slice_get contents s.position) []
 
 -- What the bytes of a section show that is of a kind. The list of entries and its numbers are handed in, and the bytes of the string
--- table that the section links to. A string table is as it was read where no text of it was added or changed.
+-- table that the section links to.
 abbrev pub IsContentOfKind : Resized → Layout → List EntryNumbers → List ℕ → KeptSection → List ℕ → SectionData → Type 0
 IsContentOfKind r plan raw strings s bytes kind = elim kind [
   | kinds.Dynamic ↦ AreEntriesOf r plan strings (list_at (λ es. es) (final r.read r.image).entries) raw × (bytes ≡ spelled_list r.image.form raw (length bytes))
-  | kinds.Strings ↦ IsTrue (is_table_copied r.read r.image s.number) → bytes ≡ s.section.content
+  | kinds.Strings ↦ IsStringTableOf r.read r.image s bytes
   | kinds.Symbols ↦ AreStaticSymbolsIn r s strings bytes
   | kinds.DynamicSymbols ↦ AreSymbolsOf strings (final r.read r.image).dynamic_symbols (symbols_in r.image.form bytes)
   | kinds.GnuVerdef ↦ AreDefinitionsIn r.image strings bytes

@@ -3,7 +3,7 @@ use Rattle.std.specs.Prelude.{ℕ, ◌*◌, ◌≡◌, List, [], ◌∷◌, ◌+
 use Rattle.std.specs.List.{list_all, slice_get}
 use Rattle.patch_bytes.specs.Memory.{memory_of}
 use Rattle.patch_bytes.specs.Number.{field}
-use Rattle.elf_format.specs.declared.constants.TheConstants.{DT_SYMTAB, SHT_DYNAMIC, SHT_DYNSYM, SHT_GNU_VERDEF, SHT_GNU_VERNEED, SHT_GNU_VERSYM, SHT_SYMTAB}
+use Rattle.elf_format.specs.declared.constants.TheConstants.{DT_SYMTAB, SHT_DYNAMIC, SHT_DYNSYM, SHT_GNU_VERDEF, SHT_GNU_VERNEED, SHT_GNU_VERSYM, SHT_STRTAB, SHT_SYMTAB}
 use Rattle.elf_format.specs.declared.range.Range.{Range}
 use Rattle.elf_format.specs.declared.records.EntryNumbers.{EntryNumbers}
 use Rattle.elf_format.specs.declared.section_data.SectionData.{SectionData}
@@ -27,7 +27,7 @@ use Rattle.elf_layout_plan.specs.Texts.{is_table_copied}
 use Rattle.elf_image.specs.Kept.{KeptSection, kept_of_type, kept_sections, place_at_read}
 use Rattle.elf_write_spec.specs.ReadBack.{HasWrittenParts, IsReadBack}
 use Rattle.elf_write_spec.specs.Base.{is_interpreter}
-use Rattle.elf_write_spec.specs.Contents.{AreDefinitionsSpelled, AreNeedsSpelled}
+use Rattle.elf_write_spec.specs.Contents.{AreDefinitionsSpelled, AreNeedsSpelled, IsStringTableOf}
 use Rattle.elf_write_spec.specs.Final.{are_symbols_kept, are_versions_kept, final, final_view, is_static_renumbered, new_number}
 use Rattle.elf_write_spec.specs.Headers.{written_info}
 use Rattle.elf_write_spec.specs.KeptSegments.{AreSegmentsKept}
@@ -246,6 +246,9 @@ pub record IsWrittenOf (image : Image) (file : List ℕ) : Type 0 where
       s.section.sh_type ≡ SHT_GNU_VERSYM → AreVersionsOf again.form again.dynamic_symbols now.content)
   -- the bytes of the version sections, with revisions, hashes and links, which no reader of the lists looks at
   pub versions : EachSection image again (AreVersionsSpelled again)
+  -- a string table that is made anew begins with a NUL, and holds each text that is in use with no byte more than these need
+  pub strings : EachSection image again (λ s now.
+      s.section.sh_type ≡ SHT_STRTAB → IsStringTableOf read image s now.content)
   pub apart : IsEverythingApart again
   -- the plan by which it is written
   pub by_plan : (plan : Layout) × IsPlan (resized image) plan × IsWrittenByPlan image plan file
