@@ -282,12 +282,25 @@ def elfs():
         "elf-object": elf(little64, kind=1),
         "elf-core": elf(little64, kind=4),
         "elf-loader": elf(little64, [(DT_SONAME, b"ld-tiny.so.1"), (DT_RUNPATH, b"/opt/lib"), (DT_NEEDED, b"libc.so.6")]),
+        "elf-read-only": altered(small(little64), PT_LOAD, 4, -2),
+        "elf-loose-headers": loose(little64),
         "elf-bad-class": b"\x7fELF\x03" + full[5:],
         "elf-bad-text": full.replace(b"/old\0", b"/old!"),
         "elf-moved-list": altered(full, 2, 16, 8),
         "elf-short-interpreter": altered(full, 3, 32, -1),
         "elf-no-strtab": full.replace(struct.pack("<Q", DT_STRTAB), struct.pack("<Q", DT_STRSZ), 1),
     }
+
+
+def loose(form):
+    """A fixed program whose loaded segment begins behind the program header table, in the same page."""
+    parts = [(b".text", SHT_PROGBITS, SHF_ALLOC, bytes(16), 16, 0, 0)]
+    names, named = string_table([b".text", b".shstrtab"])
+    parts.append((b".shstrtab", SHT_STRTAB, 0, names, 1, 0, 0))
+    made = laid(form, parts, named, (1, None, 0, 2))
+    for field, by in ((8, 128), (16, 128), (32, -128), (40, -128)):
+        made = altered(made, PT_LOAD, field, by)
+    return made
 
 
 def others():

@@ -137,10 +137,13 @@ three_more text a b last x y z first second third =
     ∙ ap (λ l. l ++ z) (second ∙ ap (λ l. l ++ y) first ∙ append_assoc text x y)
     ∙ append_assoc text (x ++ y) z
 
--- four texts, one behind another
-pub four_more : (text a b c last x y z w : List ℕ) → a ≡ text ++ x → b ≡ a ++ y → c ≡ b ++ z → last ≡ c ++ w → last ≡ text ++ (x ++ y ++ z ++ w)
-four_more text a b c last x y z w first second third fourth =
-    fourth ∙ ap (λ l. l ++ w) (three_more text a b c x y z first second third) ∙ append_assoc text (x ++ y ++ z) w
+-- six texts, one behind another
+pub six_more : (text a b c d e last x y z w u v : List ℕ) → a ≡ text ++ x → b ≡ a ++ y → c ≡ b ++ z → d ≡ c ++ w → e ≡ d ++ u → last ≡ e ++ v
+    → last ≡ text ++ (x ++ y ++ z ++ w ++ u ++ v)
+six_more text a b c d e last x y z w u v first second third fourth fifth sixth =
+    three_more c d e last w u v fourth fifth sixth
+    ∙ ap (λ l. l ++ (w ++ u ++ v)) (three_more text a b c x y z first second third)
+    ∙ simp append_assoc
 
 -- seven texts, one behind another
 pub seven_more : (text a b last : List ℕ) → (x y f g h i j : List ℕ) → a ≡ text ++ x → b ≡ a ++ y → last ≡ b ++ f ++ g ++ h ++ i ++ j

@@ -54,6 +54,12 @@ old_numbers_line = codes "relocations that can't be read name symbols by their o
 abbrev pub old_place_line : Words
 old_place_line = codes "it loads itself, and looks for its dynamic section at the old place, from which that moved"
 
+abbrev pub read_only_line : Words
+read_only_line = codes "its dynamic section can't be written to: a loader that fills in DT_DEBUG ends there"
+
+abbrev pub lost_headers_line : Words
+lost_headers_line = codes "its program headers lie in no loaded segment: a program that looks for them in memory may not find them any more"
+
 -- what edits found
 abbrev pub finding_lines : Words → Findings → Words
 finding_lines file found =
@@ -71,6 +77,8 @@ left_lines file notes =
     line_if notes.finds_more file more_finds_line ++ line_if notes.loses_addresses file lost_addresses_line
     ++ line_if notes.keeps_numbers file old_numbers_line
     ++ line_if notes.seeks_old_place file old_place_line
+    ++ line_if notes.refuses_debug file read_only_line
+    ++ line_if notes.loses_headers file lost_headers_line
 
 abbrev pub lines_of : Words → ElfNotes → Words
 lines_of file notes =

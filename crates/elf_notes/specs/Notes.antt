@@ -1,19 +1,24 @@
 -- What a user should know of edits of an image.
-use Rattle.std.specs.Prelude.{ℕ, ◌≡◌, ◌==◌, ◌&&◌, ◌||◌, ◌⊎◌, ◌++◌, List, [], ◌∷◌, Bool, Option, Some, true, false, not, drop, map, filter, find, is_none, take, bit_and, nat_eq, unwrap_or}
+use Rattle.std.specs.Prelude.{ℕ, ◌≡◌, ◌*◌, ◌/◌, ◌==◌, ◌&&◌, ◌||◌, ◌⊎◌, ◌++◌, List, [], ◌∷◌, Bool, Option, Some, true, false, not, drop, map, filter, find, is_none, length, take, bit_and, nat_eq, unwrap_or}
 use Rattle.std.specs.List.{flat_map, list_any, starts_with}
 use Rattle.std.specs.Str.{bytes_eq}
 use Rattle.std.specs.Option.{option_map}
 use Rattle.elf_edits.specs.Batch.{left_by, run}
-use Rattle.elf_edits.specs.Edit.{AddNeeded, AddRunPath, ClearSymbolVersion, DeleteNeeded, Edit, RenameDynamicSymbols, ReplaceLibrary, ReplaceNeeded, SetRunPath, SetSoname}
+use Rattle.elf_edits.specs.Edit.{AddDebugEntry, AddNeeded, AddRunPath, ClearSymbolVersion, DeleteNeeded, Edit, RenameDynamicSymbols, ReplaceLibrary, ReplaceNeeded, SetRunPath, SetSoname}
 use Rattle.elf_edits.specs.Entries.{needed_names}
 use Rattle.elf_edits.specs.Symbols.{names_behind_first}
 use Rattle.elf_edits.specs.Texts.{has_some, is_among}
 use Rattle.elf_format.specs.Dynamic.{Entry, Integer, Text}
-use Rattle.elf_format.specs.Image.{Image, ImageSection}
+use Rattle.elf_format.specs.Image.{Image, ImageSection, lists_tag}
 use Rattle.elf_format.specs.Options.{is_one_of, is_some_and}
+use Rattle.elf_format.specs.Placement.{file_part, memory_part}
+use Rattle.elf_format.specs.Places.{is_set}
+use Rattle.elf_format.specs.Ranges.{lies_in, range}
+use Rattle.elf_format.specs.declared.range.Range.{Range}
+use Rattle.elf_format.specs.Records.{segment_header_size}
 use Rattle.elf_format.specs.Views.{NamedSymbol}
-use Rattle.elf_format.specs.declared.constants.TheConstants.{DT_FLAGS_1, DT_SONAME, ET_DYN, PT_DYNAMIC, SHT_GNU_HASH, SHT_REL, SHT_RELA}
-use Rattle.elf_format.specs.File.{segment_of_type}
+use Rattle.elf_format.specs.declared.constants.TheConstants.{DT_DEBUG, DT_FLAGS_1, DT_SONAME, ET_DYN, ET_EXEC, PT_DYNAMIC, SHT_GNU_HASH, SHT_REL, SHT_RELA}
+use Rattle.elf_format.specs.File.{is_loaded, segment_of_type}
 use Rattle.elf_format.specs.Form.{fixed_field}
 use Rattle.elf_format.specs.declared.form.Form.{Form}
 use Rattle.elf_format.specs.declared.records.SegmentHeader.{SegmentHeader}
@@ -24,6 +29,7 @@ use Rattle.elf_image.specs.Renumbering.{is_opaque}
 use Rattle.elf_layout_plan.specs.Needs.{written_needs}
 use Rattle.elf_layout_plan.specs.Plan.{IsOverlapping, IsPlan, IsTooLarge, Layout, resized}
 use Rattle.elf_layout_plan.specs.Refusals.{do_sizes_of_image_fit}
+use Rattle.elf_layout_plan.specs.declared.constants.TheConstants.{PF_W}
 use Rattle.elf_notes.specs.declared.findings.Findings.{Findings}
 use Rattle.elf_notes.specs.declared.notes.ElfNotes.{ElfNotes}
 
@@ -115,6 +121,11 @@ sets_run_path (SetRunPath text) = true
 sets_run_path (AddRunPath texts) = true
 sets_run_path _ = false
 
+-- an edit that adds DT_DEBUG
+abbrev pub adds_debug : Edit → Bool
+adds_debug AddDebugEntry = true
+adds_debug _ = false
+
 -- ## What edits find
 
 -- the libraries that entries needed, or that an edit put there, and that an edit removes or renames
@@ -176,6 +187,27 @@ gives_other_name entry _ = false
 abbrev pub rename_loader : List Edit → List Entry → Bool
 rename_loader edits entries = is_some_and (λ e. list_any (gives_other_name e) edits) (find says_loader entries)
 
+-- ## Programs that look for their program headers
+
+-- the program header table (gABI, ELF Header, e_phoff, e_phentsize and e_phnum)
+abbrev pub header_table : Image → Range
+header_table image = range image.header.e_phoff (length image.segments * segment_header_size image.form)
+
+-- a loaded segment has a range of the file
+abbrev pub has_range : Range → SegmentHeader → Bool
+has_range part p = is_loaded p && lies_in part (file_part p)
+
+-- A loaded segment's bytes begin in the page of 4 KiB that has an offset of the file: whole pages are loaded.
+abbrev pub shares_page : ℕ → SegmentHeader → Bool
+shares_page offset p = is_loaded p && not (p.p_filesz == 0) && p.p_offset / 4096 == offset / 4096
+
+-- A fixed program without an interpreter may go by its program headers, which it finds in memory. No loaded segment has all of
+-- them, so that they are written behind the last one; but they are loaded, by the page in which such a segment begins.
+abbrev pub has_loose_headers : Image → Bool
+has_loose_headers image =
+    image.header.e_type == ET_EXEC && is_none image.interpreter
+    && not (list_any (has_range (header_table image)) image.segments) && list_any (shares_page image.header.e_phoff) image.segments
+
 -- ## What edits leave
 
 -- versions are needed still of a library that was dropped, and that no entry needs any more
@@ -218,19 +250,46 @@ is_dynamic_moved edited plan = are_apart (dynamic_address plan.segments) (dynami
 abbrev pub may_seek_old_place : Image → Bool
 may_seek_old_place edited = loads_itself edited && edited.moves_dynamic
 
+-- ## What a plan decides
+
 -- there is no plan, so that nothing is written
 abbrev pub IsUnplanned : Image → Type 0
 IsUnplanned edited =
     (do_sizes_of_image_fit edited ≡ false) ⊎ (IsTooLarge (resized edited) ⊎ IsOverlapping (resized edited))
 
--- the edited image has a plan that moves its dynamic section, or leaves it
-abbrev pub IsPlannedTo : Image → Bool → Type 0
-IsPlannedTo edited moves = (plan : Layout) × IsPlan (resized edited) plan × (is_dynamic_moved edited plan ≡ moves)
+-- the edited image has a plan that passes a test, or fails it
+abbrev pub IsPlannedSo : (Layout → Bool) → Image → Bool → Type 0
+IsPlannedSo test edited passes = (plan : Layout) × IsPlan (resized edited) plan × (test plan ≡ passes)
 
--- It is told just where the section moves, of a file that loads itself. An image has no more than one plan.
+-- It is told just where it may be so, and the plan passes the test. An image has no more than one plan.
+abbrev pub TellsPlanned : Bool → (Layout → Bool) → Image → Bool → Type 0
+TellsPlanned may_be test edited true = (may_be ≡ true) × IsPlannedSo test edited true
+TellsPlanned may_be test edited false = (may_be ≡ false) ⊎ (IsPlannedSo test edited false ⊎ IsUnplanned edited)
+
+-- of a file that loads itself, and whose dynamic section moves
 abbrev pub TellsOldPlace : Image → Bool → Type 0
-TellsOldPlace edited true = (may_seek_old_place edited ≡ true) × IsPlannedTo edited true
-TellsOldPlace edited false = (may_seek_old_place edited ≡ false) ⊎ (IsPlannedTo edited false ⊎ IsUnplanned edited)
+TellsOldPlace edited told = TellsPlanned (may_seek_old_place edited) (is_dynamic_moved edited) edited told
+
+-- ## Files whose dynamic section can't be written to
+
+-- a loaded segment that mayn't be written has an address (gABI, Program Header, PF_W)
+abbrev pub is_read_only_at : ℕ → SegmentHeader → Bool
+is_read_only_at address p = is_loaded p && not (is_set PF_W p.p_flags) && lies_in (range address 1) (memory_part p)
+
+-- the dynamic section lies in such a segment
+abbrev pub is_dynamic_read_only : List SegmentHeader → Bool
+is_dynamic_read_only segments = is_some_and (λ address. list_any (is_read_only_at address) segments) (dynamic_address segments)
+
+-- DT_DEBUG was asked for and is there, in a section that can't be written to where it is. With leave that may move, into memory
+-- that can.
+abbrev pub may_refuse_debug : Bool → Image → Bool
+may_refuse_debug asked edited =
+    asked && lists_tag DT_DEBUG (entries_of edited) && is_dynamic_read_only edited.segments
+
+-- of a file to which an edit adds DT_DEBUG, into which loaders write an address, and whose dynamic section can't be written to
+abbrev pub TellsReadOnly : Bool → Image → Bool → Type 0
+TellsReadOnly asked edited told =
+    TellsPlanned (may_refuse_debug asked edited) (λ plan. is_dynamic_read_only plan.segments) edited told
 
 -- ## All of them
 
@@ -244,6 +303,8 @@ pub record AreFindings (edits : List Edit) (image : Image) (found : Findings) : 
   pub own_loader : found.is_own_loader ≡ (loads_itself image && list_any sets_run_path edits)
   pub other_name : found.renames_loader ≡ (loads_itself image && rename_loader edits (entries_of image))
   pub no_list : found.lacks_list ≡ is_none image.entries
+  pub debug : found.adds_debug ≡ list_any adds_debug edits
+  pub loose_headers : found.has_loose_headers ≡ has_loose_headers image
 
 -- What an edited image shows beside these.
 pub record AreLeft (edited : Image) (notes : ElfNotes) : Type 0 where
@@ -252,6 +313,8 @@ pub record AreLeft (edited : Image) (notes : ElfNotes) : Type 0 where
   pub lost_addresses : notes.loses_addresses ≡ (is_hashed_anew edited && list_any stands_in (drop 1 edited.dynamic_symbols))
   pub old_numbers : notes.keeps_numbers ≡ (is_hashed_anew edited && list_any is_unread edited.sections)
   pub old_place : TellsOldPlace edited notes.seeks_old_place
+  pub read_only : TellsReadOnly notes.found.adds_debug edited notes.refuses_debug
+  pub lost_headers : notes.loses_headers ≡ (notes.found.has_loose_headers && edited.changed)
 
 -- Notes of edits of an image: of what they find in it, and of the image after them.
 pub record AreNotes (edits : List Edit) (image : Image) (notes : ElfNotes) : Type 0 where

@@ -4,8 +4,9 @@ ghost use Rattle.std.specs.List.{list_any};
 ghost use Rattle.elf_edits.specs.EditModel.{edit_model};
 ghost use Rattle.elf_edits.specs.Texts.{is_among as among};
 ghost use Rattle.elf_image.specs.ImageModel.{entry_model};
-ghost use Rattle.elf_notes.specs.Notes.{AreFindings, asked, entries_asked, entries_of as entries_shown, gives_other_name as is_other_name_given, has_no_names as lacks_names, has_no_pairs as lacks_pairs, has_other_text as is_other_text, is_loader_name as names_loader, is_unmatched, libraries_asked, loads_itself as is_self_loading, recorded_of, rename_loader as do_rename_loader, says_loader as tells_loader, says_pie as tells_pie, sets_run_path as gives_run_path, unmatched_symbols};
+ghost use Rattle.elf_notes.specs.Notes.{AreFindings, adds_debug as puts_debug, asked, entries_asked, entries_of as entries_shown, gives_other_name as is_other_name_given, has_no_names as lacks_names, has_no_pairs as lacks_pairs, has_other_text as is_other_text, is_loader_name as names_loader, is_unmatched, libraries_asked, loads_itself as is_self_loading, recorded_of, rename_loader as do_rename_loader, says_loader as tells_loader, says_pie as tells_pie, sets_run_path as gives_run_path, unmatched_symbols};
 
+use crate::headers::has_loose_headers;
 use crate::names::{
     entries_asked_in, joined, libraries_asked_in, needed_of, put_in, recorded_in, symbols_asked_in,
     symbols_put_in,
@@ -42,6 +43,11 @@ pub struct Findings<'e> {
     pub renames_loader: bool,
     /// Whether the file has no dynamic list, so that a loader finds no name and no run path in it.
     pub lacks_list: bool,
+    /// Whether an edit adds DT_DEBUG.
+    pub adds_debug: bool,
+    /// Whether the file is a program that may look for its program headers in memory, where they are by the page of a loaded
+    /// segment alone: none has all of them.
+    pub has_loose_headers: bool,
 }
 
 /// What edits look for in an image, and find, before they are made. Error: `AllocError`.
@@ -66,6 +72,8 @@ pub fn findings_of<'e>(
         is_own_loader: gives_itself_a_run_path(image, edits),
         renames_loader: gives_loader_another_name(image, edits),
         lacks_list: image.dynamic_data().is_none(),
+        adds_debug: add_debug(edits),
+        has_loose_headers: has_loose_headers(image),
     })
 }
 
@@ -310,6 +318,28 @@ fn is_of_run_path(edit: &ElfEdit) -> bool
     match edit {
         ElfEdit::SetRpath(_) => true,
         ElfEdit::AddRpath(_) => true,
+        _ => false,
+    }
+}
+
+/// Whether one of some edits adds DT_DEBUG.
+fn add_debug(edits: &[ElfEdit]) -> bool
+    ensures { result ≡ list_any puts_debug (map edit_model edits.now) }
+{
+    for edit in edits {
+        if adds_debug(edit) {
+            return true;
+        }
+    }
+    false
+}
+
+/// Whether an edit adds DT_DEBUG.
+fn adds_debug(edit: &ElfEdit) -> bool
+    ensures { result ≡ puts_debug (edit_model edit.now) }
+{
+    match edit {
+        ElfEdit::AddDebugTag => true,
         _ => false,
     }
 }

@@ -2,10 +2,12 @@
 #![tactic(auto)]
 
 pub mod findings;
+mod headers;
 mod lines;
 mod names;
 pub mod notes;
 mod old_place;
+mod read_only;
 mod sets;
 mod symbols;
 

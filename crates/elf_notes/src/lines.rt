@@ -82,6 +82,12 @@ fn put_left(
     let old_place =
         "it loads itself, and looks for its dynamic section at the old place, from which that moved";
     put_if(alloc, text, notes.seeks_old_place, file, old_place)?;
+    let read_only =
+        "its dynamic section can't be written to: a loader that fills in DT_DEBUG ends there";
+    put_if(alloc, text, notes.refuses_debug, file, read_only)?;
+    let lost_headers =
+        "its program headers lie in no loaded segment: a program that looks for them in memory may not find them any more";
+    put_if(alloc, text, notes.loses_headers, file, lost_headers)?;
     Ok(())
 }
 

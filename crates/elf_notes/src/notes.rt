@@ -15,6 +15,7 @@ ghost use Rattle.elf_notes.specs.Notes.{AreLeft, is_hashed_anew as are_tables_ma
 use crate::findings::{Findings, entries_of};
 use crate::names::needed_of;
 use crate::old_place::seeks_old_place;
+use crate::read_only::refuses_debug;
 use crate::sets::{is_in, set_of, take_out};
 use elf_format::constants::{SHT_GNU_HASH, SHT_REL, SHT_RELA};
 use elf_format::numbers::word_at;
@@ -41,11 +42,15 @@ pub struct ElfNotes<'a> {
     pub keeps_numbers: bool,
     /// Whether the file loads itself and its dynamic section moves, so that it looks for the section at the old place.
     pub seeks_old_place: bool,
+    /// Whether an edit adds DT_DEBUG, and the dynamic section can't be written to where the file that is written has it.
+    pub refuses_debug: bool,
+    /// Whether the file is a program that may look for its program headers in memory, and they move to where none is loaded.
+    pub loses_headers: bool,
 }
 
 /// What a user should know of edits that were made, by what they found and the image after them. Where a library was
 /// dropped and the edits changed dynamic symbols, the image's source is read again; where the dynamic section of a file that loads
-/// itself may move, the image is laid out. Error: `AllocError`.
+/// itself may move, or DT_DEBUG was added to one that can't be written to, the image is laid out. Error: `AllocError`.
 pub fn notes_of<'a>(
     alloc: Global,
     found: Findings<'a>,
@@ -56,6 +61,8 @@ pub fn notes_of<'a>(
 {
     let old_needs = old_needs_of(alloc, edited, &found.dropped)?;
     let seeks_old_place = seeks_old_place(alloc, edited)?;
+    let refuses_debug = refuses_debug(alloc, edited, found.adds_debug)?;
+    let loses_headers = found.has_loose_headers && edited.changed();
     let is_hashed_anew = is_hashed_anew(edited);
     Ok(ElfNotes {
         found,
@@ -64,6 +71,8 @@ pub fn notes_of<'a>(
         loses_addresses: is_hashed_anew && has_addresses(edited),
         keeps_numbers: is_hashed_anew && are_unread(edited.sections()),
         seeks_old_place,
+        refuses_debug,
+        loses_headers,
     })
 }
 

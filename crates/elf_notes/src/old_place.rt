@@ -54,7 +54,7 @@ fn are_apart(one: Option<u64>, other: Option<u64>) -> bool
 }
 
 /// The address of the dynamic section by the program headers of a plan.
-fn planned_address(segments: &[SegmentHeader]) -> Option<u64>
+pub(crate) fn planned_address(segments: &[SegmentHeader]) -> Option<u64>
     ensures { result ≡ dynamic_address segments.now }
 {
     match segment_of_type(segments, PT_DYNAMIC) {
@@ -64,7 +64,7 @@ fn planned_address(segments: &[SegmentHeader]) -> Option<u64>
 }
 
 /// The address of the dynamic section by the program headers of an image.
-fn address_in(segments: &[Segment<'_>]) -> Option<u64>
+pub(crate) fn address_in(segments: &[Segment<'_>]) -> Option<u64>
     ensures { result ≡ dynamic_address (map segment_model segments.now) }
 {
     for segment in segments {

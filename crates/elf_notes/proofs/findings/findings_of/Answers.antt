@@ -32,4 +32,6 @@ returns c =
       own_loader = c.gives_itself_a_run_path.ensures;
       other_name = c.gives_loader_another_name.ensures;
       no_list = none_made (λ list. map entry_model list.now) c.dynamic_data.result c.is_none.result c.is_none.ensures ∙ ap is_none c.dynamic_data.ensures;
+      debug = c.add_debug.ensures;
+      loose_headers = c.has_loose_headers.ensures;
     }

@@ -1,0 +1,9 @@
+use Rattle.std.proofs.Common.{◌≡◌, drop, map}
+use Rattle.std.specs.List.{list_any}
+use Rattle.elf_image.specs.ImageModel.{segment_model}
+use Rattle.elf_notes.specs.Notes.{is_read_only_at}
+use Rattle.elf_notes.proofs.read_only.is_any_read_only.Given as goal
+
+-- none so far does
+abbrev pub invariant-loop-segment : goal.invariant-loop-segment
+invariant-loop-segment l = list_any (is_read_only_at l.address) (map segment_model (drop l.segment-index l.segments)) ≡ list_any (is_read_only_at l.address) (map segment_model l.segments)
