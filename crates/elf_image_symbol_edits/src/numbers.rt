@@ -9,7 +9,6 @@ ghost use Rattle.elf_image_symbol_edits.specs.Rising.{numbers_there};
 use std::alloc::{AllocError, Global};
 
 // Puts the numbers from 0 on, as many as that, in place of what is there. There is room for them.
-#[tactic(auto, unfolding(elf_format::specs::Image::counted))]
 fn fill(numbers: &mut Vec<usize>, count: usize)
     requires { count ≤ vec_capacity numbers.old }
     ensures items { numbers.new.items ≡ counted count }
