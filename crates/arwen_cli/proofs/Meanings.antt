@@ -4,10 +4,10 @@ use Rattle.std.specs.Prelude.{option_and_then, option_map, slice_get}
 use Rattle.std.proofs.lemmas.List.{length-map}
 use Rattle.clap.specs.Lexer.{usize_max}
 use Rattle.command_words.proofs.ForCallers.{meant_with-named, named-map}
-use Rattle.elf_commands.specs.Meaning.{ElfMeaning, Reading, elf_lines}
+use Rattle.arwen_cli_overlaps.specs.Meaning.{ElfMeaning, Reading, elf_lines}
 use Rattle.macho_commands.specs.Meaning.{MachoMeaning, macho_lines}
-use Rattle.elf_commands.specs.ElfEngine.{ElfMayFail as ElfCommandMayFail}
-use Rattle.elf_commands.specs.ElfCommandError.TheVariants as elf_error
+use Rattle.arwen_cli_overlaps.specs.ElfEngine.{ElfMayFail as ElfCommandMayFail}
+use Rattle.arwen_cli_overlaps.specs.ElfCommandError.TheVariants as elf_error
 use Rattle.macho_commands.specs.declared.error.MachoCommandError.TheVariants as macho_error
 use Rattle.arwen_cli_show.specs.Args.{ShowMeaning, meaning_of_args}
 use Rattle.arwen_cli_show.specs.declared.command.ShowCommandError.TheVariants as show_error

@@ -12,8 +12,8 @@ use Rattle.command_words.specs.declared.edits.EditsError.{EditsError}
 use Rattle.command_words.specs.declared.edits.EditsError.TheVariants as edits
 use Rattle.macho_commands.specs.declared.error.MachoCommandError.{MachoCommandError}
 use Rattle.macho_commands.specs.declared.error.MachoCommandError.TheVariants as macho_command
-use Rattle.elf_commands.specs.ElfCommandError.{ElfCommandError}
-use Rattle.elf_commands.specs.ElfCommandError.TheVariants as elf_command
+use Rattle.arwen_cli_overlaps.specs.ElfCommandError.{ElfCommandError}
+use Rattle.arwen_cli_overlaps.specs.ElfCommandError.TheVariants as elf_command
 use Rattle.arwen_cli_show.specs.declared.command.ShowCommandError.{ShowCommandError}
 use Rattle.arwen_cli_show.specs.declared.command.ShowCommandError.TheVariants as show_command
 use Rattle.arwen_cli.specs.declared.cli.error.ArwenError.{ArwenError}

@@ -4,9 +4,9 @@ use Rattle.std.specs.Prelude.{if◌then◌else◌, option_and_then, option_map}
 use Rattle.std.specs.List.{list_any}
 use Rattle.std.specs.Result.{result_ok}
 use Rattle.std.specs.Str.{bytes_eq}
-use Rattle.elf_commands.specs.ElfEngine.{ElfMayFail as CommandMayFail}
-use Rattle.elf_commands.specs.Meaning.{ElfMeaning, Reading, elf_lines}
-use Rattle.elf_commands.specs.ElfCommandError.{ElfCommandError}
+use Rattle.arwen_cli_overlaps.specs.ElfEngine.{ElfMayFail as CommandMayFail}
+use Rattle.arwen_cli_overlaps.specs.Meaning.{ElfMeaning, Reading, elf_lines}
+use Rattle.arwen_cli_overlaps.specs.ElfCommandError.{ElfCommandError}
 use Rattle.macho_commands.specs.Engine.{MayFail}
 use Rattle.macho_commands.specs.Meaning.{MachoMeaning, macho_lines}
 use Rattle.macho_commands.specs.declared.error.MachoCommandError.{MachoCommandError}

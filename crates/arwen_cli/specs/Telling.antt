@@ -8,8 +8,8 @@ use Rattle.byte_store.specs.Known.{IsAll}
 use Rattle.command_words.specs.Rows.{Text}
 use Rattle.elf_apply.specs.declared.error.ElfError.TheVariants as elf
 use Rattle.elf_apply.specs.declared.error.ModifyCause.TheVariants as cause
-use Rattle.elf_commands.specs.ElfAsked.{elf_asked}
-use Rattle.elf_commands.specs.Meaning.{ElfMeaning, elf_file_of}
+use Rattle.arwen_cli_overlaps.specs.ElfAsked.{elf_asked}
+use Rattle.arwen_cli_overlaps.specs.Meaning.{ElfMeaning, elf_file_of}
 use Rattle.file_kinds.specs.Reasons.{Words}
 use Rattle.macho_commands.specs.Meaning.{file_of as macho_file_of}
 use Rattle.macho_edits.specs.declared.error.MachoError.TheVariants as macho

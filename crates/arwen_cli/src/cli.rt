@@ -4,7 +4,7 @@ ghost use Rattle.arwen_cli.specs.Line.{ElfMayFail, LineMayFail, MachoMayFail, Me
 ghost use Rattle.arwen_cli.specs.Meaning.{shown};
 ghost use Rattle.arwen_cli_peers.specs.Lines.{notes_asked};
 ghost use Rattle.arwen_cli.specs.Signing.{signing_asked};
-ghost use Rattle.elf_commands.specs.Meaning.{elf_command_model};
+ghost use Rattle.arwen_cli_overlaps.specs.Meaning.{elf_command_model};
 ghost use Rattle.macho_commands.specs.Meaning.{macho_command_model};
 
 mod command;
@@ -23,11 +23,11 @@ pub use command_words::{
     EditFault, EditKind, EditsError, FileBytes, KeyValueError, MOST_BYTES, NotDone, Notes,
     RegularBytes, ValueError, parse_key_val,
 };
-pub use elf_commands::elf::{
+pub use arwen_cli_overlaps::commands::elf::{
     FileProbe, Probe, edit_path, edit_store, print_path, print_store, run_elf, shrink_path,
     shrink_store,
 };
-pub use elf_commands::{
+pub use arwen_cli_overlaps::commands::{
     ElfCommand, ElfCommandError, GroupEdit, SymbolTexts, elf, parse_elf_edits, plain_edits,
 };
 pub use error::{ArwenError, FaultLine};

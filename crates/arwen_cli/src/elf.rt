@@ -1,6 +1,6 @@
 //! ELF files: the container that the program works with, and what goes with it.
 pub use elf_apply::error::Result;
-pub use elf_commands::files::{
+pub use arwen_cli_overlaps::commands::files::{
     BuilderExt, CountedWrite, ElfBatchError, ElfContainer, ElfEdit, ElfError, ModifyCause, Needed,
     ProbeAnswer, Reason, Removed, Sink, Task, Writer, changes, container, machine_of, rewriter,
     write_all_counted,

@@ -5,3 +5,4 @@
 mod overlap;
 
 pub use crate::overlap::overlap_text;
+pub use elf_commands as commands;

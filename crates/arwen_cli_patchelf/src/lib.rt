@@ -16,3 +16,4 @@ pub use crate::making::made_bytes;
 pub use crate::patching::{patch_path, patch_store};
 pub use crate::printing::{Print, print_path, prints_asked};
 pub use crate::writing::{NotWritten, write_path, write_store};
+pub use elf_commands as commands;

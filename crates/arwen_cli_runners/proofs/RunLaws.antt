@@ -3,7 +3,7 @@ use Rattle.std.proofs.Common.{◌≡◌, ◌<◌, ◌≤◌, ◌+◌, ℕ, List,
 use Rattle.std.specs.Prelude.{IfOk, String, string_bytes}
 use Rattle.std.specs.declared.alloc.Global.{Global}
 use Rattle.std.proofs.lemmas.List.{drop_all, drop_more}
-use Rattle.elf_commands.specs.Shrinking.{Finding}
+use Rattle.arwen_cli_patchelf.specs.Shrinking.{Finding}
 use Rattle.arwen_cli_peers.specs.Options.{Text}
 use Rattle.arwen_cli_patchelf.specs.Made.{AsksNothing, IsAppliedTo, IsShrunkTo}
 use Rattle.arwen_cli_patchelf.specs.Patched.{HoldsKnown, IsPatchedAt}

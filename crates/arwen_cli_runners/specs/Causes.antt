@@ -1,10 +1,10 @@
 -- Why files aren't edited, in words.
 use Rattle.std.specs.Prelude.{ℕ, ◌≡◌, ◌++◌, List, [], Option, Some, None, codes, ⊤}
 use Rattle.byte_store.specs.Known.{IsAll}
-use Rattle.elf_commands.specs.Meaning.{apply_moving_elf, elf_command_model}
-use Rattle.elf_commands.specs.declared.command.ElfCommand.{ElfCommand}
-use Rattle.elf_commands.specs.ElfCommandError.{ElfCommandError}
-use Rattle.elf_commands.specs.ElfCommandError.TheVariants as elf
+use Rattle.arwen_cli_patchelf.specs.Meaning.{apply_moving_elf, elf_command_model}
+use Rattle.arwen_cli_patchelf.specs.ElfCommand.{ElfCommand}
+use Rattle.arwen_cli_patchelf.specs.ElfCommandError.{ElfCommandError}
+use Rattle.arwen_cli_patchelf.specs.ElfCommandError.TheVariants as elf
 use Rattle.macho_commands.specs.declared.error.MachoCommandError.{MachoCommandError}
 use Rattle.macho_commands.specs.declared.error.MachoCommandError.TheVariants as macho
 use Rattle.arwen_cli_facts.specs.Reasons.{TellsWords, file_line, macho_words}

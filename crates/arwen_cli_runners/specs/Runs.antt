@@ -1,6 +1,6 @@
 -- What lines of patchelf do to their files, where these are known.
 use Rattle.std.specs.Prelude.{ℕ, ◌≡◌, ◌⊎◌, List, [], ◌∷◌, Option, Some, string_bytes}
-use Rattle.elf_commands.specs.Shrinking.{Finding}
+use Rattle.arwen_cli_patchelf.specs.Shrinking.{Finding}
 use Rattle.arwen_cli_peers.specs.Options.{Text}
 use Rattle.arwen_cli_patchelf.specs.Made.{IsMadeOf}
 use Rattle.arwen_cli_patchelf.specs.Patched.{TellsPlanPath}

@@ -16,9 +16,9 @@ use arwen_cli_patchelf_lines::Plan;
 use arwen_macho::macho::MachoError;
 use byte_store::{Opens, load_whole};
 use command_words::MOST_BYTES;
-use elf_commands::elf::apply;
-use elf_commands::files::{ElfError, ModifyCause};
-use elf_commands::{ElfCommand, ElfCommandError};
+use arwen_cli_patchelf::commands::elf::apply;
+use arwen_cli_patchelf::commands::files::{ElfError, ModifyCause};
+use arwen_cli_patchelf::commands::{ElfCommand, ElfCommandError};
 use macho_commands::MachoCommandError;
 use std::alloc::{AllocError, Global};
 

@@ -387,7 +387,6 @@ pub(crate) fn uninitialized_clear(
 
 /// Checks the rules on where segments and sections stand, or answers the fault of the first one that is broken;
 /// `Memory` where there isn't enough memory.
-#[tactic(auto, unfolding(elf_format::specs::Rules::checked))]
 pub fn check_placement(alloc: Global, parts: &Headers<'_>) -> Result<(), ElfFault>
     ensures { Passes (parts_model parts.now) result
         (checked placement_rules (parts_model parts.now)) }

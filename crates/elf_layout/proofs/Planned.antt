@@ -8,10 +8,10 @@ use Rattle.elf_layout_plan.specs.Plan.{IsOverlapping, IsPlan, IsTooLarge, Layout
 use Rattle.elf_layout_plan.specs.Refusals.{AreNoSizes, IsNoPlan, IsStuckAsked}
 use Rattle.elf_layout_plan.specs.Rounds.{IsAsked}
 use Rattle.elf_layout_plan.proofs.ForCallers.RoundLaws.{rounds_are_asked, rounds_end}
-use Rattle.elf_layout_moves.specs.Inner.{IsResized}
+use Rattle.elf_layout_segments.specs.Inner.{IsResized}
 use Rattle.elf_layout_segments.specs.AnchorPositions.{IsNoEnd}
 use Rattle.elf_layout.specs.Inner.{HasNoPlan}
-use Rattle.elf_layout_moves.proofs.ForCallers.{resized_is}
+use Rattle.elf_layout_segments.proofs.ForCallers.{resized_is}
 
 pub plan_is : (r : Resized) → IsResized r → (plan : Layout) → IsPlan r plan → IsPlan (resized r.image) plan
 plan_is r is plan p = let P : Resized → Type 0 = λ s. IsPlan s plan in subst P (sym (resized_is r is)) p

@@ -11,7 +11,7 @@ use Rattle.elf_image.specs.Kept.{kept_from, kept_sections}
 use Rattle.elf_layout_plan.specs.Memory.{Resized, SizedSection, sized_from, sized_sections}
 use Rattle.elf_layout_plan.specs.Sizes.{new_sizes}
 use Rattle.elf_layout.specs.declared.sized.SectionNumbers.{SectionNumbers}
-use Rattle.elf_layout_moves.specs.Inner.{IsResized}
+use Rattle.elf_layout_segments.specs.Inner.{IsResized}
 use Rattle.elf_layout.specs.Numbers.{numbers_of}
 use Rattle.elf_image.proofs.ForCallers.KeptSections.{as_many, length-kept}
 

@@ -34,7 +34,7 @@ use Rattle.elf_layout_plan.specs.Written.{Target, address_for, behind_last_load,
 use Rattle.elf_layout.specs.declared.headings.Headings.{Headings}
 use Rattle.elf_layout.specs.declared.targets.TargetAt.{TargetAt}
 use Rattle.elf_layout.specs.declared.targets.Targets.{Targets}
-use Rattle.elf_layout_moves.specs.Inner.{AreMarks}
+use Rattle.elf_layout_segments.specs.Inner.{AreMarks}
 use Rattle.elf_layout_segments.specs.AnchorPositions.{AnchorPosition, notes, anchor_position}
 use Rattle.elf_layout.specs.Inner.{IsPastField, StandsTooFar}
 use Rattle.elf_layout_segments.specs.declared.starts.Begin.{Begin}

@@ -12,7 +12,7 @@ use crate::sized::section_count;
 use crate::slots::{At, place_sections, round_up};
 use elf_format::constants::PT_LOAD;
 use elf_format::records::SegmentHeader;
-use elf_layout_moves::resizing::Resizing;
+use elf_layout_segments::resizing::Resizing;
 use elf_layout_plan::LayoutFault;
 use std::alloc::{AllocError, Global};
 

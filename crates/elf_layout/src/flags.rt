@@ -6,7 +6,7 @@ ghost use Rattle.elf_layout.specs.Slots.{with_flag};
 
 use crate::sized::sized_at;
 use crate::slots::flags_for;
-use elf_layout_moves::resizing::Resizing;
+use elf_layout_segments::resizing::Resizing;
 use std::alloc::{AllocError, Global};
 
 // The flags that the section at a position needs.

@@ -6,7 +6,7 @@ ghost use Rattle.elf_layout_plan.specs.Plan.{IsPlan, most_added, resized};
 ghost use Rattle.elf_layout_plan.specs.PlanModel.{parts_model};
 ghost use Rattle.elf_layout_plan.specs.Refusals.{IsNoPlan, IsStuckAsked, do_sizes_of_image_fit, sizes_of_image};
 ghost use Rattle.elf_layout_plan.specs.Rounds.{IsAsked};
-ghost use Rattle.elf_layout_moves.specs.Inner.{AreMarks};
+ghost use Rattle.elf_layout_segments.specs.Inner.{AreMarks};
 ghost use Rattle.elf_layout_segments.specs.AnchorPositions.{AreAnchors, IsEnded};
 ghost use Rattle.elf_layout.specs.Inner.{AreParts, HasNoPlan, IsStanding, StandsTooFar};
 ghost use Rattle.elf_layout.specs.Promises.{IsPromised};
@@ -16,8 +16,8 @@ use crate::limits::do_parts_fit;
 use crate::standing::{Standing, find_places};
 use crate::written::written_segments;
 use elf_image::Builder;
-use elf_layout_moves::marks::marks_of;
-use elf_layout_moves::resizing::Resizing;
+use elf_layout_segments::marks::marks_of;
+use elf_layout_segments::resizing::Resizing;
 use elf_layout_plan::laws::{
     fixed_sections_stay, plans_are_apart, plans_are_one, plans_are_placed, plans_show_notes,
 };

@@ -13,7 +13,7 @@ use crate::sized::{SectionNumbers, section_count, sized_at};
 use elf_format::constants::{PT_LOAD, SHF_ALLOC, SHF_TLS, SHT_NOBITS, SHT_NULL};
 use elf_format::machine::default_page_size;
 use elf_image::{Segment, loads_end};
-use elf_layout_moves::resizing::Resizing;
+use elf_layout_segments::resizing::Resizing;
 
 // Whether a section has bytes of the file in memory.
 fn is_stored_there(section: SectionNumbers) -> bool

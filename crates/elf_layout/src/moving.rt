@@ -7,7 +7,7 @@ ghost use Rattle.elf_layout_plan.specs.Rounds.{IsAsked};
 
 use crate::layout::{plan_from, promised};
 use elf_image::Builder;
-pub use elf_layout_moves::find_move_sections;
+pub use elf_layout_segments::find_move_sections;
 use elf_layout_plan::{LayoutFault, Plan, read_source};
 use std::alloc::Global;
 

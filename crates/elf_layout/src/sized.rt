@@ -3,7 +3,7 @@ ghost use Rattle.std.specs.Prelude.{◌≡◌, ◌<◌, length, option_map, slic
 ghost use Rattle.elf_layout_plan.specs.Memory.{sized_sections};
 ghost use Rattle.elf_layout.specs.Numbers.{numbers_of};
 
-use elf_layout_moves::resizing::Resizing;
+use elf_layout_segments::resizing::Resizing;
 
 // The numbers of a section that its place hangs on, and its new size.
 #[derive(Clone, Copy)]

@@ -1,6 +1,6 @@
 ghost use Rattle.std.specs.Prelude.{◌≡◌, IfErr, IfOk};
 ghost use Rattle.elf_layout_plan.specs.Added.{header_count, kept_end as end_of_kept};
-ghost use Rattle.elf_layout_moves.specs.Inner.{AreMarks};
+ghost use Rattle.elf_layout_segments.specs.Inner.{AreMarks};
 ghost use Rattle.elf_layout.specs.Inner.{IsStanding, StandsTooFar};
 ghost use Rattle.elf_layout.specs.Unloaded.{IsBehind, IsBehindFault};
 
@@ -10,7 +10,7 @@ use crate::slots::At;
 use crate::tables::{next_table, place_table};
 use crate::unloaded::place_all_unloaded;
 use elf_format::records::SegmentHeader;
-use elf_layout_moves::resizing::Resizing;
+use elf_layout_segments::resizing::Resizing;
 use elf_layout_plan::{LayoutFault, SectionPlace};
 use std::alloc::Global;
 

@@ -8,7 +8,7 @@ ghost use Rattle.elf_layout.specs.Unloaded.{has_all, start_behind, table_behind}
 
 use elf_format::constants::PT_LOAD;
 use elf_image::{Builder, Segment};
-use elf_layout_moves::resizing::Resizing;
+use elf_layout_segments::resizing::Resizing;
 use patch_bytes::Wide;
 
 // A table's offset, and the end of all that stands before what comes next.

@@ -9,7 +9,7 @@ ghost use Rattle.elf_layout.specs.Targets.{AreBegins, AreNotes, begins_model, sp
 use crate::reaches::{Reach, Reaches, reach_at, reach_over, reaches_of};
 use elf_format::constants::SHF_ALLOC;
 use elf_format::range::Range;
-use elf_layout_moves::resizing::Resizing;
+use elf_layout_segments::resizing::Resizing;
 use elf_layout_plan::SectionPlace;
 use elf_layout_segments::anchors::AnchorAt;
 use std::alloc::{AllocError, Global};

@@ -8,7 +8,7 @@ ghost use Rattle.elf_layout.specs.Numbers.{numbers_of};
 use crate::sized::{SectionNumbers, section_count, section_here};
 use crate::slots::round_up;
 use elf_format::constants::{SHF_ALLOC, SHT_NOBITS, SHT_NULL};
-use elf_layout_moves::resizing::Resizing;
+use elf_layout_segments::resizing::Resizing;
 use elf_layout_plan::LayoutFault;
 use std::alloc::Global;
 

@@ -9,3 +9,5 @@ pub mod AnchorLists
 pub mod Sections
 pub mod Leasts
 pub mod Forecasts
+pub use Rattle.elf_layout_moves.specs.Inner
+pub use Rattle.elf_layout_moves.specs.Seen

@@ -14,3 +14,5 @@ pub mod rounds;
 mod sections;
 mod splits;
 pub mod starts;
+
+pub use elf_layout_moves::{find_move_sections, marks, resizing};

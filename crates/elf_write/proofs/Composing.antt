@@ -21,10 +21,10 @@ use Rattle.elf_layout_plan.specs.Memory.{Resized}
 use Rattle.elf_layout_plan.specs.Plan.{resized}
 use Rattle.elf_layout_plan.proofs.ForCallers.ApartBlocks.{or-false}
 use Rattle.elf_layout_plan.proofs.ForCallers.ApartLists.{Each}
-use Rattle.elf_write_spec.specs.Base.{base, base_byte, does_byte_stay, has_position, old_places}
-use Rattle.elf_write_spec.specs.Output.{IsPlannedOutput, Output, patches, written_bytes}
-use Rattle.elf_write_spec.proofs.ForCallers.Laying.{AreApart, StandsIn, range_of, value-at}
-use Rattle.elf_write_spec.proofs.ForCallers.Patches.{keeps_base, length-written, patches_stand}
+use Rattle.elf_write_contents.specs.Base.{base, base_byte, does_byte_stay, has_position, old_places}
+use Rattle.elf_write_contents.specs.Output.{IsPlannedOutput, Output, patches, written_bytes}
+use Rattle.elf_write_contents.proofs.ForCallers.Laying.{AreApart, StandsIn, range_of, value-at}
+use Rattle.elf_write_contents.proofs.ForCallers.Patches.{keeps_base, length-written, patches_stand}
 use Rattle.elf_write.specs.LayingSteps.{is_in_load}
 use Rattle.elf_write.specs.PieceSteps.{IsOverBase, load_spans, span_in}
 use Rattle.elf_format.proofs.ForCallers.{apart-before, apart-behind}

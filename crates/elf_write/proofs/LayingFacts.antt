@@ -6,8 +6,8 @@ use Rattle.std.proofs.lemmas.List.{get_or-append-add, get_or-drop, get_or-take, 
 use borrow.Rule.Slice.PartMut.{put_mid}
 use Rattle.elf_format.specs.declared.range.Range.{Range}
 use Rattle.elf_format.specs.Ranges.{end_of}
-use Rattle.elf_write_spec.specs.Base.{has_position}
-use Rattle.elf_write_spec.proofs.ForCallers.BaseBytes.{has_at, has_from}
+use Rattle.elf_write_contents.specs.Base.{has_position}
+use Rattle.elf_write_contents.proofs.ForCallers.BaseBytes.{has_at, has_from}
 use Rattle.elf_write.specs.LayingSteps.{IsCleared, TakesFrom}
 
 -- ## A part of bytes that was written over

@@ -20,11 +20,11 @@ use Rattle.elf_image.specs.declared.section.Section.{Section}
 use Rattle.elf_image.specs.Kept.{KeptSection, image_at_read, interpreter_number, kept_sections, place_at_read}
 use Rattle.elf_layout_plan.specs.Memory.{Resized}
 use Rattle.elf_layout_plan.specs.Plan.{resized}
-use Rattle.elf_write_spec.specs.Base.{base, base_byte, leaves_place, old_places, values_from}
-use Rattle.elf_write_spec.proofs.ForCallers.Laying.{length-values, value-at}
-use Rattle.elf_write_spec.specs.Ready.{IsEditedReady}
+use Rattle.elf_write_contents.specs.Base.{base, base_byte, leaves_place, old_places, values_from}
+use Rattle.elf_write_contents.proofs.ForCallers.Laying.{length-values, value-at}
+use Rattle.elf_write_contents.specs.Ready.{IsEditedReady}
 use Rattle.elf_write.specs.LayingSteps.{IsCleared, TakesFrom, is_in_load, is_in_range, leaves_place_at, rewritten_places}
-use Rattle.elf_write_spec.proofs.ForCallers.WholeEdits.{ReadFacts, read_facts}
+use Rattle.elf_write_contents.proofs.ForCallers.WholeEdits.{ReadFacts, read_facts}
 use Rattle.elf_write_contents.proofs.ForCallers.ReadTables.{ready_edit}
 use Rattle.elf_format.proofs.ForCallers.Lengths.{length-segments}
 use Rattle.elf_image.proofs.ForCallers.KeptSections.{kept-at, length-kept}

@@ -25,12 +25,12 @@ use Rattle.elf_image.specs.Kept.{KeptSection, image_at_read, interpreter_number,
 use Rattle.elf_layout_plan.specs.Memory.{Resized}
 use Rattle.elf_layout_plan.specs.Plan.{Layout, resized}
 use Rattle.elf_layout_plan.specs.PlanModel.{place_model}
-use Rattle.elf_write_spec.specs.Base.{base, base_byte, is_data}
-use Rattle.elf_write_spec.specs.Headers.{written_header}
-use Rattle.elf_write_spec.specs.Output.{IsPlannedOutput, Output, patch, patches, patches_of_headers, patches_of_section, patches_of_sections, written_bytes}
-use Rattle.elf_write_spec.proofs.ForCallers.Laying.{length-values}
-use Rattle.elf_write_spec.proofs.ForCallers.Patches.{patches_lie}
-use Rattle.elf_write_spec.proofs.ForCallers.WholeFacts.{lengths, read_facts}
+use Rattle.elf_write_contents.specs.Base.{base, base_byte, is_data}
+use Rattle.elf_write_contents.specs.Headers.{written_header}
+use Rattle.elf_write_contents.specs.Output.{IsPlannedOutput, Output, patch, patches, patches_of_headers, patches_of_section, patches_of_sections, written_bytes}
+use Rattle.elf_write_contents.proofs.ForCallers.Laying.{length-values}
+use Rattle.elf_write_contents.proofs.ForCallers.Patches.{patches_lie}
+use Rattle.elf_write_contents.proofs.ForCallers.WholeFacts.{lengths, read_facts}
 use Rattle.elf_write_contents.specs.Inner.{output_of}
 use Rattle.elf_write.specs.declared.spelled.SpelledHeaders.{SpelledHeaders}
 use Rattle.elf_write.specs.LayingSteps.{AreHeadersSpelled, DoHeadersFit, content_patches, header_patches, is_data_at}

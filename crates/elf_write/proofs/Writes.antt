@@ -24,12 +24,12 @@ use Rattle.elf_image.specs.Kept.{KeptSection, kept_sections}
 use Rattle.elf_image.specs.Names.{are_names_changed}
 use Rattle.elf_layout_plan.specs.Memory.{Resized}
 use Rattle.elf_layout_plan.specs.Plan.{Layout, resized}
-use Rattle.elf_write_spec.specs.Base.{is_interpreter}
-use Rattle.elf_write_spec.specs.Contents.{IsContent, IsContentOfKind, content_at_number}
-use Rattle.elf_write_spec.specs.Headers.{IsHeaderOf, written_header}
-use Rattle.elf_write_spec.specs.Output.{AreHeadersApart, AreSectionsWritten, IsPlannedOutput, written_bytes}
+use Rattle.elf_write_contents.specs.Base.{is_interpreter}
+use Rattle.elf_write_contents.specs.Contents.{IsContent, IsContentOfKind, content_at_number}
+use Rattle.elf_write_contents.specs.Headers.{IsHeaderOf, written_header}
+use Rattle.elf_write_contents.specs.Output.{AreHeadersApart, AreSectionsWritten, IsPlannedOutput, written_bytes}
 use Rattle.elf_layout_plan.specs.ApartLaws.{PlansAreApart, PlansShowNotes}
-use Rattle.elf_write_spec.proofs.ForCallers.FilesWritten.{files_are_written, files_by_plan}
+use Rattle.elf_write_contents.proofs.ForCallers.FilesWritten.{files_are_written, files_by_plan}
 use Rattle.elf_write_contents.specs.Made.{Made}
 use Rattle.elf_write_contents.specs.WrittenStrings.{strings_at}
 use Rattle.elf_write_contents.specs.Renumbering.{do_symbols_fit}
@@ -38,8 +38,8 @@ use Rattle.elf_write_contents.specs.Numbers.{do_records_fit}
 use Rattle.elf_write_contents.proofs.ForCallers.{shows_none, shows_texts}
 use Rattle.elf_write_contents.proofs.ForCallers.ReadTables.{ready_edit}
 use Rattle.elf_write_contents.proofs.ForCallers.TablesThere.{TableThere, link_there, names_there}
-use Rattle.elf_write_spec.proofs.ForCallers.NumberedSections.{kept_as}
-use Rattle.elf_write_spec.proofs.ForCallers.WholeEdits.{ReadFacts, SectionRead, kept_is, kept_read, read_facts}
+use Rattle.elf_write_contents.proofs.ForCallers.NumberedSections.{kept_as}
+use Rattle.elf_write_contents.proofs.ForCallers.WholeEdits.{ReadFacts, SectionRead, kept_is, kept_read, read_facts}
 
 -- the content at a position
 record ContentAt (r : Resized) (plan : Layout) (made : List Made) (raw : List EntryNumbers) (ps : List Place) (cs : List (List ℕ)) (i : ℕ) (k : KeptSection) : Type 0 where

@@ -20,8 +20,8 @@ use Rattle.elf_layout_plan.specs.Anchors.{is_loaded_section}
 use Rattle.elf_image.specs.Kept.{KeptSection, place_at_read}
 use Rattle.elf_layout_plan.specs.Memory.{Resized}
 use Rattle.elf_layout_plan.specs.Plan.{Layout}
-use Rattle.elf_write_spec.specs.Base.{has_position, is_opaque, leaves_place}
-use Rattle.elf_write_spec.specs.Output.{patch}
+use Rattle.elf_write_contents.specs.Base.{has_position, is_opaque, leaves_place}
+use Rattle.elf_write_contents.specs.Output.{patch}
 use Rattle.elf_write.specs.declared.spelled.SpelledHeaders.{SpelledHeaders}
 
 -- ## Bytes by their positions

@@ -9,7 +9,7 @@ use Rattle.elf_format.specs.File.{loads_of}
 use Rattle.elf_format.specs.Placement.{file_part}
 use Rattle.elf_format.specs.Ranges.{end_of}
 use Rattle.elf_layout_plan.specs.Memory.{Resized}
-use Rattle.elf_write_spec.specs.Base.{base_byte}
+use Rattle.elf_write_contents.specs.Base.{base_byte}
 
 -- ## Spans
 

@@ -4,7 +4,7 @@ use Rattle.elf_format.specs.Image.{Image}
 use Rattle.elf_layout_plan.specs.declared.fault.LayoutFault.{LayoutFault}
 use Rattle.elf_layout_plan.specs.declared.fault.LayoutFault.TheVariants as faults
 use Rattle.elf_layout_plan.specs.Plan.{Layout}
-use Rattle.elf_write_spec.specs.Output.{AreHeadersApart}
+use Rattle.elf_write_contents.specs.Output.{AreHeadersApart}
 use Rattle.elf_write_contents.specs.Numbers.{do_numbers_fit}
 
 -- No bytes: the file header and the program header table share some of the file; or a number doesn't fit its field.

@@ -5,8 +5,8 @@ ghost use Rattle.elf_format.specs.Records.{segment_header_size};
 ghost use Rattle.elf_image.specs.ImageModel.{segment_model};
 ghost use Rattle.elf_image.specs.Kept.{image_at_read, interpreter_number as number_of_interpreter, kept_sections};
 ghost use Rattle.elf_layout_plan.specs.Plan.{resized};
-ghost use Rattle.elf_write_spec.specs.Base.{base, has_position, old_places as places_rewritten};
-ghost use Rattle.elf_write_spec.specs.Ready.{IsEditedReady};
+ghost use Rattle.elf_write_contents.specs.Base.{base, has_position, old_places as places_rewritten};
+ghost use Rattle.elf_write_contents.specs.Ready.{IsEditedReady};
 ghost use Rattle.elf_write.specs.LayingSteps.{IsCleared, TakesFrom, is_in_load, is_in_range, rewritten_places};
 
 use crate::data::leaves_place;

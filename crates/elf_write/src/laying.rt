@@ -6,9 +6,9 @@ ghost use Rattle.byte_store.specs.Known.{put_at};
 ghost use Rattle.byte_store.specs.Laid.{LiesIn, laid, patches_of};
 ghost use Rattle.elf_format.specs.Records.{section_header_size};
 ghost use Rattle.elf_format.specs.declared.records.EntryNumbers.{EntryNumbers};
-ghost use Rattle.elf_write_spec.specs.Headers.{written_header};
-ghost use Rattle.elf_write_spec.specs.Output.{IsPlannedOutput, written_bytes};
-ghost use Rattle.elf_write_spec.specs.Ready.{IsEditedReady};
+ghost use Rattle.elf_write_contents.specs.Headers.{written_header};
+ghost use Rattle.elf_write_contents.specs.Output.{IsPlannedOutput, written_bytes};
+ghost use Rattle.elf_write_contents.specs.Ready.{IsEditedReady};
 ghost use Rattle.elf_write_contents.specs.Inner.{output_of};
 
 use crate::base::base_bytes;

@@ -6,7 +6,7 @@ ghost use Rattle.elf_format.specs.Places.{occupies_file as does_occupy_file};
 ghost use Rattle.elf_image.specs.Kept.{image_at_read, interpreter_number as number_of_interpreter, kept_sections};
 ghost use Rattle.elf_layout_plan.specs.Plan.{resized};
 ghost use Rattle.elf_layout_plan.specs.PlanModel.{place_model};
-ghost use Rattle.elf_write_spec.specs.Output.{patches_of_sections};
+ghost use Rattle.elf_write_contents.specs.Output.{patches_of_sections};
 ghost use Rattle.elf_write.specs.LayingSteps.{content_patches, header_patches};
 
 use crate::data::is_data;

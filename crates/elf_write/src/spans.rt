@@ -4,7 +4,7 @@ ghost use Rattle.byte_store.specs.Composed.{IsMadeInParts, IsMakeable};
 ghost use Rattle.byte_store.specs.Laid.{LiesIn, patches_of};
 ghost use Rattle.elf_image.specs.ImageModel.{segment_model};
 ghost use Rattle.elf_layout_plan.specs.Plan.{resized};
-ghost use Rattle.elf_write_spec.specs.Ready.{IsEditedReady};
+ghost use Rattle.elf_write_contents.specs.Ready.{IsEditedReady};
 ghost use Rattle.elf_write.specs.PieceSteps.{IsOverBase, load_spans, span_in};
 
 use crate::base::{old_places, within};

@@ -36,7 +36,7 @@ use Rattle.elf_write_spec.proofs.ForCallers.WholeEdits.{ReadFacts, length-kept, 
 use Rattle.elf_write_symbol_tables.proofs.ForCallers.MadeShort.{all_at as fits_at}
 use Rattle.elf_write_symbol_tables.proofs.ForCallers.ReadTables.{ready_edit}
 use Rattle.elf_write_symbol_tables.proofs.ForCallers.TablesThere.{content_at}
-use Rattle.elf_write_symbols.specs.Fits.{do_numbers_fit_in, do_section_relocations_fit}
+use Rattle.elf_write_symbol_tables.specs.Fits.{do_numbers_fit_in, do_section_relocations_fit}
 use Rattle.elf_write_contents.proofs.ContentsMade.{IsOther, PlacedAt, bytes_at, definitions_made, gabi_made, gnu_made, needs_made, placed_at, resized_with, statics_made, symbols_made, versions_made}
 use Rattle.elf_write_contents.proofs.ContentsByType.{interpreter_made, list_made, others_made, room, strings_made}
 

@@ -13,3 +13,11 @@ pub use Rattle.elf_write_contents.proofs.PreparedFaults.{names_far}
 -- what is known of an edited image, and of the string tables that it was read with
 pub use Rattle.elf_write_symbol_tables.proofs.ForCallers.ReadTables
 pub use Rattle.elf_write_symbol_tables.proofs.ForCallers.TablesThere
+-- laws of written files
+pub use Rattle.elf_write_spec.proofs.ForCallers.BaseBytes
+pub use Rattle.elf_write_spec.proofs.ForCallers.FilesWritten
+pub use Rattle.elf_write_spec.proofs.ForCallers.Laying
+pub use Rattle.elf_write_spec.proofs.ForCallers.NumberedSections
+pub use Rattle.elf_write_spec.proofs.ForCallers.Patches
+pub use Rattle.elf_write_spec.proofs.ForCallers.WholeEdits
+pub use Rattle.elf_write_spec.proofs.ForCallers.WholeFacts

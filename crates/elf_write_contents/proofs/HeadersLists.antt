@@ -14,7 +14,7 @@ use Rattle.elf_format.specs.Places.{Place}
 use Rattle.elf_format.specs.Views.{NamedSymbol}
 use Rattle.elf_tables.specs.Fields.{do_fields_fit, does_field_fit}
 use Rattle.elf_tables.specs.Spelled.{class_word, file_header_fields, section_fields, segment_fields}
-use Rattle.elf_write_symbols.specs.Found.{is_local}
+use Rattle.elf_write_symbol_tables.specs.Found.{is_local}
 use Rattle.elf_image.specs.Kept.{KeptSection, kept_sections}
 use Rattle.elf_layout_plan.specs.Memory.{Resized}
 use Rattle.elf_layout_plan.specs.Plan.{Layout, resized}

@@ -7,14 +7,14 @@ use Rattle.std.proofs.lemmas.List.{take_all}
 use Rattle.std.proofs.lemmas.Option.{slice_get-map}
 use Rattle.elf_format.specs.Image.{Image}
 use Rattle.elf_format.specs.Views.{NamedSymbol}
-use Rattle.elf_write_symbols.specs.Found.{is_local}
+use Rattle.elf_write_symbol_tables.specs.Found.{is_local}
 use Rattle.elf_write_spec.specs.Final.{dynamic_order, final, final_symbol, ordered}
 use Rattle.elf_write_spec.specs.Headers.{behind_locals}
 use Rattle.elf_write_spec.specs.Ready.{IsEditedReady}
 use Rattle.elf_write_spec.proofs.ForCallers.FinalSymbols.{all_symbols, final_count, final_ordered}
 use Rattle.elf_write_spec.proofs.ForCallers.OrderFacts.{ordered-at}
 use Rattle.elf_write_spec.proofs.ForCallers.WholeEdits.{symbols_written}
-use Rattle.elf_write_symbols.proofs.ForCallers.ReadyFacts.{facts}
+use Rattle.elf_write_symbol_tables.proofs.ForCallers.ReadyFacts.{facts}
 
 module _ (read image : Image) (is : IsEditedReady read image) where
   -- what stands at a place

@@ -8,11 +8,11 @@ use Rattle.elf_image.specs.Kept.{kept_sections}
 use Rattle.elf_image.specs.Names.{are_names_changed}
 use Rattle.elf_layout_plan.specs.Plan.{Layout}
 use Rattle.elf_write_symbol_tables.specs.WrittenStrings.{do_names_reach}
-use Rattle.elf_write_symbols.specs.declared.numbers.NewNumbers.{NewNumbers}
-use Rattle.elf_write_symbols.specs.declared.renumbering.Renumbering.{Renumbering}
-use Rattle.elf_write_symbols.specs.declared.renumbering.Reordering.{Reordering}
-use Rattle.elf_write_symbols.specs.Fits.{do_section_relocations_fit}
-use Rattle.elf_write_symbols.specs.Renumbering.{AreStaticNumbersFor, IsRenumbering, IsReorderingFor, are_static_numbers_new, do_symbols_fit}
+use Rattle.elf_write_symbol_tables.specs.NewNumbers.{NewNumbers}
+use Rattle.elf_write_symbol_tables.specs.RenumberingRecord.{Renumbering}
+use Rattle.elf_write_symbol_tables.specs.Reordering.{Reordering}
+use Rattle.elf_write_symbol_tables.specs.Fits.{do_section_relocations_fit}
+use Rattle.elf_write_symbol_tables.specs.Renumbering.{AreStaticNumbersFor, IsRenumbering, IsReorderingFor, are_static_numbers_new, do_symbols_fit}
 use Rattle.elf_write_contents.specs.Numbers.{do_numbers_fit}
 use Rattle.elf_write_contents.proofs.NumbersUnfit.{names_unfit, relocations_unfit, symbols_unfit}
 use Rattle.elf_write_contents.specs.Inner.{IsPlanned}

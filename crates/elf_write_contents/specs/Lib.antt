@@ -5,7 +5,14 @@ pub mod HeaderSteps
 pub mod Inner
 pub mod Numbers
 pub mod PreparedSteps
-pub use Rattle.elf_write_symbols.specs.Renumbering
+pub use Rattle.elf_write_symbol_tables.specs.Renumbering
 pub use Rattle.elf_write_symbol_tables.specs.Made
 pub use Rattle.elf_write_symbol_tables.specs.MadeTables
 pub use Rattle.elf_write_symbol_tables.specs.WrittenStrings
+pub use Rattle.elf_write_spec.specs.Base
+pub use Rattle.elf_write_spec.specs.Contents
+pub use Rattle.elf_write_spec.specs.Final
+pub use Rattle.elf_write_spec.specs.Headers
+pub use Rattle.elf_write_spec.specs.Output
+pub use Rattle.elf_write_spec.specs.Ready
+pub use Rattle.elf_write_spec.specs.WrittenFile

@@ -19,8 +19,8 @@ use Rattle.elf_write_spec.specs.Contents.{table_value}
 use Rattle.elf_write_spec.specs.Final.{final}
 use Rattle.elf_write_spec.specs.Headers.{written_header, written_section}
 use Rattle.elf_write_symbol_tables.specs.WrittenStrings.{do_names_reach}
-use Rattle.elf_write_symbols.specs.Fits.{do_section_relocations_fit}
-use Rattle.elf_write_symbols.specs.Renumbering.{do_symbols_fit}
+use Rattle.elf_write_symbol_tables.specs.Fits.{do_section_relocations_fit}
+use Rattle.elf_write_symbol_tables.specs.Renumbering.{do_symbols_fit}
 
 -- the section headers, whatever the places of their names, which fit
 abbrev pub do_sections_fit : Resized → List KeptSection → List Place → Bool

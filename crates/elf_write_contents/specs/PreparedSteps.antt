@@ -7,8 +7,8 @@ use Rattle.elf_layout_plan.specs.Plan.{Layout, resized}
 use Rattle.elf_write_spec.specs.Headers.{written_header}
 use Rattle.elf_write_symbol_tables.specs.WrittenStrings.{AreStrings, strings_at}
 use Rattle.elf_write_contents.specs.Inner.{AreHeaders, AreRaw}
-use Rattle.elf_write_symbols.specs.Fits.{do_section_relocations_fit}
-use Rattle.elf_write_symbols.specs.Renumbering.{IsRenumbering, do_symbols_fit}
+use Rattle.elf_write_symbol_tables.specs.Fits.{do_section_relocations_fit}
+use Rattle.elf_write_symbol_tables.specs.Renumbering.{IsRenumbering, do_symbols_fit}
 use Rattle.elf_write_contents.specs.Numbers.{do_records_fit}
 use Rattle.elf_write_contents.specs.declared.prepared.Prepared.{Prepared}
 

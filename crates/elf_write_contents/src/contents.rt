@@ -4,14 +4,14 @@ ghost use Rattle.std.specs.List.{list_all};
 ghost use Rattle.patch_bytes.specs.ByteString.{bytes_of_each};
 ghost use Rattle.elf_format.specs.declared.constants.TheConstants.{SHT_GNU_VERSYM as VERSYM};
 ghost use Rattle.elf_format.specs.Options.{is_some_and};
-ghost use Rattle.elf_write_symbols.specs.Versions.{AreVersionsOf};
+ghost use Rattle.elf_write_symbol_tables.specs.Versions.{AreVersionsOf};
 ghost use Rattle.elf_tables.specs.Fields.{do_fields_fit};
 ghost use Rattle.elf_tables.specs.Spelled.{entry_fields};
 ghost use Rattle.elf_image.specs.Kept.{interpreter_number as number_of_interpreter, kept_sections};
 ghost use Rattle.elf_layout_plan.specs.Plan.{resized};
 ghost use Rattle.elf_image.specs.ImageModel.{section_model};
-ghost use Rattle.elf_write_symbols.specs.Fits.{do_numbers_fit_in, do_section_relocations_fit};
-ghost use Rattle.elf_write_symbols.specs.Renumbering.{IsRenumbering, IsReorderingFor};
+ghost use Rattle.elf_write_symbol_tables.specs.Fits.{do_numbers_fit_in, do_section_relocations_fit};
+ghost use Rattle.elf_write_symbol_tables.specs.Renumbering.{IsRenumbering, IsReorderingFor};
 ghost use Rattle.elf_write_contents.specs.ContentSteps.{IsBytesAt, IsNumbering, IsRelocated, made_or};
 ghost use Rattle.elf_write_symbol_tables.specs.WrittenStrings.{AreStrings};
 ghost use Rattle.elf_write_spec.specs.Contents.{AreVersionsIn};
@@ -31,7 +31,7 @@ use elf_layout_plan::{Plan, is_numbered};
 use elf_write_symbol_tables::made::{Made, made_of};
 use elf_write_symbol_tables::versions::{definitions_content, needs_content};
 use elf_write_symbol_tables::{dynamic_symbols_content, static_symbols_content};
-use elf_write_symbols::{
+use elf_write_symbol_tables::{
     Renumbering, Reordering, gabi_content, gnu_content, relocations_content, versions_content,
 };
 use patch_bytes::ByteString;

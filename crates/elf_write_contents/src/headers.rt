@@ -9,7 +9,7 @@ ghost use Rattle.elf_layout_plan.specs.Plan.{IsPlan, resized};
 ghost use Rattle.elf_layout_plan.specs.PlanModel.{place_model};
 ghost use Rattle.elf_tables.specs.declared.fault.TableFault.TheVariants.{NumberTooLarge};
 ghost use Rattle.elf_tables.specs.Strings.{place_of};
-ghost use Rattle.elf_write_symbols.specs.Found.{is_local as is_local_symbol};
+ghost use Rattle.elf_write_symbol_tables.specs.Found.{is_local as is_local_symbol};
 ghost use Rattle.elf_image_symbol_edits.specs.Loan.{symbols_now};
 ghost use Rattle.elf_write_symbol_tables.specs.Written.{AreWritten};
 ghost use Rattle.elf_write_spec.specs.Final.{final, new_number as number_of};
@@ -17,8 +17,8 @@ ghost use Rattle.elf_write_spec.specs.Headers.{Reads, behind_locals as behind_al
 ghost use Rattle.elf_write_contents.specs.HeaderSteps.{IsHeaderAt, IsKnown, header_by, headers_read, info_by};
 ghost use Rattle.elf_write_symbol_tables.specs.WrittenStrings.{AreStrings, content_read, made_of as made_at, strings_at};
 ghost use Rattle.elf_write_spec.specs.Ready.{IsEditedReady};
-ghost use Rattle.elf_write_symbols.specs.NewSections.{AreNewSections};
-ghost use Rattle.elf_write_symbols.specs.Renumbering.{IsReorderingFor};
+ghost use Rattle.elf_write_symbol_tables.specs.NewSections.{AreNewSections};
+ghost use Rattle.elf_write_symbol_tables.specs.Renumbering.{IsReorderingFor};
 ghost use Rattle.elf_write_contents.specs.Inner.{AreHeaders, IsPlanned};
 ghost use Rattle.elf_write_contents.specs.Numbers.{do_numbers_fit};
 ghost use Rattle.elf_write_symbol_tables.specs.Made.{Made};
@@ -34,7 +34,7 @@ use elf_layout_plan::{Plan, SectionPlace};
 use elf_tables::TableFault;
 use elf_write_symbol_tables::StayingNeeds;
 use elf_write_symbol_tables::made::{Made, made_of};
-use elf_write_symbols::{NewSections, Reordering, new_number, order_of};
+use elf_write_symbol_tables::{NewSections, Reordering, new_number, order_of};
 use std::alloc::Global;
 
 // How many program headers and sections a plan has: few enough for plain numbering (gABI, ELF Header, e_phnum and e_shnum).

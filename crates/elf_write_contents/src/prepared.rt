@@ -6,8 +6,8 @@ ghost use Rattle.elf_tables.specs.declared.fault.TableFault.TheVariants.{NumberT
 ghost use Rattle.elf_layout_plan.specs.Plan.{resized};
 ghost use Rattle.elf_write_spec.specs.Headers.{written_header};
 ghost use Rattle.elf_write_symbol_tables.specs.WrittenStrings.{AreStrings, strings_at};
-ghost use Rattle.elf_write_symbols.specs.Fits.{do_section_relocations_fit};
-ghost use Rattle.elf_write_symbols.specs.Renumbering.{IsRenumbering};
+ghost use Rattle.elf_write_symbol_tables.specs.Fits.{do_section_relocations_fit};
+ghost use Rattle.elf_write_symbol_tables.specs.Renumbering.{IsRenumbering};
 ghost use Rattle.elf_write_contents.specs.Numbers.{do_numbers_fit as do_all_fit, do_records_fit};
 ghost use Rattle.elf_write_contents.specs.PreparedSteps.{IsPrepared};
 ghost use Rattle.elf_write_contents.specs.Inner.{AreHeaders, AreRaw, IsPlanned};
@@ -21,7 +21,7 @@ use elf_layout_plan::Plan;
 use elf_tables::TableFault;
 use elf_write_symbol_tables::StayingNeeds;
 use elf_write_symbol_tables::made::{Made, made_strings};
-use elf_write_symbols::{Renumbering, do_relocations_fit_in, renumbering_of};
+use elf_write_symbol_tables::{Renumbering, do_relocations_fit_in, renumbering_of};
 use std::alloc::Global;
 
 /// What stands in the headers of a written file, and in its dynamic section.

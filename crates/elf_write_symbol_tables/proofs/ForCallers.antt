@@ -12,3 +12,6 @@ pub use Rattle.elf_write_strings.proofs.ForCallers.TextsShared
 pub use Rattle.elf_write_strings.proofs.ForCallers.TextsTold
 pub use Rattle.elf_write_strings.proofs.ForCallers.UsersStay
 pub use Rattle.elf_write_strings.proofs.ForCallers.VersionsShown
+-- what is known of an edited image and of its sections
+pub use Rattle.elf_write_symbols.proofs.ForCallers.ReadyFacts
+pub use Rattle.elf_write_symbols.proofs.ForCallers.SectionFacts

@@ -8,3 +8,11 @@ pub use Rattle.elf_write_strings.specs.VersionPlaces
 pub use Rattle.elf_write_strings.specs.Written
 pub use Rattle.elf_write_strings.specs.WrittenStrings
 pub use Rattle.elf_image_symbols.specs.TableSymbols
+pub use Rattle.elf_write_symbols.specs.Fits
+pub use Rattle.elf_write_symbols.specs.Found
+pub use Rattle.elf_write_symbols.specs.NewSections
+pub use Rattle.elf_write_symbols.specs.Renumbering
+pub use Rattle.elf_write_symbols.specs.Versions
+pub use Rattle.elf_write_symbols.specs.declared.numbers.NewNumbers
+pub use Rattle.elf_write_symbols.specs.declared.renumbering.Renumbering as RenumberingRecord
+pub use Rattle.elf_write_symbols.specs.declared.renumbering.Reordering

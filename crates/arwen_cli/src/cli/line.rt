@@ -3,7 +3,7 @@ ghost use Rattle.std.specs.Prelude.{◌≡◌, None, Some, codes, false, IfErr, 
 ghost use Rattle.arwen_cli.specs.Fault.{IsOfLine, asked_status};
 ghost use Rattle.arwen_cli.specs.Meaning.{Meaning};
 ghost use Rattle.command_words.specs.Rows.{given_model, meant_with};
-ghost use Rattle.elf_commands.specs.Meaning.{elf_lines, elf_command_model, reading_of};
+ghost use Rattle.arwen_cli_overlaps.specs.Meaning.{elf_lines, elf_command_model, reading_of};
 ghost use Rattle.macho_commands.specs.Meaning.{macho_lines};
 ghost use Rattle.macho_commands.specs.Meaning.{macho_command_model};
 ghost use Rattle.arwen_cli.specs.Meaning.{shown};
@@ -18,7 +18,7 @@ use crate::cli::{ArwenError, Command, ElfCommand, MachoCommand};
 use arwen_cli_peers::{is_moved_by, without_move, without_quiet, without_sign};
 use arwen_cli_show::{Args, ArgsFault, HELP, parse_args};
 use command_words::{ValueError, Values, find_row};
-use elf_commands::{elf, elf_table};
+use arwen_cli_overlaps::commands::{elf, elf_table};
 use macho_commands::macho_table;
 use std::alloc::{AllocError, Global};
 

@@ -5,7 +5,7 @@ ghost use Rattle.arwen_cli.specs.Fault.{words_told};
 ghost use Rattle.arwen_cli.specs.Meaning.{shown};
 ghost use Rattle.arwen_cli.specs.Telling.{IsBracket, IsCausesText, IsElfRule, IsFaultLine, IsLineWith, IsReason, TellsBytes, TellsOverlapOf, is_of_bytes as is_bytes_fault, is_of_line as is_line_fault, is_overlap as is_overlap_fault, path_if, path_of as path_told, words_of as words_for};
 ghost use Rattle.command_words.specs.Rows.{Text};
-ghost use Rattle.elf_commands.specs.Meaning.{elf_command_model, elf_file_of};
+ghost use Rattle.arwen_cli_overlaps.specs.Meaning.{elf_command_model, elf_file_of};
 
 use crate::cli::Command;
 use crate::cli::error::{ArwenError, InnerCause};
@@ -15,8 +15,8 @@ use arwen_cli_overlaps::overlap_text;
 use arwen_cli_show::{Told, bracket_of, elf_words, file_line, macho_words, rule_of};
 use arwen_macho::macho::MachoError;
 use command_words::{FileBytes, RegularBytes};
-use elf_commands::ElfCommand;
-use elf_commands::files::{ElfError, ModifyCause};
+use arwen_cli_overlaps::commands::ElfCommand;
+use arwen_cli_overlaps::commands::files::{ElfError, ModifyCause};
 use std::alloc::{AllocError, Global};
 use std::rt::Files;
 

@@ -2,7 +2,7 @@ use Rattle.std.proofs.Common.{subst}
 use Rattle.std.proofs.lemmas.Result.{IfOk-weaker, MatchResult-weaker, err_from_is_err_and}
 use Rattle.elf_layout_plan.specs.Memory.{Resized}
 use Rattle.elf_layout_plan.specs.Plan.{IsPlan, resized}
-use Rattle.elf_layout_moves.specs.Inner.{IsResized}
+use Rattle.elf_layout_segments.specs.Inner.{IsResized}
 use Rattle.elf_layout.proofs.Planned.{asked_by_plan, few_rounds, no_end_is, no_plan_is, plan_is, stuck_asked}
 use Rattle.elf_layout.proofs.layout.plan_of.Goals as goal
 

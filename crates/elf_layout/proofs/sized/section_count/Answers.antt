@@ -3,7 +3,7 @@ use Rattle.std.proofs.lemmas.List.{length-map}
 use Rattle.elf_format.specs.Image.{ImageSection}
 use Rattle.elf_image.specs.ImageModel.{section_model}
 use Rattle.elf_layout_plan.specs.Memory.{Resized, sized_sections}
-use Rattle.elf_layout_moves.specs.Seen.{resized_model}
+use Rattle.elf_layout_segments.specs.Seen.{resized_model}
 use Rattle.elf_layout.proofs.SizedSections.{count_sized}
 use Rattle.elf_layout.proofs.sized.section_count.Goals as goal
 

@@ -3,7 +3,7 @@ use Rattle.std.specs.Prelude.{option_map, slice_get}
 use Rattle.std.proofs.lemmas.Option.{slice_get-get_or, slice_get_read}
 use Rattle.elf_layout_plan.specs.Memory.{Resized, sized_sections}
 use Rattle.elf_layout.specs.Numbers.{numbers_of}
-use Rattle.elf_layout_moves.specs.Seen.{resized_model}
+use Rattle.elf_layout_segments.specs.Seen.{resized_model}
 use Rattle.elf_layout.proofs.SizedSections.{none_found, none_has_size, some_found}
 use Rattle.elf_layout.proofs.sized.sized_at.Goals as goal
 use Rattle.elf_layout.proofs.sized.sized_at.Goals.{then-position-sections-via-then-position-sections, then-position-sections-via-else-position-sections+then-position-r}

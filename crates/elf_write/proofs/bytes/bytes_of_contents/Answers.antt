@@ -3,7 +3,7 @@ use Rattle.patch_bytes.specs.Bytes.{AreBytes}
 use Rattle.patch_bytes.specs.ByteString.{bytes_of_each}
 use Rattle.elf_format.specs.declared.records.EntryNumbers.{EntryNumbers}
 use Rattle.elf_format.specs.declared.records.SectionHeader.{SectionHeader}
-use Rattle.elf_write_spec.specs.Output.{IsPlannedOutput, written_bytes}
+use Rattle.elf_write_contents.specs.Output.{IsPlannedOutput, written_bytes}
 use Rattle.elf_write_contents.specs.Inner.{output_of}
 use Rattle.elf_write.proofs.Writes.{are_written, is_planned_file}
 use Rattle.elf_write.proofs.bytes.bytes_of_contents.Goals as goal

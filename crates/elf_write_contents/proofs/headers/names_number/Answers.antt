@@ -1,8 +1,8 @@
 -- The number of a section that is there.
 use Rattle.std.proofs.Common.{arith}
 use Rattle.elf_format.specs.Image.{Image}
-use Rattle.elf_write_symbols.proofs.ForCallers.ReadyFacts.{facts}
-use Rattle.elf_write_symbols.proofs.ForCallers.SectionFacts.{new_fits}
+use Rattle.elf_write_symbol_tables.proofs.ForCallers.ReadyFacts.{facts}
+use Rattle.elf_write_symbol_tables.proofs.ForCallers.SectionFacts.{new_fits}
 use Rattle.elf_write_contents.proofs.headers.names_number.Goals as goal
 
 pub overflow_cast-result : goal.overflow_cast-result
