@@ -15,6 +15,13 @@ mod line_error;
 mod parser;
 mod telling;
 
+pub use arwen_cli_overlaps::commands::elf::{
+    FileProbe, Probe, edit_path, edit_store, print_path, print_store, run_elf, shrink_path,
+    shrink_store,
+};
+pub use arwen_cli_overlaps::commands::{
+    ElfCommand, ElfCommandError, GroupEdit, SymbolTexts, elf, parse_elf_edits, plain_edits,
+};
 use arwen_cli_peers::{is_quiet, is_signed_by};
 pub use arwen_cli_show as show;
 use arwen_cli_show::Args;
@@ -22,13 +29,6 @@ pub use command::Command;
 pub use command_words::{
     EditFault, EditKind, EditsError, FileBytes, KeyValueError, MOST_BYTES, NotDone, Notes,
     RegularBytes, ValueError, parse_key_val,
-};
-pub use arwen_cli_overlaps::commands::elf::{
-    FileProbe, Probe, edit_path, edit_store, print_path, print_store, run_elf, shrink_path,
-    shrink_store,
-};
-pub use arwen_cli_overlaps::commands::{
-    ElfCommand, ElfCommandError, GroupEdit, SymbolTexts, elf, parse_elf_edits, plain_edits,
 };
 pub use error::{ArwenError, FaultLine};
 pub use file::read_bytes;

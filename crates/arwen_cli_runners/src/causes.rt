@@ -11,14 +11,14 @@ use arwen_cli_facts::{
 };
 use arwen_cli_install_names::NamesError;
 use arwen_cli_overlaps::overlap_text;
+use arwen_cli_patchelf::commands::elf::apply;
+use arwen_cli_patchelf::commands::files::{ElfError, ModifyCause};
+use arwen_cli_patchelf::commands::{ElfCommand, ElfCommandError};
 use arwen_cli_patchelf::{PatchelfError, Print};
 use arwen_cli_patchelf_lines::Plan;
 use arwen_macho::macho::MachoError;
 use byte_store::{Opens, load_whole};
 use command_words::MOST_BYTES;
-use arwen_cli_patchelf::commands::elf::apply;
-use arwen_cli_patchelf::commands::files::{ElfError, ModifyCause};
-use arwen_cli_patchelf::commands::{ElfCommand, ElfCommandError};
 use macho_commands::MachoCommandError;
 use std::alloc::{AllocError, Global};
 

@@ -7,13 +7,13 @@ ghost use Rattle.arwen_cli_runners.specs.Runs.{CanBeMade, EndsFiles, IsDone, IsF
 
 use crate::causes::elf_fault_line;
 use crate::ending::Ending;
+use arwen_cli_patchelf::commands::ElfCommandError;
+use arwen_cli_patchelf::commands::elf::Probe;
+use arwen_cli_patchelf::commands::files::CountedWrite;
 use arwen_cli_patchelf::{PatchelfError, Print, patch_path, print_path, write_path};
 use arwen_cli_patchelf_lines::Plan;
 use byte_store::{Creates, Opens};
 use command_words::NotDone;
-use arwen_cli_patchelf::commands::ElfCommandError;
-use arwen_cli_patchelf::commands::elf::Probe;
-use arwen_cli_patchelf::commands::files::CountedWrite;
 use std::alloc::{AllocError, Global};
 
 /// Does what a line asks of the files at these paths, in order, and answers how it ends. Of each it prints first what is

@@ -12,8 +12,8 @@ use crate::sized::section_count;
 use crate::slots::{At, place_sections, round_up};
 use elf_format::constants::PT_LOAD;
 use elf_format::records::SegmentHeader;
-use elf_layout_segments::resizing::Resizing;
 use elf_layout_plan::LayoutFault;
+use elf_layout_segments::resizing::Resizing;
 use std::alloc::{AllocError, Global};
 
 // The segments that are added, and where the last segment of all ends in the file.

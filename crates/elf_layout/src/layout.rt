@@ -16,13 +16,13 @@ use crate::limits::do_parts_fit;
 use crate::standing::{Standing, find_places};
 use crate::written::written_segments;
 use elf_image::Builder;
-use elf_layout_segments::marks::marks_of;
-use elf_layout_segments::resizing::Resizing;
 use elf_layout_plan::laws::{
     fixed_sections_stay, plans_are_apart, plans_are_one, plans_are_placed, plans_show_notes,
 };
 use elf_layout_plan::{LayoutFault, Plan, PlanParts, read_source};
 use elf_layout_segments::anchors::{AnchorAt, anchors, headers_needed, kept_end};
+use elf_layout_segments::marks::marks_of;
+use elf_layout_segments::resizing::Resizing;
 use elf_layout_segments::rounds::{Rounds, look_in_rounds};
 use elf_layout_sizes::new_sizes_of;
 use std::alloc::{AllocError, Global};

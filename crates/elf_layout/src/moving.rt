@@ -7,8 +7,8 @@ ghost use Rattle.elf_layout_plan.specs.Rounds.{IsAsked};
 
 use crate::layout::{plan_from, promised};
 use elf_image::Builder;
-pub use elf_layout_segments::find_move_sections;
 use elf_layout_plan::{LayoutFault, Plan, read_source};
+pub use elf_layout_segments::find_move_sections;
 use std::alloc::Global;
 
 /// Where everything goes. `Overlap` where two blocks of memory overlap that can't move, with a number of program headers

@@ -9,8 +9,8 @@ ghost use Rattle.elf_layout.specs.Numbers.{numbers_of};
 use crate::sized::{SectionNumbers, section_count, section_here};
 use crate::slots::At;
 use elf_format::constants::{SHT_NOBITS, SHT_NULL};
-use elf_layout_segments::resizing::Resizing;
 use elf_layout_plan::{LayoutFault, SectionPlace};
+use elf_layout_segments::resizing::Resizing;
 use std::alloc::Global;
 
 // What is kept for a position.

@@ -7,8 +7,8 @@ ghost use Rattle.elf_layout_segments.specs.Sections.{indexed_sections};
 ghost use Rattle.elf_layout.specs.Reaches.{AreJoined, BeginBefore, IsTree, IsTreeOver, joined as joined_of, joined_all, over, reach_at as reach_of, reach_in, start_of};
 
 use elf_format::range::Range;
-use elf_layout_segments::resizing::Resizing;
 use elf_layout_plan::SectionPlace;
+use elf_layout_segments::resizing::Resizing;
 use elf_layout_segments::starts::{Begin, begins_of};
 use std::alloc::{AllocError, Global};
 

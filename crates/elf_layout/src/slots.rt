@@ -9,8 +9,8 @@ ghost use Rattle.elf_layout.specs.Slots.{behind_slots, end_behind, slot_behind, 
 
 use crate::sized::{SectionNumbers, sized_at};
 use elf_format::constants::{PF_X, SHF_EXECINSTR, SHF_WRITE, SHT_NOTE};
-use elf_layout_segments::resizing::Resizing;
 use elf_layout_plan::constants::{PF_R, PF_W};
+use elf_layout_segments::resizing::Resizing;
 
 // A place in the file and in memory. The address may be past 64 bits.
 #[derive(Clone, Copy)]

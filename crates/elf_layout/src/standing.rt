@@ -10,8 +10,8 @@ use crate::slots::At;
 use crate::tables::{next_table, place_table};
 use crate::unloaded::place_all_unloaded;
 use elf_format::records::SegmentHeader;
-use elf_layout_segments::resizing::Resizing;
 use elf_layout_plan::{LayoutFault, SectionPlace};
+use elf_layout_segments::resizing::Resizing;
 use std::alloc::Global;
 
 // Where the sections stand and the two header tables, and the segments that are added.

@@ -9,9 +9,9 @@ ghost use Rattle.elf_layout.specs.Targets.{AreBegins, AreNotes, begins_model, sp
 use crate::reaches::{Reach, Reaches, reach_at, reach_over, reaches_of};
 use elf_format::constants::SHF_ALLOC;
 use elf_format::range::Range;
-use elf_layout_segments::resizing::Resizing;
 use elf_layout_plan::SectionPlace;
 use elf_layout_segments::anchors::AnchorAt;
+use elf_layout_segments::resizing::Resizing;
 use std::alloc::{AllocError, Global};
 
 // Bytes of the file and, where what a program header goes by is loaded, an address.

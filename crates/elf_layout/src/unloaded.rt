@@ -8,8 +8,8 @@ ghost use Rattle.elf_layout.specs.Numbers.{numbers_of};
 use crate::sized::{SectionNumbers, section_count, section_here};
 use crate::slots::round_up;
 use elf_format::constants::{SHF_ALLOC, SHT_NOBITS, SHT_NULL};
-use elf_layout_segments::resizing::Resizing;
 use elf_layout_plan::LayoutFault;
+use elf_layout_segments::resizing::Resizing;
 use std::alloc::Global;
 
 // The offset of each section that isn't loaded, by position, and where the last of them ends.

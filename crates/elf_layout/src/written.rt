@@ -13,10 +13,10 @@ use crate::headings::push_written;
 use crate::standing::Standing;
 use crate::targets::notes_of;
 use elf_format::records::SegmentHeader;
-use elf_layout_segments::resizing::Resizing;
 use elf_layout_plan::{LayoutFault, SectionPlace};
 use elf_layout_segments::anchors::AnchorAt;
 use elf_layout_segments::reading::{sections_have_sizes, segment_at};
+use elf_layout_segments::resizing::Resizing;
 use std::alloc::{AllocError, Global};
 
 // How many of those behind a header are loaded, where so many are that are left.

@@ -7,10 +7,10 @@ ghost use Rattle.elf_format.specs.Options.{list_at};
 ghost use Rattle.elf_format.specs.Placement.{file_part, shows_at};
 ghost use Rattle.elf_format.specs.Ranges.{lies_in, range};
 ghost use Rattle.elf_format.specs.Records.{segment_header_size};
-ghost use Rattle.elf_image.specs.ImageModel.{section_model, segment_model};
+ghost use Rattle.elf_layout_plan.specs.ImageModel.{section_model, segment_model};
 ghost use Rattle.elf_format.specs.Places.{occupies_file};
-ghost use Rattle.elf_image.specs.Kept.{dynamic_strings_number, interpreter_number, place_at_read};
-ghost use Rattle.elf_image.specs.Segments.{loads_end as end_of_loads};
+ghost use Rattle.elf_layout_plan.specs.Kept.{dynamic_strings_number, interpreter_number, place_at_read};
+ghost use Rattle.elf_layout_plan.specs.Segments.{loads_end as end_of_loads};
 ghost use Rattle.elf_layout_plan.specs.Memory.{blocks_with, edge_blocks, fixed_block, header_blocks, loaded_over, table_size_with, takes_memory};
 ghost use Rattle.elf_layout_moves.specs.ImageBlocks.{AreNumbered, address_of, is_section_behind, is_section_out, is_section_displaced, made_block, priority_with, section_blocks_from};
 ghost use Rattle.elf_layout_moves.specs.Growth.{table_start as start_of_table};
@@ -20,8 +20,7 @@ use crate::resizing::Resizing;
 use elf_format::constants::{
     PT_LOAD, SHF_ALLOC, SHF_TLS, SHT_DYNAMIC, SHT_DYNSYM, SHT_NOBITS, SHT_NULL, SHT_STRTAB,
 };
-use elf_image::{Builder, Section, Segment, is_movable_type, loads_end};
-use elf_layout_plan::is_numbered;
+use elf_layout_plan::{Builder, Section, Segment, is_movable_type, is_numbered, loads_end};
 use std::alloc::{AllocError, Global};
 use std::marker::Model;
 

@@ -1,5 +1,5 @@
 ghost use Rattle.std.specs.Prelude.{◌≡◌, IfErr, IfOk, IsTrue, OnOk, false};
-ghost use Rattle.elf_image.specs.Kept.{image_at_read};
+ghost use Rattle.elf_layout_plan.specs.Kept.{image_at_read};
 ghost use Rattle.elf_layout_plan.specs.Plan.{resized};
 ghost use Rattle.elf_layout_plan.specs.Refusals.{IsStuckBy, sizes_of_image};
 ghost use Rattle.elf_layout_plan.specs.Rounds.{are_chosen, do_move, is_stuck_with};
@@ -8,8 +8,7 @@ use crate::block_moves::moved_positions;
 use crate::blocks::blocks_of;
 use crate::old_order::in_old_order;
 use crate::resizing::Resizing;
-use elf_image::Builder;
-use elf_layout_plan::{LayoutFault, read_source};
+use elf_layout_plan::{Builder, LayoutFault, read_source};
 use std::alloc::Global;
 
 /// The positions of the sections that move with a program header table `added` entries longer than the image's segments, in

@@ -6,7 +6,7 @@ ghost use Rattle.elf_layout_moves.specs.BlockSteps.{old_key};
 ghost use Rattle.elf_layout_moves.specs.ImageBlocks.{AreNumbered};
 
 use crate::resizing::Resizing;
-use elf_image::Builder;
+use elf_layout_plan::Builder;
 use std::alloc::{AllocError, Global};
 
 // What each of these sections is ordered by: its address and its size at read, and its position.

@@ -1,5 +1,5 @@
 use elf_format::form::Form;
-use elf_image::Builder;
+use elf_layout_plan::Builder;
 use std::marker::Model;
 
 /// An edited image with the new sizes of its sections, and the image that was read from the same bytes.

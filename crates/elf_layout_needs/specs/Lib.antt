@@ -1,3 +1,17 @@
 pub mod Staying
 pub mod StayingModel
 pub mod Written
+pub use Rattle.elf_layout_plan.specs.Faults
+pub use Rattle.elf_layout_plan.specs.Needs
+pub use Rattle.elf_layout_plan.specs.Refusals
+pub use Rattle.elf_layout_plan.specs.Sizes
+pub use Rattle.elf_layout_plan.specs.Strings
+pub use Rattle.elf_layout_plan.specs.TableFault
+pub use Rattle.elf_layout_plan.specs.TableSymbols
+pub use Rattle.elf_layout_plan.specs.Texts
+pub use Rattle.elf_layout_plan.specs.DynamicList
+pub use Rattle.elf_layout_plan.specs.Edited
+pub use Rattle.elf_layout_plan.specs.ImageModel
+pub use Rattle.elf_layout_plan.specs.Kept
+pub use Rattle.elf_layout_plan.specs.SymbolsRead
+pub use Rattle.elf_layout_plan.specs.Section

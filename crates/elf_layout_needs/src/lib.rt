@@ -8,3 +8,8 @@ mod records;
 mod staying;
 
 pub use crate::staying::StayingNeeds;
+pub use elf_layout_plan::{
+    Builder, Dynamic, Finished, Form, LayoutFault, Section, StringTable, SymbolsNow, TableFault,
+    VersionDef, VersionNeed, VersionNeedName, format_constants as constants, is_numbered,
+    read_source,
+};

@@ -61,3 +61,7 @@ pub use Rattle.elf_tables.proofs.ForCallers.FilesOpened
 pub use Rattle.elf_tables.proofs.ForCallers.SectionHeaderBack
 pub use Rattle.elf_tables.proofs.ForCallers.SegmentHeaderBack
 pub use Rattle.elf_tables.proofs.ForCallers.TableBack
+-- what is known of images that were read and edited
+pub use Rattle.elf_tables.proofs.ForCallers.EditedLaws
+pub use Rattle.elf_tables.proofs.ForCallers.KeptSections
+pub use Rattle.elf_tables.proofs.ForCallers.ReadImageLaws

@@ -37,3 +37,6 @@ pub use Rattle.elf_tables.specs.SymbolsRead
 pub use Rattle.elf_tables.specs.Loan
 pub use Rattle.elf_tables.specs.declared.fault.TableFault
 pub use Rattle.elf_tables.specs.TableSymbols
+pub use Rattle.elf_tables.specs.DynamicList
+pub use Rattle.elf_tables.specs.Segments
+pub use Rattle.elf_tables.specs.Section

@@ -22,6 +22,7 @@ pub use crate::source::read_source;
 pub use crate::steps::Steps;
 pub use crate::walk::walk_blocks;
 pub use elf_tables::{
-    Builder, Dynamic, Finished, StringTable, SymbolsNow, TableFault, VersionId, VersionNeed,
-    VersionNeedName, constants as format_constants,
+    Builder, Dynamic, Finished, Form, Section, Segment, StringTable, SymbolsNow, TableFault,
+    VersionDef, VersionId, VersionNeed, VersionNeedName, constants as format_constants,
+    is_movable_type, loads_end,
 };

@@ -1,7 +1,8 @@
 //! The texts that stand in a string table, as they are gathered.
-use elf_image::{Dynamic, Section, SymbolsNow, VersionDef, VersionNeed, VersionNeedName};
-use elf_layout_needs::StayingNeeds;
-use elf_layout_plan::{Finished, StringTable, TableFault};
+use elf_layout_needs::{
+    Dynamic, Finished, Section, StayingNeeds, StringTable, SymbolsNow, TableFault, VersionDef,
+    VersionNeed, VersionNeedName,
+};
 use patch_bytes::ByteString;
 use std::alloc::{AllocError, Global};
 use std::marker::Model;
@@ -22,11 +23,11 @@ impl<'t> Model for Texts<'t> {
 
 impl<'t> Texts<'t> {
     ghost use Rattle.std.specs.Prelude.{◌≡◌, ◌≤◌, ◌<◌, ◌^◌, [], ◌∷◌, ◌++◌, get_or, length, map, IfOk, MatchResult, OnOk};
-    ghost use Rattle.elf_layout_plan.specs.TableFault.TheVariants.{NumberTooLarge};
-    ghost use Rattle.elf_layout_plan.specs.Strings.{HoldNoNul, IsTableOf, PlacesStand, table_length};
+    ghost use Rattle.elf_layout_needs.specs.TableFault.TheVariants.{NumberTooLarge};
+    ghost use Rattle.elf_layout_needs.specs.Strings.{HoldNoNul, IsTableOf, PlacesStand, table_length};
     ghost use Rattle.patch_bytes.specs.ByteString.{bytes_of_each};
-    ghost use Rattle.elf_image.specs.ImageModel.{definition_model, entry_model, name_model, needs_model, section_model};
-    ghost use Rattle.elf_layout_plan.specs.Texts.{texts_of_definitions, texts_of_entries, texts_of_entry, texts_of_needs, texts_of_symbols};
+    ghost use Rattle.elf_layout_needs.specs.ImageModel.{definition_model, entry_model, name_model, needs_model, section_model};
+    ghost use Rattle.elf_layout_needs.specs.Texts.{texts_of_definitions, texts_of_entries, texts_of_entry, texts_of_needs, texts_of_symbols};
     ghost use Rattle.elf_image_symbol_edits.specs.Loan.{symbols_now};
     ghost use Rattle.elf_layout_needs.specs.Staying.{staying_entries, unmarked_names, unmarked_needs, with_unmarked_names};
 

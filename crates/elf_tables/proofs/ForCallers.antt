@@ -22,3 +22,5 @@ pub use Rattle.elf_tables.proofs.TableBack
 pub use Rattle.elf_tables.proofs.VersionLaws
 pub use Rattle.elf_image.proofs.ForCallers.ReadImageLaws
 pub use Rattle.elf_image.proofs.ForCallers.Unclaimed
+pub use Rattle.elf_image.proofs.ForCallers.EditedLaws
+pub use Rattle.elf_image.proofs.ForCallers.KeptSections

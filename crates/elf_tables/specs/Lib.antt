@@ -20,3 +20,5 @@ pub use Rattle.elf_image.specs.ImageModel
 pub use Rattle.elf_image.specs.SymbolsRead
 pub use Rattle.elf_image.specs.Loan
 pub use Rattle.elf_image.specs.TableSymbols
+pub use Rattle.elf_image.specs.DynamicList
+pub use Rattle.elf_image.specs.declared.section.Section

@@ -25,5 +25,6 @@ pub use crate::numbers::{push_halves, push_words};
 pub use crate::strings::StringTable;
 pub use crate::versions::{build_verdef, build_versym};
 pub use elf_image::{
-    Builder, Dynamic, SymbolsNow, VersionId, VersionNeed, VersionNeedName, constants,
+    Builder, Dynamic, Form, Section, Segment, SymbolsNow, VersionDef, VersionId, VersionNeed,
+    VersionNeedName, constants, is_movable_type, loads_end,
 };

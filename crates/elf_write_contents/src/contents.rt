@@ -30,9 +30,9 @@ use elf_image::{Builder, Section};
 use elf_layout_plan::{Plan, is_numbered};
 use elf_write_symbol_tables::made::{Made, made_of};
 use elf_write_symbol_tables::versions::{definitions_content, needs_content};
-use elf_write_symbol_tables::{dynamic_symbols_content, static_symbols_content};
 use elf_write_symbol_tables::{
-    Renumbering, Reordering, gabi_content, gnu_content, relocations_content, versions_content,
+    Renumbering, Reordering, dynamic_symbols_content, gabi_content, gnu_content,
+    relocations_content, static_symbols_content, versions_content,
 };
 use patch_bytes::ByteString;
 use std::alloc::{AllocError, Global};

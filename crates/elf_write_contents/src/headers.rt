@@ -32,9 +32,8 @@ use elf_image::{Builder, Section};
 use elf_image_symbol_edits::SymbolsNow;
 use elf_layout_plan::{Plan, SectionPlace};
 use elf_tables::TableFault;
-use elf_write_symbol_tables::StayingNeeds;
 use elf_write_symbol_tables::made::{Made, made_of};
-use elf_write_symbol_tables::{NewSections, Reordering, new_number, order_of};
+use elf_write_symbol_tables::{NewSections, Reordering, StayingNeeds, new_number, order_of};
 use std::alloc::Global;
 
 // How many program headers and sections a plan has: few enough for plain numbering (gABI, ELF Header, e_phnum and e_shnum).

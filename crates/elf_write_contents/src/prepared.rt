@@ -19,9 +19,8 @@ use elf_format::records::{EntryNumbers, FileHeader, SectionHeader};
 use elf_image::Builder;
 use elf_layout_plan::Plan;
 use elf_tables::TableFault;
-use elf_write_symbol_tables::StayingNeeds;
 use elf_write_symbol_tables::made::{Made, made_strings};
-use elf_write_symbol_tables::{Renumbering, do_relocations_fit_in, renumbering_of};
+use elf_write_symbol_tables::{Renumbering, StayingNeeds, do_relocations_fit_in, renumbering_of};
 use std::alloc::Global;
 
 /// What stands in the headers of a written file, and in its dynamic section.

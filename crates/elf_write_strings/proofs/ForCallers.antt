@@ -23,3 +23,6 @@ pub use Rattle.elf_write_strings.proofs.VersionsShown
 pub use Rattle.elf_write_strings.proofs.VersionsTexts
 -- walks over symbols, one by one
 pub use Rattle.elf_layout_sizes.proofs.ForCallers.SymbolSteps
+-- plans, and texts that stay
+pub use Rattle.elf_layout_plan.proofs.ForCallers.PlacedRead
+pub use Rattle.elf_layout_plan.proofs.ForCallers.SameTexts

@@ -17,7 +17,7 @@ use crate::told::has_texts_in;
 use elf_image::constants::{SHT_DYNAMIC, SHT_DYNSYM, SHT_GNU_VERNEED, SHT_SYMTAB};
 use elf_image::{Builder, Section, VersionNeed};
 use elf_image_symbol_edits::SymbolsNow;
-use elf_layout_needs::StayingNeeds;
+use elf_layout_sizes::StayingNeeds;
 use std::alloc::{AllocError, Global};
 
 // Whether the dynamic list has texts that it had at read, in their order.

@@ -7,4 +7,4 @@ pub mod texts;
 mod told;
 pub mod versions;
 
-pub use elf_layout_needs::StayingNeeds;
+pub use elf_layout_sizes::StayingNeeds;

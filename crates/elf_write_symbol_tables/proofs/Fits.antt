@@ -16,7 +16,7 @@ use Rattle.elf_format.proofs.ForCallers.Lengths.{length-records}
 use Rattle.elf_format.proofs.ForCallers.NumberSteps.{number_at-below}
 use Rattle.elf_tables.specs.Fields.{do_fields_fit}
 use Rattle.elf_tables.specs.Spelled.{symbol_fields}
-use Rattle.elf_write_spec.proofs.ForCallers.HeaderTables.{records-at}
+use Rattle.elf_write_symbols.proofs.ForCallers.HeaderTables.{records-at}
 
 six_fit : (a b c d e g : ℕ × ℕ) → a.1 < 256 ^ a.0 → b.1 < 256 ^ b.0 → c.1 < 256 ^ c.0 → d.1 < 256 ^ d.0 → e.1 < 256 ^ e.0 → g.1 < 256 ^ g.0
     → do_fields_fit (a ∷ b ∷ c ∷ d ∷ e ∷ g ∷ []) ≡ true

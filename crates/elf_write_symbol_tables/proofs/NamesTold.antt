@@ -11,14 +11,14 @@ use Rattle.elf_format.specs.Options.{is_some_and, list_at}
 use Rattle.elf_format.specs.Views.{NamedSymbol}
 use Rattle.elf_format.proofs.ForCallers.ViewsAgree.{there_if}
 use Rattle.elf_image.specs.Kept.{link_of_type}
-use Rattle.elf_layout_plan.specs.Needs.{written_entries, written_needs}
-use Rattle.elf_layout_plan.specs.Texts.{if_linked, if_names, texts_in_use, texts_of_definitions, texts_of_entries, texts_of_needs, texts_of_symbols}
+use Rattle.elf_write_strings.specs.Needs.{written_entries, written_needs}
+use Rattle.elf_write_strings.specs.Texts.{if_linked, if_names, texts_in_use, texts_of_definitions, texts_of_entries, texts_of_needs, texts_of_symbols}
 use Rattle.elf_write_strings.specs.MadeTables.{IsMade}
 use Rattle.elf_tables.specs.Strings.{StandsAt, Strings, place_of}
 use Rattle.elf_tables.specs.StringSteps.{StandsWith}
 use Rattle.elf_tables.proofs.ForCallers.StandingTexts.{stands-from}
-use Rattle.elf_write_spec.proofs.ForCallers.FinalEntries.{written_none}
-use Rattle.elf_write_spec.proofs.ForCallers.WholeEdits.{ReadFacts}
+use Rattle.elf_write_symbols.proofs.ForCallers.FinalEntries.{written_none}
+use Rattle.elf_write_symbols.proofs.ForCallers.WholeEdits.{ReadFacts}
 use Rattle.elf_write_strings.specs.declared.made.Made.{Made}
 use Rattle.elf_write_strings.specs.WrittenStrings.{IsTold}
 use Rattle.elf_write_strings.proofs.ForCallers.TextsShared.{no_entries_read, none_edited, shared_link, symbols_share}

@@ -13,10 +13,10 @@ use Rattle.elf_write_strings.proofs.ForCallers.SymbolSteps.{part_at}
 use Rattle.elf_tables.specs.Fields.{do_fields_fit}
 use Rattle.elf_tables.specs.Spelled.{symbol_fields}
 use Rattle.elf_tables.specs.Strings.{place_of}
-use Rattle.elf_write_spec.specs.Final.{dynamic_order, final}
-use Rattle.elf_write_spec.specs.Headers.{Reads}
-use Rattle.elf_write_spec.specs.Ready.{IsEditedReady, IsSectionOfType}
-use Rattle.elf_write_spec.proofs.ForCallers.WholeEdits.{ReadFacts}
+use Rattle.elf_write_symbols.specs.Final.{dynamic_order, final}
+use Rattle.elf_write_symbols.specs.Headers.{Reads}
+use Rattle.elf_write_symbols.specs.Ready.{IsEditedReady, IsSectionOfType}
+use Rattle.elf_write_symbols.proofs.ForCallers.WholeEdits.{ReadFacts}
 use Rattle.elf_write_strings.specs.declared.made.Made.{Made}
 use Rattle.elf_write_strings.specs.WrittenStrings.{IsTold, are_static_names_left, content_read}
 use Rattle.elf_write_symbols.proofs.ForCallers.ReadyFacts.{facts}

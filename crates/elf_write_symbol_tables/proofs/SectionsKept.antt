@@ -8,7 +8,7 @@ use Rattle.elf_format.specs.Image.{Image}
 use Rattle.elf_format.specs.Views.{NamedSymbol}
 use Rattle.elf_image_symbols.specs.TableSymbols.{symbol_with}
 use Rattle.elf_write_strings.proofs.ForCallers.SymbolSteps.{rest_at, with_part}
-use Rattle.elf_write_spec.specs.Final.{new_symbol_section}
+use Rattle.elf_write_symbols.specs.Final.{new_symbol_section}
 use Rattle.elf_write_symbol_tables.specs.SymbolSteps.{is_section_kept}
 
 module _ (image : Image) (i : ℕ) where

@@ -18,7 +18,7 @@ use Rattle.elf_tables.specs.Fields.{do_fields_fit}
 use Rattle.elf_tables.specs.Spelled.{spelled_symbol, symbol_fields}
 use Rattle.elf_tables.proofs.ForCallers.SymbolBack.{symbols_are_read_back}
 use Rattle.elf_tables.proofs.ForCallers.TableBack.{tables_are_read_back}
-use Rattle.elf_write_spec.specs.Contents.{AreSymbolsOf, IsSymbolOf}
+use Rattle.elf_write_symbols.specs.Contents.{AreSymbolsOf, IsSymbolOf}
 use Rattle.elf_write_symbol_tables.specs.SymbolSteps.{AreSpelled, IsRecordAt, ShowsSymbols}
 
 pub symbol_size-positive : (form : Form) → 0 < symbol_size form

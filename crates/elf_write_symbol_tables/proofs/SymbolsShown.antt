@@ -15,14 +15,14 @@ use Rattle.elf_image_symbols.specs.TableSymbols.{kept_as, symbol_with}
 use Rattle.elf_write_strings.proofs.ForCallers.SymbolSteps.{with_part}
 use Rattle.elf_tables.specs.Fields.{do_fields_fit}
 use Rattle.elf_tables.specs.Spelled.{symbol_fields}
-use Rattle.elf_write_spec.specs.Contents.{IsSymbolOf}
-use Rattle.elf_write_spec.specs.Final.{dynamic_order, final, final_symbol, new_symbol_section, ordered}
-use Rattle.elf_write_spec.specs.Headers.{Reads}
-use Rattle.elf_write_spec.proofs.ForCallers.FinalSymbols.{all_symbols, final_count, final_ordered}
-use Rattle.elf_write_spec.proofs.ForCallers.NumberedSections.{each_there}
-use Rattle.elf_write_spec.proofs.ForCallers.OrderFacts.{ordered-at}
-use Rattle.elf_write_spec.proofs.ForCallers.WholeEdits.{ReadFacts, kept_is, numbered, rising, section_read, symbols_written}
-use Rattle.elf_write_spec.proofs.ForCallers.WholeLists.{there_at}
+use Rattle.elf_write_symbols.specs.Contents.{IsSymbolOf}
+use Rattle.elf_write_symbols.specs.Final.{dynamic_order, final, final_symbol, new_symbol_section, ordered}
+use Rattle.elf_write_symbols.specs.Headers.{Reads}
+use Rattle.elf_write_symbols.proofs.ForCallers.FinalSymbols.{all_symbols, final_count, final_ordered}
+use Rattle.elf_write_symbols.proofs.ForCallers.NumberedSections.{each_there}
+use Rattle.elf_write_symbols.proofs.ForCallers.OrderFacts.{ordered-at}
+use Rattle.elf_write_symbols.proofs.ForCallers.WholeEdits.{ReadFacts, kept_is, numbered, rising, section_read, symbols_written}
+use Rattle.elf_write_symbols.proofs.ForCallers.WholeLists.{there_at}
 use Rattle.elf_write_strings.specs.WrittenStrings.{content_read}
 use Rattle.elf_write_symbols.proofs.ForCallers.SectionFacts.{section_below, special_section, symbol_section}
 use Rattle.elf_write_symbol_tables.specs.SymbolSteps.{IsRecordAt, record_with}

@@ -18,19 +18,19 @@ use Rattle.elf_image.specs.Kept.{link_of_type}
 use Rattle.elf_image.specs.Names.{are_names_changed, texts_of_symbols}
 use Rattle.elf_image.specs.SymbolsRead.{HasStaticSymbolsOf, OfRead}
 use Rattle.elf_image_symbols.specs.TableSymbols.{kept_as, symbol_with}
-use Rattle.elf_layout_plan.specs.Texts.{is_table_copied}
-use Rattle.elf_layout_plan.proofs.ForCallers.PlacedRead.{at_read}
-use Rattle.elf_layout_plan.proofs.ForCallers.SameTexts.{names_kept}
-use Rattle.elf_write_spec.specs.Contents.{IsSymbolOf}
-use Rattle.elf_write_spec.specs.Final.{are_same_symbols, are_symbols_kept, final, final_symbol, is_same_symbol, new_symbol_section}
-use Rattle.elf_write_spec.specs.Ready.{IsEditedReady, IsSectionOfType}
-use Rattle.elf_write_spec.proofs.ForCallers.FinalSymbols.{all_symbols}
-use Rattle.elf_write_spec.specs.Headers.{Reads}
-use Rattle.elf_write_spec.proofs.ForCallers.NumberedSections.{each_there}
-use Rattle.elf_write_spec.proofs.ForCallers.StaticSymbols.{static_below}
-use Rattle.elf_write_spec.proofs.ForCallers.OrderFacts.{all_there, names_count, order-same}
-use Rattle.elf_write_spec.proofs.ForCallers.WholeEdits.{ReadFacts, symbols_written}
-use Rattle.elf_write_spec.proofs.ForCallers.WholeLists.{all-each, same_items, there_at}
+use Rattle.elf_write_strings.specs.Texts.{is_table_copied}
+use Rattle.elf_write_strings.proofs.ForCallers.PlacedRead.{at_read}
+use Rattle.elf_write_strings.proofs.ForCallers.SameTexts.{names_kept}
+use Rattle.elf_write_symbols.specs.Contents.{IsSymbolOf}
+use Rattle.elf_write_symbols.specs.Final.{are_same_symbols, are_symbols_kept, final, final_symbol, is_same_symbol, new_symbol_section}
+use Rattle.elf_write_symbols.specs.Ready.{IsEditedReady, IsSectionOfType}
+use Rattle.elf_write_symbols.proofs.ForCallers.FinalSymbols.{all_symbols}
+use Rattle.elf_write_symbols.specs.Headers.{Reads}
+use Rattle.elf_write_symbols.proofs.ForCallers.NumberedSections.{each_there}
+use Rattle.elf_write_symbols.proofs.ForCallers.StaticSymbols.{static_below}
+use Rattle.elf_write_symbols.proofs.ForCallers.OrderFacts.{all_there, names_count, order-same}
+use Rattle.elf_write_symbols.proofs.ForCallers.WholeEdits.{ReadFacts, symbols_written}
+use Rattle.elf_write_symbols.proofs.ForCallers.WholeLists.{all-each, same_items, there_at}
 use Rattle.elf_write_strings.specs.declared.made.Made.{Made}
 use Rattle.elf_write_strings.specs.WrittenStrings.{AreStrings, IsEditedTable, IsTold, are_static_names_left, are_texts_left, content_read, made_of, strings_at}
 use Rattle.elf_write_strings.proofs.ForCallers.TextsShared.{symbols_linked}

@@ -25,10 +25,10 @@ use Rattle.elf_image.specs.Kept.{KeptSection, link_of_type}
 use Rattle.elf_image.specs.ReadImage.{AreDynamicSymbols, AreStaticSymbols, AreSymbolsOf}
 use Rattle.elf_image_symbols.specs.TableSymbols.{kept_as}
 use Rattle.elf_tables.specs.Strings.{StandsAt}
-use Rattle.elf_write_spec.specs.Ready.{IsEditedReady, IsSectionOfType}
-use Rattle.elf_write_spec.proofs.ForCallers.LinkedLists.{found_only}
-use Rattle.elf_write_spec.proofs.ForCallers.SingleTypes.{one_section}
-use Rattle.elf_write_spec.proofs.ForCallers.WholeEdits.{ReadFacts, length-read}
+use Rattle.elf_write_symbols.specs.Ready.{IsEditedReady, IsSectionOfType}
+use Rattle.elf_write_symbols.proofs.ForCallers.LinkedLists.{found_only}
+use Rattle.elf_write_symbols.proofs.ForCallers.SingleTypes.{one_section}
+use Rattle.elf_write_symbols.proofs.ForCallers.WholeEdits.{ReadFacts, length-read}
 use Rattle.elf_write_strings.specs.WrittenStrings.{content_read}
 use Rattle.elf_write_strings.proofs.ForCallers.ReadTables.{first_keeps}
 use Rattle.elf_write_strings.proofs.ForCallers.TablesThere.{TableThere, content_at, link_there}

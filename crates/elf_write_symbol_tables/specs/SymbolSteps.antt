@@ -8,8 +8,8 @@ use Rattle.elf_format.specs.Records.{symbol_size, symbols_in}
 use Rattle.elf_format.specs.Views.{NamedSymbol}
 use Rattle.elf_tables.specs.Fields.{do_fields_fit}
 use Rattle.elf_tables.specs.Spelled.{spelled_symbol, symbol_fields}
-use Rattle.elf_write_spec.specs.Contents.{AreSymbolsOf, IsSymbolOf}
-use Rattle.elf_write_spec.specs.Final.{new_symbol_section}
+use Rattle.elf_write_symbols.specs.Contents.{AreSymbolsOf, IsSymbolOf}
+use Rattle.elf_write_symbols.specs.Final.{new_symbol_section}
 
 -- a record that was read, with another place of the name and the number that the symbol's section gets
 abbrev pub record_with : Image → ℕ → SymbolNumbers → SymbolNumbers

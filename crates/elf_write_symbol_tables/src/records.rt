@@ -4,7 +4,7 @@ ghost use Rattle.std.specs.List.{slice_get};
 ghost use Rattle.elf_format.specs.Records.{symbols_in};
 ghost use Rattle.elf_tables.specs.Fields.{do_fields_fit};
 ghost use Rattle.elf_tables.specs.Spelled.{symbol_fields};
-ghost use Rattle.elf_write_spec.specs.Ready.{IsEditedReady};
+ghost use Rattle.elf_write_symbols.specs.Ready.{IsEditedReady};
 ghost use Rattle.elf_write_symbols.specs.Renumbering.{IsRenumbering};
 ghost use Rattle.elf_write_symbol_tables.specs.SymbolSteps.{record_with};
 

@@ -5,3 +5,13 @@
 pub use Rattle.elf_write_symbols.proofs.ReadyFacts
 -- the new numbers of sections
 pub use Rattle.elf_write_symbols.proofs.SectionFacts
+pub use Rattle.elf_write_spec.proofs.ForCallers.FinalEntries
+pub use Rattle.elf_write_spec.proofs.ForCallers.FinalSymbols
+pub use Rattle.elf_write_spec.proofs.ForCallers.HeaderTables
+pub use Rattle.elf_write_spec.proofs.ForCallers.LinkedLists
+pub use Rattle.elf_write_spec.proofs.ForCallers.NumberedSections
+pub use Rattle.elf_write_spec.proofs.ForCallers.OrderFacts
+pub use Rattle.elf_write_spec.proofs.ForCallers.SingleTypes
+pub use Rattle.elf_write_spec.proofs.ForCallers.StaticSymbols
+pub use Rattle.elf_write_spec.proofs.ForCallers.WholeEdits
+pub use Rattle.elf_write_spec.proofs.ForCallers.WholeLists

@@ -4,3 +4,7 @@ pub mod Steps
 pub mod NewSections
 pub use Rattle.elf_hashes.specs.Found
 pub use Rattle.elf_hashes.specs.Versions
+pub use Rattle.elf_write_spec.specs.Contents
+pub use Rattle.elf_write_spec.specs.Final
+pub use Rattle.elf_write_spec.specs.Headers
+pub use Rattle.elf_write_spec.specs.Ready

@@ -5,12 +5,12 @@ ghost use Rattle.arwen_cli.specs.Fault.{answer_to_read, answer_to_words, fault_t
 ghost use Rattle.arwen_cli.specs.declared.cli.error.ArwenError.TheVariants.{Io, Memory};
 
 use crate::cli::line_error::LineError;
+use arwen_cli_overlaps::commands::ElfCommandError;
+use arwen_cli_overlaps::commands::files::{ElfBatchError, ElfError};
 use arwen_cli_show::{ElfCauses, MachoCauses, ShowCommandError};
 use arwen_macho::macho::{MachoBatchError, MachoError};
 use byte_store::ReadError;
 use command_words::{EditFault, EditsError};
-use arwen_cli_overlaps::commands::ElfCommandError;
-use arwen_cli_overlaps::commands::files::{ElfBatchError, ElfError};
 use macho_commands::MachoCommandError;
 use macho_signing::SigningFault;
 use std::alloc::{AllocError, AllocFailed};

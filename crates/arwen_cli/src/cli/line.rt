@@ -15,10 +15,10 @@ ghost use Rattle.arwen_cli.specs.Parser.{MayRefuse, MayRefuseReading, MayRefuseT
 use crate::cli::line_error::LineError;
 use crate::cli::parser::{First, parse_values};
 use crate::cli::{ArwenError, Command, ElfCommand, MachoCommand};
+use arwen_cli_overlaps::commands::{elf, elf_table};
 use arwen_cli_peers::{is_moved_by, without_move, without_quiet, without_sign};
 use arwen_cli_show::{Args, ArgsFault, HELP, parse_args};
 use command_words::{ValueError, Values, find_row};
-use arwen_cli_overlaps::commands::{elf, elf_table};
 use macho_commands::macho_table;
 use std::alloc::{AllocError, Global};
 

@@ -11,12 +11,12 @@ use crate::cli::Command;
 use crate::cli::error::{ArwenError, InnerCause};
 use crate::cli::line::read_line;
 use crate::cli::line_error::LineError;
+use arwen_cli_overlaps::commands::ElfCommand;
+use arwen_cli_overlaps::commands::files::{ElfError, ModifyCause};
 use arwen_cli_overlaps::overlap_text;
 use arwen_cli_show::{Told, bracket_of, elf_words, file_line, macho_words, rule_of};
 use arwen_macho::macho::MachoError;
 use command_words::{FileBytes, RegularBytes};
-use arwen_cli_overlaps::commands::ElfCommand;
-use arwen_cli_overlaps::commands::files::{ElfError, ModifyCause};
 use std::alloc::{AllocError, Global};
 use std::rt::Files;
 

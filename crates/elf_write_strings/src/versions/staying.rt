@@ -1,11 +1,11 @@
 ghost use Rattle.std.specs.Prelude.{◌≡◌, IfOk, map};
 ghost use Rattle.elf_image.specs.ImageModel.{name_model, needs_model};
-ghost use Rattle.elf_layout_needs.specs.Staying.{unmarked_names, unmarked_needs};
+ghost use Rattle.elf_layout_sizes.specs.Staying.{unmarked_names, unmarked_needs};
 ghost use Rattle.elf_layout_plan.specs.Needs.{written_needs};
 ghost use Rattle.elf_write_spec.specs.Ready.{IsEditedReady};
 
 use elf_image::{Builder, VersionNeed, VersionNeedName};
-use elf_layout_needs::StayingNeeds;
+use elf_layout_sizes::StayingNeeds;
 use patch_bytes::ByteString;
 use std::alloc::{AllocError, Global};
 

@@ -1,6 +1,6 @@
 use Rattle.std.proofs.Common.{◌≡◌, ◌+◌, ◌<◌, ◌^◌, drop, map}
-use Rattle.elf_image.specs.ImageModel.{needs_model}
-use Rattle.elf_layout_plan.specs.Sizes.{needs_size}
+use Rattle.elf_layout_needs.specs.ImageModel.{needs_model}
+use Rattle.elf_layout_needs.specs.Sizes.{needs_size}
 use Rattle.elf_layout_needs.specs.Staying.{unmarked_needs}
 use Rattle.elf_layout_sizes.proofs.versions.needs_size.Given as goal
 

@@ -1,7 +1,7 @@
 use Rattle.std.proofs.Common.{◌≡◌, ◌++◌, drop, map}
 use Rattle.elf_format.specs.Answers.{borrowed}
 use Rattle.elf_image.specs.ImageModel.{entry_model}
-use Rattle.elf_layout_needs.specs.Staying.{staying_entries}
+use Rattle.elf_layout_sizes.specs.Staying.{staying_entries}
 use Rattle.elf_layout_plan.specs.Texts.{texts_of_entries}
 use Rattle.elf_write_strings.proofs.texts.texts_of.Given as goal
 

@@ -3,7 +3,7 @@ use Rattle.std.proofs.Common.{◌∙◌, length, sym, subst}
 use Rattle.std.proofs.lemmas.Bool.{eqb-true}
 use Rattle.patch_bytes.specs.ByteString.{StringValue}
 use Rattle.elf_image.specs.ImageModel.{section_model}
-use Rattle.elf_write_spec.specs.Final.{final}
+use Rattle.elf_write_symbols.specs.Final.{final}
 use Rattle.elf_write_strings.specs.WrittenStrings.{content_read}
 use Rattle.elf_write_symbol_tables.specs.SymbolSteps.{ShowsSymbols}
 use Rattle.elf_write_symbol_tables.proofs.SymbolsStay.{dynamic_lent}

@@ -1,7 +1,7 @@
 use Rattle.std.proofs.Common.{◌≡◌, ◌∙◌, ◌*◌, ℕ, length, ap}
 use Rattle.elf_format.specs.Records.{symbol_size, symbols_in}
-use Rattle.elf_write_spec.specs.Contents.{AreSymbolsOf}
-use Rattle.elf_write_spec.specs.Final.{final}
+use Rattle.elf_write_symbols.specs.Contents.{AreSymbolsOf}
+use Rattle.elf_write_symbols.specs.Final.{final}
 use Rattle.elf_write_strings.specs.WrittenStrings.{strings_at}
 use Rattle.elf_write_strings.proofs.ForCallers.Results.{if_ok}
 use Rattle.elf_write_symbols.proofs.ForCallers.ReadyFacts.{facts}

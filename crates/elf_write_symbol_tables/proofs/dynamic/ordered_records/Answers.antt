@@ -4,7 +4,7 @@ use Rattle.elf_format.specs.declared.form.Form.{Form}
 use Rattle.elf_format.specs.Views.{NamedSymbol}
 use Rattle.elf_tables.specs.Fields.{do_fields_fit}
 use Rattle.elf_tables.specs.Spelled.{spelled_symbol, symbol_fields}
-use Rattle.elf_write_spec.specs.Final.{final}
+use Rattle.elf_write_symbols.specs.Final.{final}
 use Rattle.elf_write_symbols.proofs.ForCallers.ReadyFacts.{facts}
 use Rattle.elf_write_symbol_tables.proofs.Spelled.{all_spelled, more_spelled, none_spelled}
 use Rattle.elf_write_symbol_tables.proofs.SymbolsShown.{dynamic_long}

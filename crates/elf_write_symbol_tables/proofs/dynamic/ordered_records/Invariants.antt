@@ -1,4 +1,4 @@
-use Rattle.elf_write_spec.specs.Final.{final}
+use Rattle.elf_write_symbols.specs.Final.{final}
 use Rattle.elf_write_symbol_tables.specs.SymbolSteps.{AreSpelled}
 use Rattle.elf_write_symbol_tables.proofs.dynamic.ordered_records.Given as goal
 

@@ -2,7 +2,7 @@
 use Rattle.std.proofs.Common.{ℕ, List, sym, subst}
 use Rattle.patch_bytes.specs.ByteString.{StringValue}
 use Rattle.elf_image.specs.ImageModel.{section_model}
-use Rattle.elf_write_spec.specs.Final.{final}
+use Rattle.elf_write_symbols.specs.Final.{final}
 use Rattle.elf_write_strings.specs.WrittenStrings.{content_read, strings_at}
 use Rattle.elf_write_strings.proofs.ForCallers.Results.{if_ok}
 use Rattle.elf_write_strings.proofs.ForCallers.VersionsShown.{number_found, strings_copied, strings_made}

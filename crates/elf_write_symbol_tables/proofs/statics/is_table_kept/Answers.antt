@@ -1,6 +1,6 @@
 use Rattle.std.proofs.Common.{◌≡◌, ◌∙◌, Bool, true, false, refl, sym, ap}
 use Rattle.std.specs.Prelude.{◌&&◌}
-use Rattle.elf_write_spec.specs.Final.{are_symbols_kept as are_kept}
+use Rattle.elf_write_symbols.specs.Final.{are_symbols_kept as are_kept}
 use Rattle.elf_write_symbol_tables.proofs.statics.is_table_kept.Goals as goal
 
 with_false : (b : Bool) → false ≡ (b && false)

@@ -3,7 +3,7 @@ use Rattle.std.proofs.Common.{◌≡◌, ◌∙◌, ℕ, List, Some, sym, ap, su
 use Rattle.elf_format.specs.declared.constants.TheConstants.{SHT_SYMTAB}
 use Rattle.elf_image.specs.ImageModel.{section_model}
 use Rattle.elf_image.specs.Kept.{link_of_type}
-use Rattle.elf_write_spec.specs.Final.{final}
+use Rattle.elf_write_symbols.specs.Final.{final}
 use Rattle.elf_write_strings.specs.WrittenStrings.{content_read, strings_at}
 use Rattle.elf_write_strings.proofs.ForCallers.Results.{if_ok}
 use Rattle.elf_write_strings.proofs.ForCallers.VersionsShown.{number_found, strings_copied, strings_made}

@@ -5,9 +5,9 @@ use Rattle.std.proofs.lemmas.Bool.{and_parts, both_ways}
 use Rattle.patch_bytes.specs.ByteString.{StringValue}
 use Rattle.elf_format.specs.Records.{symbol_size, symbols_in}
 use Rattle.elf_image.specs.ImageModel.{section_model}
-use Rattle.elf_layout_plan.specs.Texts.{is_table_copied}
-use Rattle.elf_write_spec.specs.Contents.{AreSymbolsOf}
-use Rattle.elf_write_spec.specs.Final.{are_symbols_kept as are_kept, final}
+use Rattle.elf_write_strings.specs.Texts.{is_table_copied}
+use Rattle.elf_write_symbols.specs.Contents.{AreSymbolsOf}
+use Rattle.elf_write_symbols.specs.Final.{are_symbols_kept as are_kept, final}
 use Rattle.elf_write_strings.specs.WrittenStrings.{strings_at}
 use Rattle.elf_write_symbols.proofs.ForCallers.ReadyFacts.{facts}
 use Rattle.elf_write_symbol_tables.proofs.SymbolsShown.{static_long}

@@ -1,6 +1,6 @@
 use Rattle.std.proofs.Common.{◌≡◌, ◌++◌, drop, map}
 use Rattle.elf_image.specs.ImageModel.{needs_model}
-use Rattle.elf_layout_needs.specs.Staying.{unmarked_needs}
+use Rattle.elf_layout_sizes.specs.Staying.{unmarked_needs}
 use Rattle.elf_write_strings.proofs.versions.staying.needs_staying.Given as goal
 
 -- the records so far, with those that stay of the ones that are left, are all of them
