@@ -1,5 +1,6 @@
 -- What a caller in C finds after a call.
 use Rattle.std.specs.Prelude.{ℕ, ◌≡◌, ◌<◌, ◌≤◌, ◌++◌, Bool, false, List, Some, length, drop, slice_get}
+use Rattle.std.specs.Str.{IsUtf8}
 use Rattle.elf_commands.specs.ElfCommandError.{ElfCommandError}
 use Rattle.elf_commands.specs.ElfCommandError.TheVariants as elf
 use Rattle.macho_commands.specs.declared.error.MachoCommandError.{MachoCommandError}
@@ -13,16 +14,19 @@ use Rattle.arwen_c.specs.declared.editing.EditError.TheVariants.{Elf, Macho, Mem
 abbrev pub EndsInNul : List ℕ → Type 0
 EndsInNul buffer = 0 < length buffer → (end : ℕ) × (slice_get buffer end ≡ Some 0)
 
--- the edited bytes, without leave or with it, stand at the front of the buffer, which has room for them; what stands behind them stays
+-- The words are UTF-8, and the edited bytes, without leave or with it, stand at the front of the buffer, which has room for them;
+-- what stands behind them stays.
 pub record GivesWith (leave : Bool) (words bytes old new : List ℕ) (size : ℕ) : Type 0 where
+  pub is_text : IsUtf8 words
   pub made : List ℕ
   pub is_made : IsMadeWith leave (words_in words) bytes made
   pub fits : length made ≤ length old
   pub front : new ≡ made ++ drop (length made) old
   pub size_is : size ≡ length made
 
--- the buffer, which is too short for the edited bytes, stays; their number is told
+-- The words are UTF-8, and the buffer, which is too short for the edited bytes, stays; their number is told.
 pub record WantsWith (leave : Bool) (words bytes old new : List ℕ) (size : ℕ) : Type 0 where
+  pub is_text : IsUtf8 words
   pub made : List ℕ
   pub is_made : IsMadeWith leave (words_in words) bytes made
   pub short : length old < length made

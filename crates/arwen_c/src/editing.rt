@@ -1,5 +1,6 @@
 //! The bytes of a file after edits.
 ghost use Rattle.std.specs.Prelude.{◌≡◌, ◌⊎◌, Err, IfErr, IfOk, IsOk, MatchResult, false, map, string_bytes, true};
+ghost use Rattle.std.specs.Str.{IsUtf8};
 ghost use Rattle.elf_commands.specs.ElfEngine.{TellsEdit, bytes_left};
 ghost use Rattle.elf_commands.specs.ElfCommandError.TheVariants.{Memory as no_memory};
 ghost use Rattle.macho_commands.specs.Edits.{edits_of};
@@ -70,6 +71,7 @@ impl<T: Drop> From<AllocFailed<T>> for EditError {
 /// or `Macho` with what refuses the words, the file or an edit; `Memory`.
 pub fn edited(alloc: Global, bytes: &[u8], words: &[u8]) -> Result<Vec<u8>, EditError>
     ensures made { IfOk result (λ new. IsMade (words_told words.now) bytes.now new.items) }
+    ensures text { IsOk result → IsUtf8 words.now }
     ensures why { IfErr result (TellsWhy words.now bytes.now) }
 {
     edited_with(alloc, bytes, words, false)
@@ -80,6 +82,7 @@ pub fn edited(alloc: Global, bytes: &[u8], words: &[u8]) -> Result<Vec<u8>, Edit
 pub fn edited_moving(alloc: Global, bytes: &[u8], words: &[u8]) -> Result<Vec<u8>, EditError>
     ensures made { IfOk result (λ new.
         IsMadeWith true (words_told words.now) bytes.now new.items) }
+    ensures text { IsOk result → IsUtf8 words.now }
     ensures why { IfErr result (TellsWhyWith true words.now bytes.now) }
 {
     edited_with(alloc, bytes, words, true)
@@ -89,6 +92,7 @@ pub fn edited_moving(alloc: Global, bytes: &[u8], words: &[u8]) -> Result<Vec<u8
 fn edited_with(alloc: Global, bytes: &[u8], words: &[u8], leave: bool) -> Result<Vec<u8>, EditError>
     ensures made { IfOk result (λ new.
         IsMadeWith leave (words_told words.now) bytes.now new.items) }
+    ensures text { IsOk result → IsUtf8 words.now }
     ensures why { IfErr result (TellsWhyWith leave words.now bytes.now) }
 {
     let Ok(text) = std::str::from_utf8(words) else {

@@ -1,5 +1,5 @@
 -- What an error leaves and tells of a store's bytes, and why they could not be read or written.
-use Rattle.std.proofs.Common.{◌≡◌, ◌≤◌, ◌^◌, ℕ, List, Option, inl, inr}
+use Rattle.std.proofs.Common.{◌≡◌, ◌≤◌, ◌^◌, [], ◌∷◌, ℕ, List, Option, inl, inr}
 use Rattle.std.specs.declared.io.Error.{Error}
 use Rattle.byte_store.specs.Causes.{IsNotWhole}
 use Rattle.byte_store.specs.Known.{Stays}
@@ -8,15 +8,12 @@ use Rattle.byte_store.specs.declared.reading.ReadError.TheVariants as read
 use Rattle.macho_commands.proofs.SlicedRuns.{caused_later}
 use Rattle.macho_commands.specs.Errors.{answer_to, answer_to_read}
 use Rattle.macho_commands.specs.Failures.{HasCause}
-use Rattle.macho_commands.specs.Meaning.{apply}
-use Rattle.macho_commands.specs.Stores.{FailsPatch}
 use Rattle.macho_commands.specs.declared.error.MachoCommandError.{MachoCommandError}
 use Rattle.macho_commands.specs.declared.error.MachoCommandError.TheVariants.{Edits, Io, Macho, MachoBatch, Memory, Signing as signing, Unfit}
-use Rattle.macho_commands.specs.declared.signing.Signing.TheVariants.{Left}
 use Rattle.macho_edits.specs.declared.error.MachoError.{MachoError}
 use Rattle.macho_edits.specs.declared.error.MachoError.TheVariants as macho
 use Rattle.arwen_cli_peers.specs.Options.{Asked, Text}
-use Rattle.arwen_cli_install_names.specs.Editing.{AreKnownWords, FailsNames, HasNamesCause, TellsNoWords, answer_to_naming}
+use Rattle.arwen_cli_install_names.specs.Editing.{AreKnownWords, FailsNames, FailsPatchBy, HasNamesCause, TellsNoWords, answer_to_naming}
 use Rattle.arwen_cli_install_names.specs.Naming.{TellsUnnamed}
 use Rattle.arwen_cli_install_names.specs.declared.editing.NamesError.{NamesError}
 use Rattle.arwen_cli_install_names.specs.declared.editing.NamesError.TheVariants.{Command, Unlike}
@@ -37,18 +34,19 @@ wordless_fails given path old new (Command Unfit) kept tells = (kept, λ file kn
 wordless_fails given path old new Unlike kept tells = (kept, tells)
 
 -- `apply` isn't made with the words that options mean
-pub unapplied_fails : (given : List Asked) (path : Text) (words : List Text) (old new : Option (List ℕ)) (e : MachoCommandError) → AreKnownWords given old words → FailsPatch Left (apply path words) old new e
+pub unapplied_fails : (given : List Asked) (path : Text) (words : List Text) (old new : Option (List ℕ)) (e : MachoCommandError) → AreKnownWords given old words → FailsPatchBy path words old new e
     → FailsNames given path old new (Command e)
-unapplied_fails given path words old new (Io e) are fails = elim fails [
+unapplied_fails given path [] old new e are fails = absurd fails
+unapplied_fails given path (word ∷ words) old new (Io e) are fails = elim fails [
   | inl kept ↦ inl kept
-  | inr torn ↦ inr (words, are, torn)
+  | inr torn ↦ inr (word ∷ words, are, torn)
 ]
-unapplied_fails given path words old new Memory are fails = (fails.0, λ file known. inr (words, are file known, fails.1 file known))
-unapplied_fails given path words old new (Macho e) are fails = (fails.0, λ file known. inr (words, are file known, fails.1 file known))
-unapplied_fails given path words old new (MachoBatch e) are fails = (fails.0, λ file known. inr (words, are file known, fails.1 file known))
-unapplied_fails given path words old new (Edits e) are fails = (fails.0, λ file known. inr (words, are file known, fails.1 file known))
-unapplied_fails given path words old new (signing e) are fails = (fails.0, λ file known. inr (words, are file known, fails.1 file known))
-unapplied_fails given path words old new Unfit are fails = (fails.0, λ file known. inr (words, are file known, fails.1 file known))
+unapplied_fails given path (word ∷ words) old new Memory are fails = (fails.0, λ file known. inr (word ∷ words, are file known, fails.1 file known))
+unapplied_fails given path (word ∷ words) old new (Macho e) are fails = (fails.0, λ file known. inr (word ∷ words, are file known, fails.1 file known))
+unapplied_fails given path (word ∷ words) old new (MachoBatch e) are fails = (fails.0, λ file known. inr (word ∷ words, are file known, fails.1 file known))
+unapplied_fails given path (word ∷ words) old new (Edits e) are fails = (fails.0, λ file known. inr (word ∷ words, are file known, fails.1 file known))
+unapplied_fails given path (word ∷ words) old new (signing e) are fails = (fails.0, λ file known. inr (word ∷ words, are file known, fails.1 file known))
+unapplied_fails given path (word ∷ words) old new Unfit are fails = (fails.0, λ file known. inr (word ∷ words, are file known, fails.1 file known))
 
 -- ## Causes
 

@@ -6,7 +6,7 @@ use Rattle.byte_store.specs.Known.{Stays}
 use Rattle.byte_store.specs.declared.reading.ReadError.TheVariants as read
 use Rattle.macho_commands.specs.Engine.{Tells, outcome}
 use Rattle.macho_commands.specs.Meaning.{apply}
-use Rattle.macho_commands.specs.Stores.{Patched, Torn}
+use Rattle.macho_commands.specs.Stores.{FailsPatch, Patched, Torn}
 use Rattle.macho_commands.specs.declared.error.MachoCommandError.{MachoCommandError}
 use Rattle.macho_commands.specs.declared.error.MachoCommandError.TheVariants.{Io}
 use Rattle.macho_commands.specs.declared.signing.Signing.TheVariants.{Left}
@@ -36,6 +36,11 @@ pub record IsNamed (given : List Asked) (path : Text) (old new : Option (List �
 
 -- ## What an error leaves and tells
 
+-- what an error of `apply` with these words leaves and tells; without words it isn't called
+abbrev pub FailsPatchBy : Text → List Text → Option (List ℕ) → Option (List ℕ) → MachoCommandError → Type 0
+FailsPatchBy path [] old new e = ⊥
+FailsPatchBy path (word ∷ words) old new e = FailsPatch Left (apply path (word ∷ words)) old new e
+
 -- why a file isn't edited of which it isn't known what options mean
 abbrev pub answer_to_naming : NamingFault → NamesError
 answer_to_naming (naming.Command e) = Command e
@@ -47,10 +52,15 @@ TellsNoWords given known (Command (Io e)) = ⊤
 TellsNoWords given known (Command e) = (file : List ℕ) → known ≡ Some file → TellsUnread file e
 TellsNoWords given known Unlike = (file : List ℕ) → known ≡ Some file → IsUnlike given file
 
+-- the error of `apply` with these words; without words it isn't called
+abbrev pub TellsUnpatched : Text → List Text → List ℕ → MachoCommandError → Type 0
+TellsUnpatched path [] file e = ⊥
+TellsUnpatched path (word ∷ words) file e = Tells (outcome Left (apply path (word ∷ words)) file) e
+
 -- the error of `apply` on the bytes of a file, with the words that options mean of them
 abbrev pub TellsUnapplied : List Asked → Text → List ℕ → MachoCommandError → Type 0
 TellsUnapplied given path file e =
-    (words : List Text) × AreWordsOf given file words × Tells (outcome Left (apply path words) file) e
+    (words : List Text) × AreWordsOf given file words × TellsUnpatched path words file e
 
 -- an error of the bytes of a file: they aren't read, or `apply` isn't made, or the slices need unlike words
 abbrev pub TellsNaming : List Asked → Text → List ℕ → NamesError → Type 0

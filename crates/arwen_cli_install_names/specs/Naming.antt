@@ -44,9 +44,15 @@ parts_of (Fat held) = map slice_bytes held.state.slices
 abbrev pub AreWords : List Asked → List (List ℕ) → List Text → Type 0
 AreWords given parts words = AllByRecursion (λ part. words ≡ words_in part given) parts
 
--- options mean these words of the bytes of a file, of each slice the same
-abbrev pub AreWordsOf : List Asked → List ℕ → List Text → Type 0
-AreWordsOf given file words = AreWords given (parts_of (first_container file)) words
+-- the same, where there are no words if there is no thin file
+abbrev pub AreWordsOfAll : List Asked → List (List ℕ) → List Text → Type 0
+AreWordsOfAll given [] words = words ≡ []
+AreWordsOfAll given (part ∷ parts) words = AreWords given (part ∷ parts) words
+
+-- The bytes are a Mach-O file that is read, and options mean these words of it, of each slice the same.
+pub record AreWordsOf (given : List Asked) (file : List ℕ) (words : List Text) : Type 0 where
+  pub read : container_found file ≡ None
+  pub are : AreWordsOfAll given (parts_of (first_container file)) words
 
 -- ## Why there are no words
 

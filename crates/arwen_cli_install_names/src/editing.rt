@@ -6,7 +6,7 @@ ghost use Rattle.macho_commands.specs.Meaning.{apply as apply_meant, macho_comma
 ghost use Rattle.macho_commands.specs.Stores.{FailsPatch};
 ghost use Rattle.macho_commands.specs.declared.signing.Signing.TheVariants.{Left};
 ghost use Rattle.arwen_cli_peers.specs.Options.{given_model};
-ghost use Rattle.arwen_cli_install_names.specs.Editing.{AreKnownWords, FailsNames, HasNamesCause, IsNamed, IsPatchedBy, TellsNoWords};
+ghost use Rattle.arwen_cli_install_names.specs.Editing.{AreKnownWords, FailsNames, FailsPatchBy, HasNamesCause, IsNamed, IsPatchedBy, TellsNoWords};
 
 use crate::naming::{NamingFault, words_for};
 use arwen_cli_peers::Given;
@@ -127,8 +127,7 @@ fn patch_by<S: Store>(
 ) -> Result<String, MachoCommandError>
     ensures patched { OnOk result (IsPatchedBy path.now (map string_bytes words.items)
         (S.contents store.old) (S.contents store.new)) }
-    ensures left { IfErr result (FailsPatch Left
-        (apply_meant path.now (map string_bytes words.items))
+    ensures left { IfErr result (FailsPatchBy path.now (map string_bytes words.items)
         (S.contents store.old) (S.contents store.new)) }
     ensures cause { IfErr result (HasCause S.may_fail_read S.may_fail_write S.may_take_none
         (S.contents store.old) (S.failed store.old) (S.failed store.new)) }

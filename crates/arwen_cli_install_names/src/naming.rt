@@ -6,7 +6,7 @@ ghost use Rattle.macho_edits.specs.State.{laid_bytes};
 ghost use Rattle.macho_image.specs.Commands.{libs_of, rpaths_of};
 ghost use Rattle.arwen_cli_peers.specs.NameWords.{names_model};
 ghost use Rattle.arwen_cli_peers.specs.Options.{given_model};
-ghost use Rattle.arwen_cli_install_names.specs.Naming.{AreWords, AreWordsOf, TellsUnnamed, TellsWordless, names_in, parts_of, slice_bytes, words_in as words_meant};
+ghost use Rattle.arwen_cli_install_names.specs.Naming.{AreWords, AreWordsOf, AreWordsOfAll, TellsUnnamed, TellsWordless, names_in, parts_of, slice_bytes, words_in as words_meant};
 
 use arwen_cli_peers::Given;
 use arwen_cli_peers::name_words::{Names, name_words};
@@ -85,7 +85,7 @@ fn words_in(
     file: &MachoType<'_>,
     given: &[Given<'_>],
 ) -> Result<Vec<String>, NamingFault>
-    ensures ok { IfOk result (λ words. AreWords (map given_model given.now) (parts_of file.now)
+    ensures ok { IfOk result (λ words. AreWordsOfAll (map given_model given.now) (parts_of file.now)
         (map string_bytes words.items)) }
     ensures err { IfErr result (TellsWordless (map given_model given.now) (parts_of file.now)) }
 {
@@ -101,7 +101,7 @@ fn words_of_slices(
     slices: &[FatMacho<'_>],
     given: &[Given<'_>],
 ) -> Result<Vec<String>, NamingFault>
-    ensures ok { IfOk result (λ words. AreWords (map given_model given.now)
+    ensures ok { IfOk result (λ words. AreWordsOfAll (map given_model given.now)
         (map slice_bytes (map slice_model slices.now)) (map string_bytes words.items)) }
     ensures err { IfErr result (TellsWordless (map given_model given.now)
         (map slice_bytes (map slice_model slices.now))) }

@@ -1,5 +1,5 @@
 -- Why files aren't edited, in words.
-use Rattle.std.specs.Prelude.{ℕ, ◌≡◌, ◌++◌, List, [], Option, Some, None, codes, ⊤}
+use Rattle.std.specs.Prelude.{ℕ, ◌≡◌, ◌++◌, List, [], Option, Some, None, codes, decimal, ⊤}
 use Rattle.byte_store.specs.Known.{IsAll}
 use Rattle.arwen_cli_patchelf.specs.Meaning.{apply_moving_elf, elf_command_model}
 use Rattle.arwen_cli_patchelf.specs.ElfCommand.{ElfCommand}
@@ -43,8 +43,17 @@ abbrev pub elf_kind : PatchelfError → Text
 elf_kind (Absent print) = absent_words print
 elf_kind (patchelf.Command e) = command_kind e
 
+-- which edit of a list is refused, and why
+abbrev pub AreNumbered : ℕ → Text → Type 0
+AreNumbered index causes = (why : Text) × (causes ≡ decimal index ++ (codes ": " ++ why))
+
+-- what stands behind the kind of a fault: of a refused list first which edit it is
+abbrev pub AreElfInner : PatchelfError → Text → Type 0
+AreElfInner (patchelf.Command (elf.ElfBatch e)) inner = AreNumbered e.index inner
+AreElfInner e inner = ⊤
+
 abbrev pub AreElfCauses : PatchelfError → Text → Type 0
-AreElfCauses e causes = (inner : Text) × (causes ≡ elf_kind e ++ inner)
+AreElfCauses e causes = (inner : Text) × AreElfInner e inner × (causes ≡ elf_kind e ++ inner)
 
 -- the same of a Mach-O file
 abbrev pub macho_kind : MachoCommandError → Text
@@ -60,8 +69,12 @@ abbrev pub names_kind : NamesError → Text
 names_kind (Command e) = macho_kind e
 names_kind Unlike = codes "its slices need unlike edits"
 
+abbrev pub AreNamesInner : NamesError → Text → Type 0
+AreNamesInner (Command (macho.MachoBatch e)) inner = AreNumbered e.index inner
+AreNamesInner e inner = ⊤
+
 abbrev pub AreNameCauses : NamesError → Text → Type 0
-AreNameCauses e causes = (inner : Text) × (causes ≡ names_kind e ++ inner)
+AreNameCauses e causes = (inner : Text) × AreNamesInner e inner × (causes ≡ names_kind e ++ inner)
 
 -- ## What they leave open
 

@@ -1,5 +1,5 @@
 -- What is said of lines that aren't run.
-use Rattle.std.specs.Prelude.{◌≡◌, ◌++◌, codes, string_bytes}
+use Rattle.std.specs.Prelude.{ℕ, ◌≡◌, ◌++◌, codes, decimal, string_bytes}
 use Rattle.arwen_cli_install_names.specs.Line.{NameRefusal, name_refused_model}
 use Rattle.arwen_cli_install_names.specs.Line.NameRefusal.{no_file as names_none, several_files as names_several, plus as names_plus}
 use Rattle.arwen_cli_install_names.specs.declared.line.NameLineError.{NameLineError}
@@ -52,17 +52,17 @@ map_words OneName = codes "an old name without a new one"
 map_words Twice = codes "this old name stands on a line before"
 map_words Version = codes "a name with a version"
 
--- why a value wasn't read; the error of a system has a text of its own, and a number its digits
+-- why a value wasn't read; the error of a system has a text of its own
 abbrev pub TellsIo : Text → Type 0
 TellsIo text = (why : Text) × (text ≡ codes "getting info about the file: " ++ why)
 
-abbrev pub TellsMapLine : MapWrong → Text → Type 0
-TellsMapLine wrong text = (number : Text) × (text ≡ codes "line " ++ (number ++ (codes ": " ++ map_words wrong)))
+abbrev pub map_line : MapWrong → ℕ → Text
+map_line wrong number = codes "line " ++ (decimal number ++ (codes ": " ++ map_words wrong))
 
 abbrev pub TellsCause : ValueCause → Text → Type 0
 TellsCause (cause.Io e) text = TellsIo text
 TellsCause cause.NotText text = text ≡ codes "not UTF-8 text"
-TellsCause (cause.Map wrong line) text = TellsMapLine wrong text
+TellsCause (cause.Map wrong number) text = text ≡ map_line wrong number
 TellsCause cause.Memory text = ⊥
 
 abbrev pub value_line : Text → Text → Text → Text

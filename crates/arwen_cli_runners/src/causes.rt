@@ -1,11 +1,11 @@
 //! Why files aren't edited, in words.
-ghost use Rattle.std.specs.Prelude.{◌≡◌, IfOk, IfSome, map, string_bytes};
+ghost use Rattle.std.specs.Prelude.{◌≡◌, ◌++◌, IfOk, IfSome, codes, decimal, map, string_bytes};
 ghost use Rattle.byte_store.specs.Known.{IsAll};
 ghost use Rattle.arwen_cli_facts.specs.Reasons.{elf_words as elf_told};
 ghost use Rattle.arwen_cli_patchelf_lines.specs.Plans.{plan_model};
-ghost use Rattle.arwen_cli_runners.specs.Causes.{AreElfCauses, AreNameCauses, IsApplyCommand, IsElfFaultLine, IsNamesFaultLine, TellsElfKnown, TellsMachoKnown, absent_words as absent_told, command_kind as command_kind_of, elf_kind as elf_kind_of, names_kind as names_kind_of};
+ghost use Rattle.arwen_cli_runners.specs.Causes.{AreElfCauses, AreElfInner, AreNameCauses, AreNamesInner, IsApplyCommand, IsElfFaultLine, IsNamesFaultLine, TellsElfKnown, TellsMachoKnown, absent_words as absent_told, command_kind as command_kind_of, elf_kind as elf_kind_of, names_kind as names_kind_of};
 
-use crate::ending::joined;
+use crate::ending::{joined, three};
 use arwen_cli_facts::{
     ElfCauses, MachoCauses, Told, bracket_of, elf_words, file_line, macho_words, rule_of,
 };
@@ -81,7 +81,9 @@ fn command_kind(error: &ElfCommandError) -> &'static str
 }
 
 /// What stands behind that: of a refused batch first which edit it is.
-fn elf_inner(alloc: Global, error: &PatchelfError) -> Result<String, AllocError> {
+fn elf_inner(alloc: Global, error: &PatchelfError) -> Result<String, AllocError>
+    ensures { IfOk result (λ inner. AreElfInner error.now (string_bytes inner)) }
+{
     let PatchelfError::Command(error) = error else {
         return Ok(String::new(alloc));
     };
@@ -89,12 +91,22 @@ fn elf_inner(alloc: Global, error: &PatchelfError) -> Result<String, AllocError>
         ElfCommandError::Elf(fault) => format!(in alloc; "{}", ElfCauses { fault }),
         ElfCommandError::ElfBatch(batch) => {
             let fault = &batch.fault;
-            format!(in alloc; "{}: {}", batch.index, ElfCauses { fault })
+            let why = format!(in alloc; "{}", ElfCauses { fault })?;
+            numbered(alloc, batch.index, why.as_str())
         }
         ElfCommandError::Io(fault) => format!(in alloc; "{fault}"),
         ElfCommandError::Edits(fault) => format!(in alloc; "{fault}"),
         ElfCommandError::Memory => Ok(String::new(alloc)),
     }
+}
+
+/// Which edit of a list is refused, and why.
+fn numbered(alloc: Global, index: usize, why: &str) -> Result<String, AllocError>
+    ensures { IfOk result (λ text.
+        string_bytes text ≡ decimal index ++ (codes ": " ++ why.now)) }
+{
+    let number = index.to_string(alloc)?;
+    three(alloc, number.as_str(), ": ", why)
 }
 
 /// What stands in brackets behind the causes of a fault of the ELF file at a path.
@@ -217,7 +229,9 @@ fn names_kind(error: &NamesError) -> &'static str
 }
 
 /// What stands behind that: of a refused batch first which edit it is.
-fn names_inner(alloc: Global, error: &NamesError) -> Result<String, AllocError> {
+fn names_inner(alloc: Global, error: &NamesError) -> Result<String, AllocError>
+    ensures { IfOk result (λ inner. AreNamesInner error.now (string_bytes inner)) }
+{
     let NamesError::Command(error) = error else {
         return Ok(String::new(alloc));
     };
@@ -225,7 +239,8 @@ fn names_inner(alloc: Global, error: &NamesError) -> Result<String, AllocError> 
         MachoCommandError::Macho(fault) => format!(in alloc; "{}", MachoCauses { fault }),
         MachoCommandError::MachoBatch(batch) => {
             let fault = &batch.fault;
-            format!(in alloc; "{}: {}", batch.index, MachoCauses { fault })
+            let why = format!(in alloc; "{}", MachoCauses { fault })?;
+            numbered(alloc, batch.index, why.as_str())
         }
         MachoCommandError::Io(fault) => format!(in alloc; "{fault}"),
         MachoCommandError::Edits(fault) => format!(in alloc; "{fault}"),

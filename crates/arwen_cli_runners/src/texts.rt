@@ -2,7 +2,7 @@
 ghost use Rattle.std.specs.Prelude.{◌≡◌, IfOk, codes, string_bytes};
 ghost use Rattle.arwen_cli_install_names.specs.Line.{name_refused_model};
 ghost use Rattle.arwen_cli_patchelf_lines.specs.Refusals.{refused_model};
-ghost use Rattle.arwen_cli_runners.specs.Texts.{EndsUnread, EndsUnreadNames, EndsWords, TellsCause, TellsIo, TellsMapLine, TellsValue, map_words as words_of_map, name_refusal_line, refusal_line};
+ghost use Rattle.arwen_cli_runners.specs.Texts.{EndsUnread, EndsUnreadNames, EndsWords, TellsCause, TellsIo, TellsValue, map_line, map_words as words_of_map, name_refusal_line, refusal_line};
 
 use crate::ending::{Ending, joined, three};
 use arwen_cli_install_names::{NameLineError, NameRefused};
@@ -217,9 +217,9 @@ fn io_text(alloc: Global, error: &io::Error) -> Result<String, AllocError>
 
 /// What is wrong with a line of a map of names.
 fn map_text(alloc: Global, wrong: MapWrong, line: usize) -> Result<String, AllocError>
-    ensures { IfOk result (λ text. TellsMapLine wrong (string_bytes text)) }
+    ensures { IfOk result (λ text. string_bytes text ≡ map_line wrong line) }
 {
-    let number = format!(in alloc; "{line}")?;
+    let number = line.to_string(alloc)?;
     let told = three(alloc, number.as_str(), ": ", map_words(wrong))?;
     joined(alloc, "line ", told.as_str())
 }

@@ -1,10 +1,8 @@
 -- The bytes before the edits are those that were read.
 use Rattle.std.proofs.Common.{List, Option, map, string_bytes, subst, ℕ}
 use Rattle.std.proofs.lemmas.Result.{err_from_is_err_and}
-use Rattle.macho_commands.specs.Meaning.{apply as apply_meant}
-use Rattle.macho_commands.specs.Stores.{FailsPatch}
-use Rattle.macho_commands.specs.declared.signing.Signing.TheVariants.{Left}
 use Rattle.arwen_cli_peers.specs.Options.{Text, given_model}
+use Rattle.arwen_cli_install_names.specs.Editing.{FailsPatchBy}
 use Rattle.arwen_cli_install_names.proofs.FailureLaws.{cause_after, unapplied_fails, wordless_fails}
 use Rattle.arwen_cli_install_names.proofs.editing.name_store.Goals as goal
 
@@ -18,7 +16,7 @@ pub returns-in_err-patch_by-clause-left : goal.returns-in_err-patch_by-clause-le
 returns-in_err-patch_by-clause-left g c =
     let p = err_from_is_err_and c.from_residual-in_err-patch_by.result c.from_residual-in_err-patch_by.ensures.1 in
     let words : List Text = map string_bytes c.in_ok-words.words.items in
-    let Fails : Option (List ℕ) → Type 0 = λ o. FailsPatch Left (apply_meant c.args.path.now words) o (g.S.Store.contents c.patch_by.new.store) c.in_err-patch_by.field-0.0 in
+    let Fails : Option (List ℕ) → Type 0 = λ o. FailsPatchBy c.args.path.now words o (g.S.Store.contents c.patch_by.new.store) c.in_err-patch_by.field-0.0 in
     rw (p.1, p.2) (unapplied_fails (map given_model c.args.given.now) c.args.path.now words (g.S.Store.contents c.args.store.now) (g.S.Store.contents c.patch_by.new.store) c.in_err-patch_by.field-0.0
     c.in_ok-words.ensures.are (subst Fails c.in_ok-words.ensures.kept c.in_err-patch_by.ensures.left))
 
