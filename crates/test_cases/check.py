@@ -448,7 +448,7 @@ def steps(text):
     """The lines of a file, each with what was printed of it."""
     found = []
     for line in text.split("\n"):
-        if line[:2] in ("= ", "> ", "m ", "! ", "$ ", "? ", "* ", "h ", "p ", "n ") or line[:1] in ("#", "", "?", ">"):
+        if line[:2] in ("= ", "> ", "m ", "! ", "$ ", "? ", "* ", "h ", "p ", "n ", "@ ", "q ", "w ", "f ") or line[:1] in ("#", "", "?", ">"):
             found.append((line, []))
         elif found:
             found[-1][1].append(line)

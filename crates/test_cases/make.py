@@ -16,7 +16,7 @@ sys.path.insert(0, os.path.join(HERE, "..", "..", "examples"))
 sys.dont_write_bytecode = True
 import make as examples  # noqa: E402
 
-LC_LOAD_WEAK_DYLIB, LC_REEXPORT_DYLIB = 0x80000018, 0x8000001F
+LC_LOAD_WEAK_DYLIB, LC_REEXPORT_DYLIB, LC_CODE_SIGNATURE = 0x80000018, 0x8000001F, 0x1D
 
 # Where the code of the Mach-O libraries begins, behind the room for commands.
 CODE_AT = 512
@@ -72,6 +72,19 @@ def fat_table(slices):
     return table
 
 
+def roomy(commands=()):
+    """A library of a narrow form with these commands alone, and with room for one of 16 bytes behind them."""
+    form = examples.Form(32, ">")
+    size = sum(len(command) for command in commands)
+    words = (0xFEEDFACE, *examples.I386, examples.MH_DYLIB, len(commands), size, examples.MH_FLAGS)
+    return form.pack("IIIIIII", *words) + b"".join(commands) + bytes(16)
+
+
+def signed():
+    """The command of a code signature, which is empty."""
+    return examples.Form(32, ">").pack("IIII", LC_CODE_SIGNATURE, 16, 0, 0)
+
+
 def machos():
     """The Mach-O files, by name."""
     little64, big64 = examples.Form(64, "<"), examples.Form(64, ">")
@@ -91,6 +104,9 @@ def machos():
         "fat": examples.fat([(arm, lib), (other, library(big32))], 4),
         "fat-uneven": examples.fat([(arm, lib), (other, library(big32, []))], 4),
         "fat-full": examples.fat([(arm, lib), (arm, macho(little64, [path], 64))], 4),
+        "roomy": roomy(),
+        "roomy-signed": roomy([signed()]),
+        "fat-roomy": examples.fat([(examples.I386, roomy()), ((7, 4), roomy())], 0),
         "fat-archive": examples.fat([(arm, archive), (arm, lib)], 4),
         "fat-outside": fat_table([(64, 65)]).ljust(128, b"\0"),
         "fat-overlap": fat_table([(64, 64), (127, 1)]).ljust(128, b"\0"),
@@ -248,6 +264,13 @@ def shrinking(last=b"/nowhere/b"):
     return [(DT_NEEDED, b"libgone.so"), (DT_RUNPATH, path), (DT_RPATH, b"/nowhere::y")]
 
 
+def unlisted(form):
+    """A program with no segments, whose one section is a table of names, empty, behind the section headers."""
+    data = b"\x7fELF" + bytes([2, 1, 1, 3]) + bytes(8)
+    data += form.pack("HHIQQQIHHHHHH", 2, 62, 1, 0, 0, 64, 0, 64, 56, 0, 64, 2, 1)
+    return data + bytes(form.section) + form.section_header(0, SHT_STRTAB, 0, 0, 192, 1, 0, 1, 0) + b"\0"
+
+
 def altered(data, kind, field, by):
     """A file of 64 bits, the lowest byte first, with a number of the program header of a kind made greater."""
     made = bytearray(data)
@@ -272,6 +295,7 @@ def elfs():
         "elf-lossy": elf(big32, [(DT_NEEDED, b"lib\xff.so"), (DT_SONAME, b"")]),
         "elf-bare": elf(little64),
         "elf-small": small(little64),
+        "elf-no-list": unlisted(little64),
         "elf-comment": commented(little64),
         "paths-64-little": elf(little64, shrinking()),
         "paths-64-big": elf(big64, shrinking()),

@@ -5,7 +5,8 @@ use byte_store::{
     Creates, FileStore, MemoryFolder, MemoryStore, Piece, ReadError, RuntimeFiles, Store,
     load_up_to, load_whole, read_up_to, read_whole, write_pieces,
 };
-use std::io::Write;
+use std::alloc::Global;
+use std::io::{Read, Write};
 use std::rt::Files;
 use std::{env, fs, io, process};
 
@@ -34,6 +35,76 @@ fn readers(rt: HostRuntime) {
     expect!(&rt; read_whole(rt.alloc(), &mut zeros, 9, 300_000), None, b"");
     let mut reader = b"abcdef".as_slice();
     expect!(&rt; read_whole(rt.alloc(), &mut reader, 6, 6), Some(6), b"abcdef");
+}
+
+// What the readers in pieces give.
+const GIVEN: &[u8; 64] = b"0123456789abcdef0123456789ABCDEF0123456789abcdef0123456789ABCDEF";
+
+// A reader that gives its bytes in pieces, is interrupted before each of them, and fails or ends behind the last.
+#[derive(Drop)]
+struct Pieces {
+    left: &'static [u8],
+    is_interrupted: bool,
+    fails: bool,
+}
+
+impl Read for Pieces {
+    fn read(&mut self, buf: &mut [u8]) -> io::Result<usize> {
+        self.is_interrupted = !self.is_interrupted;
+        if self.is_interrupted {
+            return Err(io::Error::from(io::ErrorKind::Interrupted));
+        }
+        if self.left.is_empty() && self.fails {
+            return Err(io::Error::from(io::ErrorKind::UnexpectedEof));
+        }
+        let count = self.left.len().min(buf.len()).min(7);
+        buf[..count].copy_from_slice(&self.left[..count]);
+        self.left = &self.left[count..];
+        Ok(count)
+    }
+}
+
+// How many bytes are expected, and whether the reader fails.
+const PIECES: [(u64, bool); 5] = [
+    (0, false),
+    (3, false),
+    (64, false),
+    (u64::MAX, false),
+    (64, true),
+];
+
+// What is read of such a reader, of which no more than a program reads of a file.
+fn read_pieces(alloc: Global, length: u64, fails: bool) -> Result<Vec<u8>, ReadError> {
+    let mut reader = Pieces {
+        left: GIVEN,
+        is_interrupted: false,
+        fails,
+    };
+    read_up_to(alloc, &mut reader, length, 1 << 32)
+}
+
+// Whether all is read that a reader gives, or the error of one that fails is told.
+fn is_told(answer: &Result<Vec<u8>, ReadError>, fails: bool) -> bool {
+    match answer {
+        Ok(bytes) => !fails && bytes.as_slice() == GIVEN.as_slice(),
+        Err(ReadError::Io(error)) => fails && error.kind() == io::ErrorKind::UnexpectedEof,
+        Err(ReadError::Memory) => false,
+    }
+}
+
+// The second reader is expected to give what it does, so that no more memory is asked for.
+fn expect_pieces(rt: &impl Runtime, length: u64, fails: bool) {
+    let first = read_pieces(rt.alloc(), length, fails);
+    let answer = granted(rt, first, read_pieces(rt.alloc(), 64, fails));
+    let found = (length, is_told(&answer, fails));
+    same(rt, "pieces", &found, &(length, true));
+}
+
+#[test]
+fn readers_in_pieces(rt: HostRuntime) {
+    for (length, fails) in &PIECES {
+        expect_pieces(&rt, *length, *fails);
+    }
 }
 
 fn expect_store<S: Store>(rt: &impl Runtime, store: &mut S) {

@@ -1,14 +1,20 @@
 //! The library as a caller uses it: a file is read, edited in a batch, and written.
-use arwen_cli::cli::ArwenError;
+use arwen_cli::cli::{ArwenError, read_bytes};
 use arwen_cli::macho::{MachoContainer, MachoEdit};
 use std::alloc::{AllocError, Global};
 use std::fs;
 
 /// Gives a library a further run path and another install id: both, or neither where one is refused.
 pub(crate) fn relocate(rt: &HostRuntime, path: &str, words: &[&str]) -> Result<(), ArwenError> {
-    let bytes = fs::read(rt, path)?;
+    let bytes = file_at(rt, path)?;
     let new = relocated(rt.alloc(), bytes, words)?;
     Ok(fs::write(rt, path, new.as_slice())?)
+}
+
+/// The bytes of the file at a path, of which a few are expected.
+fn file_at(rt: &HostRuntime, path: &str) -> Result<Vec<u8>, ArwenError> {
+    let mut file = fs::open(rt, path)?;
+    read_bytes(rt.alloc(), &mut file, 64)
 }
 
 /// The bytes of a library with both.

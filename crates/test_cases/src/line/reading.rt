@@ -1,8 +1,8 @@
 //! The words of a line, and the command that they mean.
-use crate::line::bytes;
 use crate::line::faults::tell;
-use crate::line::notes::print_notes;
-use arwen_cli::cli::{ArwenError, Command, parse_line};
+use crate::line::notes::{print_at_path, print_notes};
+use crate::line::{bytes, stores};
+use arwen_cli::cli::{ArwenError, Command, Notes, parse_line};
 use std::alloc::AllocError;
 use std::io;
 use test_cases_files::words::split_words;
@@ -36,6 +36,10 @@ pub(crate) enum Use {
     OnPage,
     /// It is done to bytes; what a command prints is printed as text.
     AsText,
+    /// It is done to a file in memory.
+    AtPath(Notes),
+    /// It is done to stores that fail.
+    OnStores,
 }
 
 /// The command that the words of a line mean.
@@ -70,6 +74,8 @@ fn use_command(rt: &HostRuntime, command: &Command, for_use: Use) -> io::Result<
         Use::ShowText => println!(rt; "no text"),
         Use::OnPage => bytes::run(rt, command, false),
         Use::AsText => bytes::run(rt, command, true),
+        Use::AtPath(notes) => print_at_path(rt, command, notes),
+        Use::OnStores => stores::run(rt, command),
     }
 }
 

@@ -7,7 +7,7 @@ use arwen_cli::cli::{ArwenError, execute};
 use std::{fs, io};
 
 /// The file that lines are run on.
-const FILE: &str = "file";
+pub(crate) const FILE: &str = "file";
 
 /// What does a line.
 #[derive(Clone, Copy)]
