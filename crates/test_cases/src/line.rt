@@ -12,10 +12,10 @@
 //! - `p WORD WORD ..` does the same by a command for ELF files. Printed is first the text that the command prints, and
 //!   then the status and what an edit changes. For no library a directory was found.
 //! - `@ WORD WORD ..` does it to a file in memory, which lies at the path `file` and has the bytes of `file`. Printed are
-//!   notes, or what the command prints, and the rows that it changed, or the fault. `q WORD WORD ..` does so without notes.
+//!   notes and the rows that it changed, or the fault. `q WORD WORD ..` does so without notes, and prints what it prints.
 //! - `w WORD WORD ..` does it, a command for Mach-O files, to stores with the bytes of `file`: one that takes no write and
 //!   fails at the first, one that takes one write, and one that takes two. Printed is for each what is printed of words.
-//! - `f NAME` makes the fault of this name, which no file has. Printed are the status, its words, and its line.
+//! - `f NAME` makes the fault of this name, which no file has. Printed are the status, the fault's words, and its line.
 //! - `* RPATH ID` gives the library `file` a run path and an id, by calls of the library alone. Printed is what is
 //!   printed of words.
 //!
@@ -59,8 +59,8 @@ fn step(rt: &HostRuntime, line: &str) -> io::Result<()> {
         "h" => reading::read(rt, words, Use::ShowText),
         "!" => reading::read(rt, words, Use::OnPage),
         "p" => reading::read(rt, words, Use::AsText),
-        "@" => reading::read(rt, words, Use::AtPath(Notes::Wanted)),
-        "q" => reading::read(rt, words, Use::AtPath(Notes::LeftOut)),
+        "@" => reading::read(rt, words, Use::InMemory(Notes::Wanted)),
+        "q" => reading::read(rt, words, Use::InMemory(Notes::LeftOut)),
         "w" => reading::read(rt, words, Use::OnStores),
         "f" => made::tell_named(rt, words),
         _ => Ok(()),

@@ -8,36 +8,29 @@ use std::alloc::AllocError;
 use std::io;
 use std::io::ErrorKind;
 
-/// Prints the fault of a name, with the status after it.
+/// Prints the status after the fault of a name, its words, and its line.
 pub(crate) fn tell_named(rt: &HostRuntime, name: &str) -> io::Result<()> {
-    match name {
-        "line" => tell(rt, &line(rt)?),
-        _ => tell(rt, &fault(name)),
-    }
-}
-
-/// Prints the status after a fault, its words, and its line.
-fn tell(rt: &HostRuntime, error: &ArwenError) -> io::Result<()> {
+    let error = fault(name, usage(rt)?);
     println!(rt; "status {}, {error}: {}", error.status(), error.line())
 }
 
-/// A line that is answered by a text, which is copied again where memory was refused.
-fn line(rt: &HostRuntime) -> Result<ArwenError, AllocError> {
-    let text = match String::from_str(rt.alloc(), "Usage: ..") {
+/// The text that a line is answered with, copied again where memory was refused.
+fn usage(rt: &HostRuntime) -> Result<String, AllocError> {
+    match String::from_str(rt.alloc(), "Usage: ..") {
         Err(_) => String::from_str(rt.alloc(), "Usage: .."),
         copied => copied,
-    };
-    Ok(ArwenError::Line {
-        text: text?,
-        status: 0,
-    })
+    }
 }
 
-/// The fault of a name, and that some files are not shown where there is none.
-fn fault(name: &str) -> ArwenError {
+/// The fault of a name; for another name that not all files are shown.
+fn fault(name: &str, text: String) -> ArwenError {
     match name {
-        "nul" => macho(CommandBuilderError::CStrError(NulInside { position: 1 })),
-        "long" => macho(CommandBuilderError::ScrollError),
+        "nul" => ArwenError::from(MachoError::CommandBuilderError(CommandBuilderError::CStrError(
+            NulInside { position: 1 },
+        ))),
+        "long" => ArwenError::from(MachoError::CommandBuilderError(
+            CommandBuilderError::ScrollError,
+        )),
         "memory" => ArwenError::from(AllocError),
         "memory-macho" => ArwenError::from(MachoError::Memory),
         "memory-batch" => ArwenError::from(MachoBatchError {
@@ -48,14 +41,10 @@ fn fault(name: &str) -> ArwenError {
         "memory-elf" => ArwenError::from(ElfError::Memory),
         "file" => ArwenError::from(io::Error::from(ErrorKind::NotFound)),
         "read" => ArwenError::from(ReadError::Io(io::Error::from(ErrorKind::UnexpectedEof))),
+        "line" => ArwenError::Line { text, status: 0 },
         "elf-file" => ArwenError::from(ElfError::from(io::Error::from(ErrorKind::NotFound))),
         "elf-number" => ArwenError::from(ElfError::Write(ElfFault::NumberTooLarge)),
         "elf-name" => ArwenError::from(ElfError::InvalidDtNeededEncoding),
         _ => ArwenError::NotAllShown,
     }
-}
-
-/// The fault of a load command that is not made.
-fn macho(cause: CommandBuilderError) -> ArwenError {
-    ArwenError::from(MachoError::CommandBuilderError(cause))
 }

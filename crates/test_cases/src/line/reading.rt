@@ -1,6 +1,6 @@
 //! The words of a line, and the command that they mean.
 use crate::line::faults::tell;
-use crate::line::notes::{print_at_path, print_notes};
+use crate::line::notes::{print_done, print_notes};
 use crate::line::{bytes, stores};
 use arwen_cli::cli::{ArwenError, Command, Notes, parse_line};
 use std::alloc::AllocError;
@@ -37,7 +37,7 @@ pub(crate) enum Use {
     /// It is done to bytes; what a command prints is printed as text.
     AsText,
     /// It is done to a file in memory.
-    AtPath(Notes),
+    InMemory(Notes),
     /// It is done to stores that fail.
     OnStores,
 }
@@ -74,7 +74,7 @@ fn use_command(rt: &HostRuntime, command: &Command, for_use: Use) -> io::Result<
         Use::ShowText => println!(rt; "no text"),
         Use::OnPage => bytes::run(rt, command, false),
         Use::AsText => bytes::run(rt, command, true),
-        Use::AtPath(notes) => print_at_path(rt, command, notes),
+        Use::InMemory(notes) => print_done(rt, command, notes),
         Use::OnStores => stores::run(rt, command),
     }
 }
