@@ -11,10 +11,12 @@
 //!   edit of an ELF file makes no new bytes, or what stands on a page of 8 bytes after a print.
 //! - `p WORD WORD ..` does the same by a command for ELF files. Printed is first the text that the command prints, and
 //!   then the status and what an edit changes. For no library a directory was found.
-//! - `@ WORD WORD ..` does it to a file in memory, which lies at the path `file` and has the bytes of `file`. Printed are
-//!   notes and the rows that it changed, or the fault. `q WORD WORD ..` does so without notes, and prints what it prints.
-//! - `w WORD WORD ..` does it, a command for Mach-O files, to stores with the bytes of `file`: one that takes no write and
-//!   fails at the first, one that takes one write, and one that takes two. Printed is for each what is printed of words.
+//! - `@ WORD WORD ..` does it to a file in memory, which lies at the path `file` and has the bytes of `file`. Printed
+//!   are notes and the rows that it changed, or the fault. `q WORD WORD ..` does so without notes, and prints what the
+//!   command prints.
+//! - `w WORD WORD ..` does it, a command for Mach-O files, to stores with the bytes of `file`: one that takes no write
+//!   and fails at the first, one that takes one write, and one that takes two. Printed is for each what is printed of
+//!   words.
 //! - `f NAME` makes the fault of this name, which no file has. Printed are the status, the fault's words, and its line.
 //! - `* RPATH ID` gives the library `file` a run path and an id, by calls of the library alone. Printed is what is
 //!   printed of words.

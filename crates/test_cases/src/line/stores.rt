@@ -75,8 +75,8 @@ impl Store for Failing {
     }
 }
 
-/// Does what a command for Mach-O files asks to stores with the bytes of the file, and prints for each how many writes it
-/// takes, what came of the command, and the rows that changed.
+/// Does what a command for Mach-O files asks to stores with the bytes of the file, and prints for each how many writes
+/// it takes, what came of the command, and the rows that changed.
 pub(crate) fn run(rt: &HostRuntime, command: &Command) -> io::Result<()> {
     let bytes = file_bytes(rt)?;
     match command {
@@ -108,7 +108,7 @@ fn opened(rt: &HostRuntime, bytes: &[u8], writes: usize) -> Result<Failing, Allo
     })
 }
 
-/// Does what a command asks to a store that had these bytes, and prints the status, the fault, and the rows that changed.
+/// Does what a command asks to a store that had these bytes. Prints the status, the fault, and the rows that changed.
 fn patch(
     rt: &HostRuntime,
     bytes: &[u8],
@@ -120,8 +120,8 @@ fn patch(
     print_rows(rt, bytes, store.inner.bytes.as_slice())
 }
 
-/// What comes of a command on a store that had these bytes. Where memory is refused it has to have them still, and is
-/// patched once more.
+/// What comes of a command on a store that had these bytes. One that has them still where memory was refused is patched
+/// once more.
 fn patched(
     rt: &HostRuntime,
     bytes: &[u8],
