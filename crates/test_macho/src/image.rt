@@ -1,16 +1,17 @@
 //! The reader: headers, commands, texts, where content begins, and which files are refused.
 
-use crate::support::{Runtime, lay, prints, put, same, text_of};
+use crate::support::{Runtime, debug_text, lay, prints, put, same};
+use arwen_macho::macho::ByteOrder2;
 use macho_image::command::{LC_ID_DYLIB, LC_RPATH, LC_SEGMENT, LC_SEGMENT_64};
 use macho_image::format::{MH_MAGIC, MH_MAGIC_64};
-use macho_image::{Ctx, Header, LoadCommand, MachFault, MachO};
-use patch_bytes::ByteOrder2;
+use macho_image::{MachFault, MachO};
 use std::alloc::{AllocError, Global};
 
 // `LC_UUID`, a kind that is kept as it is.
 const LC_UUID: u32 = 0x1b;
 
-// A library in four forms: its name, a run path, a library that it loads, and a command of another kind, and zeros behind them.
+// A library in four forms: its name, a run path, a library that it loads, and a command of another kind, and zeros
+// behind them.
 const NARROW_LITTLE: &[u8; 200] =
     b"\xce\xfa\xed\xfe\x07\0\0\0\x03\0\0\0\x06\0\0\0\x04\0\0\0\x68\0\0\0\x85\0\0\0\
 \x0d\0\0\0\x20\0\0\0\x18\0\0\0\x01\0\0\0\x03\x02\x01\0\0\0\x01\0a.dylib\0\
@@ -60,10 +61,14 @@ const WITH_EMPTY_PATH: &[u8; 64] =
 // What is looked at in a file.
 #[derive(Clone, Copy)]
 pub(crate) enum What {
+    // That it is accepted.
+    Nothing,
     // Its header.
     Header,
     // Its form, its length, and where its content begins.
     Measures,
+    // Where its content begins.
+    Content,
     // Its load commands.
     Commands,
     // Its header, its load commands, and where its content begins.
@@ -81,51 +86,39 @@ pub(crate) enum What {
 // What a file shows.
 pub(crate) fn shown(alloc: Global, file: &MachO<'_>, what: What) -> Result<String, AllocError> {
     match what {
-        What::Header => text_of(alloc, Ok(file.header())),
-        What::Measures => text_of(alloc, Ok(measures(file))),
-        What::Commands => text_of(alloc, Ok(file.load_commands())),
-        What::Lists => text_of(alloc, Ok(lists(file))),
-        What::Name => text_of(alloc, Ok(file.id())),
-        What::Paths => text_of(alloc, file.rpaths(alloc)),
-        What::Libraries => text_of(alloc, file.libs(alloc)),
-        What::Area => text_of(alloc, file.commands(alloc)),
+        What::Nothing => String::from_str(alloc, "accepted"),
+        What::Header => debug_text(alloc, file.header()),
+        What::Measures => debug_text(
+            alloc,
+            &(file.ctx(), file.bytes().len(), file.first_content()),
+        ),
+        What::Content => debug_text(alloc, &file.first_content()),
+        What::Commands => debug_text(alloc, &file.load_commands()),
+        What::Lists => debug_text(
+            alloc,
+            &(file.header(), file.load_commands(), file.first_content()),
+        ),
+        What::Name => debug_text(alloc, &file.id()),
+        What::Paths => debug_text(alloc, &file.rpaths(alloc)?),
+        What::Libraries => debug_text(alloc, &file.libs(alloc)?),
+        What::Area => debug_text(alloc, &file.commands(alloc)?),
     }
 }
 
-fn measures(file: &MachO<'_>) -> (Ctx, usize, usize) {
-    (file.ctx(), file.bytes().len(), file.first_content())
+// The same of a file that owns its bytes, or of one whose bytes are lent.
+fn shown_in(alloc: Global, bytes: &[u8], owns: bool, what: What) -> Result<String, MachFault> {
+    let file = if owns {
+        MachO::parse_owned(alloc, Vec::from_slice(alloc, bytes)?)?
+    } else {
+        MachO::parse(alloc, bytes)?
+    };
+    Ok(shown(alloc, &file, what)?)
 }
 
-fn lists<'a>(file: &'a MachO<'_>) -> (&'a Header, &'a [LoadCommand], usize) {
-    (file.header(), file.load_commands(), file.first_content())
-}
-
-// Compares what a file shows.
-pub(crate) fn expect_shown(
-    rt: &impl Runtime,
-    file: &MachO<'_>,
-    what: What,
-    want: &str,
-) -> Result<(), MachFault> {
-    let text = shown(rt.alloc(), file, what)?;
-    same(rt, "shown", &text.as_str(), &want);
-    Ok(())
-}
-
-// The same of a file of bytes that are lent.
-fn expect_lent(rt: &impl Runtime, bytes: &[u8], what: What, want: &str) -> Result<(), MachFault> {
-    match MachO::parse(rt.alloc(), bytes) {
-        Ok(file) => expect_shown(rt, &file, what, want),
-        Err(fault) => Err(fault),
-    }
-}
-
-// The same of a file that owns its bytes.
-fn expect_owned(rt: &impl Runtime, bytes: &[u8], what: What, want: &str) -> Result<(), MachFault> {
-    match MachO::parse_owned(rt.alloc(), Vec::from_slice(rt.alloc(), bytes)?) {
-        Ok(file) => expect_shown(rt, &file, what, want),
-        Err(fault) => Err(fault),
-    }
+// Compares what a file shows, or why it is refused.
+fn expect_shown(rt: &impl Runtime, name: &str, bytes: &[u8], what: What, want: &str) {
+    tells!(rt; name; shown_in(rt.alloc(), bytes, false, what); want);
+    tells!(rt; name; shown_in(rt.alloc(), bytes, true, what); want);
 }
 
 const NARROW_HEADER: &str = "Header { magic: 4277009102, cputype: 7, cpusubtype: 3, filetype: 6, \
@@ -175,82 +168,172 @@ ByteString { source: [128, 0, 0, 24, 0, 0, 0, 32, 0, 0, 0, 24, 0, 0, 0, 2, 0, 2,
 ByteString { source: [0, 0, 0, 27, 0, 0, 0, 24, 0, 0, 0, 1, 0, 0, 0, 2, 0, 0, 0, 3, 0, 0, 0, 4], \
 copy: None }]";
 
-// A file, and what it shows.
-type Shown = (&'static [u8], What, &'static str);
+// A file, what is looked at in it, and what it shows or why it is refused.
+type Shown = (&'static str, &'static [u8], What, &'static str);
 
-const SHOWN: [Shown; 34] = [
-    (NARROW_LITTLE, What::Header, NARROW_HEADER),
+const SHOWN: &[Shown] = &[
     (
+        "narrow, low byte first",
+        NARROW_LITTLE,
+        What::Header,
+        NARROW_HEADER,
+    ),
+    (
+        "narrow, low byte first",
         NARROW_LITTLE,
         What::Measures,
         "(Ctx { container: W32, le: Little }, 200, 200)",
     ),
-    (NARROW_LITTLE, What::Commands, NARROW_COMMANDS),
-    (NARROW_LITTLE, What::Name, NAME),
-    (NARROW_LITTLE, What::Paths, PATHS),
-    (NARROW_LITTLE, What::Libraries, LIBRARIES),
-    (NARROW_LITTLE, What::Area, LITTLE_AREA),
-    (NARROW_BIG, What::Header, NARROW_HEADER),
     (
+        "narrow, low byte first",
+        NARROW_LITTLE,
+        What::Commands,
+        NARROW_COMMANDS,
+    ),
+    ("narrow, low byte first", NARROW_LITTLE, What::Name, NAME),
+    ("narrow, low byte first", NARROW_LITTLE, What::Paths, PATHS),
+    (
+        "narrow, low byte first",
+        NARROW_LITTLE,
+        What::Libraries,
+        LIBRARIES,
+    ),
+    (
+        "narrow, low byte first",
+        NARROW_LITTLE,
+        What::Area,
+        LITTLE_AREA,
+    ),
+    (
+        "narrow, high byte first",
+        NARROW_BIG,
+        What::Header,
+        NARROW_HEADER,
+    ),
+    (
+        "narrow, high byte first",
         NARROW_BIG,
         What::Measures,
         "(Ctx { container: W32, le: Big }, 200, 200)",
     ),
-    (NARROW_BIG, What::Commands, NARROW_COMMANDS),
-    (NARROW_BIG, What::Name, NAME),
-    (NARROW_BIG, What::Paths, PATHS),
-    (NARROW_BIG, What::Libraries, LIBRARIES),
-    (NARROW_BIG, What::Area, BIG_AREA),
-    (WIDE_LITTLE, What::Header, WIDE_HEADER),
     (
+        "narrow, high byte first",
+        NARROW_BIG,
+        What::Commands,
+        NARROW_COMMANDS,
+    ),
+    ("narrow, high byte first", NARROW_BIG, What::Name, NAME),
+    ("narrow, high byte first", NARROW_BIG, What::Paths, PATHS),
+    (
+        "narrow, high byte first",
+        NARROW_BIG,
+        What::Libraries,
+        LIBRARIES,
+    ),
+    ("narrow, high byte first", NARROW_BIG, What::Area, BIG_AREA),
+    (
+        "wide, low byte first",
+        WIDE_LITTLE,
+        What::Header,
+        WIDE_HEADER,
+    ),
+    (
+        "wide, low byte first",
         WIDE_LITTLE,
         What::Measures,
         "(Ctx { container: W64, le: Little }, 200, 200)",
     ),
-    (WIDE_LITTLE, What::Commands, WIDE_COMMANDS),
-    (WIDE_LITTLE, What::Name, NAME),
-    (WIDE_LITTLE, What::Paths, PATHS),
-    (WIDE_LITTLE, What::Libraries, LIBRARIES),
-    (WIDE_LITTLE, What::Area, LITTLE_AREA),
-    (WIDE_BIG, What::Header, WIDE_HEADER),
     (
+        "wide, low byte first",
+        WIDE_LITTLE,
+        What::Commands,
+        WIDE_COMMANDS,
+    ),
+    ("wide, low byte first", WIDE_LITTLE, What::Name, NAME),
+    ("wide, low byte first", WIDE_LITTLE, What::Paths, PATHS),
+    (
+        "wide, low byte first",
+        WIDE_LITTLE,
+        What::Libraries,
+        LIBRARIES,
+    ),
+    ("wide, low byte first", WIDE_LITTLE, What::Area, LITTLE_AREA),
+    ("wide, high byte first", WIDE_BIG, What::Header, WIDE_HEADER),
+    (
+        "wide, high byte first",
         WIDE_BIG,
         What::Measures,
         "(Ctx { container: W64, le: Big }, 200, 200)",
     ),
-    (WIDE_BIG, What::Commands, WIDE_COMMANDS),
-    (WIDE_BIG, What::Name, NAME),
-    (WIDE_BIG, What::Paths, PATHS),
-    (WIDE_BIG, What::Libraries, LIBRARIES),
-    (WIDE_BIG, What::Area, BIG_AREA),
-    // `/usr/local/lib`, and no text.
-    (WITH_PATH, What::Name, "None"),
     (
+        "wide, high byte first",
+        WIDE_BIG,
+        What::Commands,
+        WIDE_COMMANDS,
+    ),
+    ("wide, high byte first", WIDE_BIG, What::Name, NAME),
+    ("wide, high byte first", WIDE_BIG, What::Paths, PATHS),
+    (
+        "wide, high byte first",
+        WIDE_BIG,
+        What::Libraries,
+        LIBRARIES,
+    ),
+    ("wide, high byte first", WIDE_BIG, What::Area, BIG_AREA),
+    // `/usr/local/lib`, and no text.
+    ("a long run path", WITH_PATH, What::Name, "None"),
+    (
+        "a long run path",
         WITH_PATH,
         What::Paths,
         "[[47, 117, 115, 114, 47, 108, 111, 99, 97, 108, 47, 108, 105, 98]]",
     ),
-    (WITH_PATH, What::Libraries, "[]"),
-    (WITH_EMPTY_PATH, What::Name, "None"),
-    (WITH_EMPTY_PATH, What::Paths, "[[]]"),
-    (WITH_EMPTY_PATH, What::Libraries, "[]"),
+    ("a long run path", WITH_PATH, What::Libraries, "[]"),
+    ("an empty run path", WITH_EMPTY_PATH, What::Name, "None"),
+    ("an empty run path", WITH_EMPTY_PATH, What::Paths, "[[]]"),
+    ("an empty run path", WITH_EMPTY_PATH, What::Libraries, "[]"),
+    // First bytes.
+    ("no bytes", b"", What::Nothing, "Truncated"),
+    ("ELF", b"\x7fELF", What::Nothing, "BadMagic"),
+    ("a fat file", b"\xca\xfe\xba\xbe", What::Nothing, "BadMagic"),
+    ("no header", b"\xcf\xfa\xed", What::Nothing, "Truncated"),
+    (
+        "a part of it",
+        b"\xcf\xfa\xed\xfe\x07\0\0\0\x03\0\0\0\x06\0\0\0\0\0\0\0\0\0\0\0\x85\0\0\0\x09\0\0",
+        What::Nothing,
+        "Truncated",
+    ),
+    (
+        "a part of a narrow one",
+        b"\xfe\xed\xfa\xce\0\0\0\x07\0\0\0\x03\0\0\0\x06\0\0\0\0\0\0\0\0\0\0\0",
+        What::Nothing,
+        "Truncated",
+    ),
+    (
+        "commands past the end",
+        b"\xcf\xfa\xed\xfe\x07\0\0\0\x03\0\0\0\x06\0\0\0\0\0\0\0\x01\0\0\0\x85\0\0\0\x09\0\0\0",
+        What::Nothing,
+        "Truncated",
+    ),
+    (
+        "a header",
+        b"\xcf\xfa\xed\xfe\x07\0\0\0\x03\0\0\0\x06\0\0\0\0\0\0\0\0\0\0\0\x85\0\0\0\x09\0\0\0",
+        What::Nothing,
+        "accepted",
+    ),
+    (
+        "a narrow header",
+        b"\xfe\xed\xfa\xce\0\0\0\x07\0\0\0\x03\0\0\0\x06\0\0\0\0\0\0\0\0\0\0\0\x85",
+        What::Nothing,
+        "accepted",
+    ),
 ];
 
-fn expect_both(rt: &impl Runtime, row: &Shown) -> Result<(), MachFault> {
-    expect_lent(rt, row.0, row.1, row.2)?;
-    expect_owned(rt, row.0, row.1, row.2)
-}
-
-// Looks at each file. (A table is kept in the frame of the test that names it, so the loop stands apart.)
-fn look_at_each(rt: &impl Runtime, rows: &[Shown]) {
-    for row in rows {
-        sure!(rt; expect_both(rt, row));
-    }
-}
-
 #[test]
-fn shows_files(rt: HostRuntime) {
-    look_at_each(&rt, &SHOWN);
+fn shows_and_refuses_files(rt: HostRuntime) {
+    for (name, bytes, what, want) in SHOWN {
+        expect_shown(&rt, name, bytes, *what, want);
+    }
 }
 
 // The bytes that a file hands out which was not edited: lent ones, and its own.
@@ -259,275 +342,161 @@ fn handed_out(alloc: Global, bytes: &[u8]) -> Result<Vec<u8>, MachFault> {
     Ok(MachO::parse_owned(alloc, lent)?.into_bytes(alloc)?)
 }
 
-fn expect_handed_out(rt: &impl Runtime, bytes: &[u8]) -> Result<(), MachFault> {
-    let found = handed_out(rt.alloc(), bytes)?;
-    same(rt, "handed out", &found.as_slice(), &bytes);
-    Ok(())
-}
+const HANDED_OUT: &[&[u8]] = &[NARROW_LITTLE, NARROW_BIG, WIDE_LITTLE, WIDE_BIG];
 
 #[test]
 fn hands_out_bytes(rt: HostRuntime) {
-    let files: [&[u8]; 4] = [NARROW_LITTLE, NARROW_BIG, WIDE_LITTLE, WIDE_BIG];
-    for bytes in &files {
-        sure!(&rt; expect_handed_out(&rt, bytes));
+    for bytes in HANDED_OUT {
+        let found = sure!(&rt; handed_out(rt.alloc(), bytes));
+        same(&rt, "handed out", &found.as_slice(), bytes);
     }
 }
 
-// Whether a file is accepted.
-fn answer_of(alloc: Global, bytes: &[u8]) -> Result<(), MachFault> {
-    match MachO::parse(alloc, bytes) {
-        Ok(_) => Ok(()),
-        Err(fault) => Err(fault),
-    }
-}
-
-// Compares what is told of a file.
-fn expect_answer(
-    rt: &impl Runtime,
-    what: &str,
-    bytes: &[u8],
-    want: &str,
-) -> Result<(), AllocError> {
-    let answer = again!(rt; answer_of(rt.alloc(), bytes));
-    let text = text_of(rt.alloc(), Ok(answer))?;
-    same(rt, what, &text.as_str(), &want);
-    Ok(())
-}
-
-// The first bytes of a file, and what is told of it.
-type Front = (&'static str, &'static [u8], &'static str);
-
-const FRONTS: [Front; 9] = [
-    ("no bytes", b"", "Err(Truncated)"),
-    ("ELF", b"\x7fELF", "Err(BadMagic)"),
-    ("a fat file", b"\xca\xfe\xba\xbe", "Err(BadMagic)"),
-    ("no header", b"\xcf\xfa\xed", "Err(Truncated)"),
-    (
-        "a part of it",
-        b"\xcf\xfa\xed\xfe\x07\0\0\0\x03\0\0\0\x06\0\0\0\0\0\0\0\0\0\0\0\x85\0\0\0\x09\0\0",
-        "Err(Truncated)",
-    ),
-    (
-        "a part of a narrow one",
-        b"\xfe\xed\xfa\xce\0\0\0\x07\0\0\0\x03\0\0\0\x06\0\0\0\0\0\0\0\0\0\0\0",
-        "Err(Truncated)",
-    ),
-    (
-        "commands past the end",
-        b"\xcf\xfa\xed\xfe\x07\0\0\0\x03\0\0\0\x06\0\0\0\0\0\0\0\x01\0\0\0\x85\0\0\0\x09\0\0\0",
-        "Err(Truncated)",
-    ),
-    (
-        "a header",
-        b"\xcf\xfa\xed\xfe\x07\0\0\0\x03\0\0\0\x06\0\0\0\0\0\0\0\0\0\0\0\x85\0\0\0\x09\0\0\0",
-        "Ok(())",
-    ),
-    (
-        "a narrow header",
-        b"\xfe\xed\xfa\xce\0\0\0\x07\0\0\0\x03\0\0\0\x06\0\0\0\0\0\0\0\0\0\0\0\x85",
-        "Ok(())",
-    ),
-];
-
-fn refuse_each(rt: &impl Runtime, rows: &[Front]) {
-    for row in rows {
-        sure!(rt; expect_answer(rt, row.0, row.1, row.2));
-    }
-}
-
-#[test]
-fn refuses_headers(rt: HostRuntime) {
-    refuse_each(&rt, &FRONTS);
-}
-
-// A wide file of 640 bytes, low byte first: its two counts and six words behind its header, and what is told of it.
+// A file of 640 bytes, low byte first: its magic, its two counts and words at their places, and what is told of it.
 type Words = (
     &'static str,
     u32,
-    u32,
-    u32,
-    u32,
-    u32,
-    u32,
-    u32,
-    u32,
+    [u32; 2],
+    &'static [(usize, &'static [u32])],
     &'static str,
 );
 
-const WORDS: [Words; 11] = [
+const WORDS: &[Words] = &[
     (
         "far past the end",
-        0,
-        0xffff_ffe0,
-        0,
-        0,
-        0,
-        0,
-        0,
-        0,
-        "Err(Truncated)",
+        MH_MAGIC_64,
+        [0, 0xffff_ffe0],
+        &[],
+        "Truncated",
     ),
     (
         "no room for a command",
-        1,
-        7,
-        LC_UUID,
-        8,
-        0,
-        0,
-        0,
-        0,
-        "Err(BadCommandSize)",
+        MH_MAGIC_64,
+        [1, 7],
+        &[(32, &[LC_UUID, 8])],
+        "BadCommandSize",
     ),
     (
         "less than a command",
-        1,
-        8,
-        LC_UUID,
-        7,
-        0,
-        0,
-        0,
-        0,
-        "Err(BadCommandSize)",
+        MH_MAGIC_64,
+        [1, 8],
+        &[(32, &[LC_UUID, 7])],
+        "BadCommandSize",
     ),
     (
         "past the area",
-        1,
-        8,
-        LC_UUID,
-        0xffff_fff8,
-        0,
-        0,
-        0,
-        0,
-        "Err(BadCommandSize)",
+        MH_MAGIC_64,
+        [1, 8],
+        &[(32, &[LC_UUID, 0xffff_fff8])],
+        "BadCommandSize",
     ),
     (
         "a kind's fixed part",
-        1,
-        8,
-        LC_RPATH,
-        8,
-        0,
-        0,
-        0,
-        0,
-        "Err(BadCommandSize)",
+        MH_MAGIC_64,
+        [1, 8],
+        &[(32, &[LC_RPATH, 8])],
+        "BadCommandSize",
     ),
     (
         "one command too few",
-        2,
-        8,
-        LC_UUID,
-        8,
-        0,
-        0,
-        0,
-        0,
-        "Err(BadCommandSize)",
+        MH_MAGIC_64,
+        [2, 8],
+        &[(32, &[LC_UUID, 8])],
+        "BadCommandSize",
     ),
     (
         "counts",
-        1,
-        16,
-        LC_UUID,
-        8,
-        0,
-        0,
-        0,
-        0,
-        "Err(CountsDisagree)",
+        MH_MAGIC_64,
+        [1, 16],
+        &[(32, &[LC_UUID, 8])],
+        "CountsDisagree",
     ),
-    ("all right", 1, 8, LC_UUID, 8, 0, 0, 0, 0, "Ok(())"),
+    (
+        "all right",
+        MH_MAGIC_64,
+        [1, 8],
+        &[(32, &[LC_UUID, 8])],
+        "accepted",
+    ),
     (
         "a path past its command",
-        1,
-        16,
-        LC_RPATH,
-        16,
-        17,
-        0,
-        0,
-        0,
-        "Err(BadNameOffset)",
+        MH_MAGIC_64,
+        [1, 16],
+        &[(32, &[LC_RPATH, 16, 17])],
+        "BadNameOffset",
     ),
     (
         "path before size",
-        2,
-        24,
-        LC_RPATH,
-        16,
-        17,
-        0,
-        LC_UUID,
-        7,
-        "Err(BadNameOffset)",
+        MH_MAGIC_64,
+        [2, 24],
+        &[(32, &[LC_RPATH, 16, 17, 0, LC_UUID, 7])],
+        "BadNameOffset",
     ),
     (
         "a name past its command",
-        1,
-        24,
-        LC_ID_DYLIB,
-        24,
-        25,
-        0,
-        0,
-        0,
-        "Err(BadNameOffset)",
+        MH_MAGIC_64,
+        [1, 24],
+        &[(32, &[LC_ID_DYLIB, 24, 25])],
+        "BadNameOffset",
+    ),
+    (
+        "wide, 1 sections",
+        MH_MAGIC_64,
+        [1, 72],
+        &[(32, &[LC_SEGMENT_64, 72]), (96, &[1])],
+        "BadCommandSize",
+    ),
+    (
+        "wide, 0xffff_ffff sections",
+        MH_MAGIC_64,
+        [1, 72],
+        &[(32, &[LC_SEGMENT_64, 72]), (96, &[0xffff_ffff])],
+        "BadCommandSize",
+    ),
+    (
+        "wide, 0x1000_0000 sections",
+        MH_MAGIC_64,
+        [1, 72],
+        &[(32, &[LC_SEGMENT_64, 72]), (96, &[0x1000_0000])],
+        "BadCommandSize",
+    ),
+    (
+        "narrow, 1 sections",
+        MH_MAGIC,
+        [1, 56],
+        &[(28, &[LC_SEGMENT, 56]), (76, &[1])],
+        "BadCommandSize",
+    ),
+    (
+        "narrow, 0x4000_0000 sections",
+        MH_MAGIC,
+        [1, 56],
+        &[(28, &[LC_SEGMENT, 56]), (76, &[0x4000_0000])],
+        "BadCommandSize",
     ),
 ];
 
-// A file of 640 bytes with these counts, and words behind its header, low byte first.
-fn file_of(magic: u32, counts: [u32; 2], start: usize, words: &[u32]) -> [u8; 640] {
-    let [ncmds, sizeofcmds] = counts;
+// A file of 640 bytes with these counts, and words at their places, low byte first.
+fn file_of(magic: u32, counts: &[u32; 2], parts: &[(usize, &[u32])]) -> [u8; 640] {
     let mut bytes = [0; 640];
-    let header = [magic, 7, 3, 6, ncmds, sizeofcmds, 0x85, 9];
+    let header = [magic, 7, 3, 6, counts[0], counts[1], 0x85, 9];
     lay(&mut bytes, 0, &header, ByteOrder2::Little);
-    lay(&mut bytes, start, words, ByteOrder2::Little);
+    for (place, words) in parts {
+        lay(&mut bytes, *place, words, ByteOrder2::Little);
+    }
     bytes
-}
-
-fn expect_words(rt: &impl Runtime, row: &Words) -> Result<(), AllocError> {
-    let words = [row.3, row.4, row.5, row.6, row.7, row.8];
-    let bytes = file_of(MH_MAGIC_64, [row.1, row.2], 32, &words);
-    expect_answer(rt, row.0, &bytes, row.9)
 }
 
 #[test]
 fn refuses_commands(rt: HostRuntime) {
-    for row in &WORDS {
-        sure!(&rt; expect_words(&rt, row));
+    for (name, magic, counts, parts, want) in WORDS {
+        let bytes = file_of(*magic, counts, parts);
+        expect_shown(&rt, name, &bytes, What::Nothing, want);
     }
 }
 
-// Where the commands of a file begin, its magic, the kind and the size of its segment's command, and where in the file this
-// number of sections is told.
-type Sections = (usize, u32, u32, u32, usize, u32);
-
-const SECTIONS: [Sections; 5] = [
-    (32, MH_MAGIC_64, LC_SEGMENT_64, 72, 96, 1),
-    (32, MH_MAGIC_64, LC_SEGMENT_64, 72, 96, 0xffff_ffff),
-    (32, MH_MAGIC_64, LC_SEGMENT_64, 72, 96, 0x1000_0000),
-    (28, MH_MAGIC, LC_SEGMENT, 56, 76, 1),
-    (28, MH_MAGIC, LC_SEGMENT, 56, 76, 0x4000_0000),
-];
-
-// Compares what is told of a file with so many sections.
-fn expect_sections(rt: &impl Runtime, row: &Sections) -> Result<(), AllocError> {
-    let mut bytes = file_of(row.1, [1, row.3], row.0, &[row.2, row.3]);
-    lay(&mut bytes, row.4, &[row.5], ByteOrder2::Little);
-    expect_answer(rt, "sections", &bytes, "Err(BadCommandSize)")
-}
-
-#[test]
-fn refuses_sections(rt: HostRuntime) {
-    for row in &SECTIONS {
-        sure!(&rt; expect_sections(&rt, row));
-    }
-}
-
-// A symbol table and a segment with five sections in four forms: of the sections only one has bytes in the file, at 600.
+// A symbol table and a segment with five sections in four forms: of the sections only one has bytes in the file, at
+// 600.
 const NARROW_LITTLE_SECTIONS: &[u8; 448] =
     b"\xce\xfa\xed\xfe\x07\0\0\0\x03\0\0\0\x06\0\0\0\x02\0\0\0\xa4\x01\0\0\x85\0\0\0\
 \x02\0\0\0\x18\0\0\0\0\0\0\0\0\0\0\0\0\0\0\0\0\0\0\0\
@@ -592,27 +561,31 @@ const WIDE_BIG_SECTIONS: &[u8; 528] =
 \0\0\0\0\0\0\0\0\0\0\0\0\0\0\0\0\0\0\0\0\0\0\0\0\0\0\0\0\0\0\0\0\0\0\0\0\0\0\0\0\0\0\0\0\0\0\0\0\
 \0\0\0\x04\0\0\0\0\0\0\0\0\0\0\0\0\0\0\0\0\0\0\0\0\0\0\0\0\0\0\0\0";
 
-// Those bytes, their order, and where it is told where the segment, the symbols and the strings of a file begin and how
-// long each is.
-type Form = (&'static [u8], ByteOrder2, [usize; 6]);
+// The name of a form, those bytes, their order, and where it is told where the segment, the symbols and the strings
+// of a file begin and how long each is.
+type Form = (&'static str, &'static [u8], ByteOrder2, [usize; 6]);
 
-const FORMS: [Form; 4] = [
+const FORMS: &[Form] = &[
     (
+        "narrow, low byte first",
         NARROW_LITTLE_SECTIONS,
         ByteOrder2::Little,
         [84, 88, 36, 40, 44, 48],
     ),
     (
+        "narrow, high byte first",
         NARROW_BIG_SECTIONS,
         ByteOrder2::Big,
         [84, 88, 36, 40, 44, 48],
     ),
     (
+        "wide, low byte first",
         WIDE_LITTLE_SECTIONS,
         ByteOrder2::Little,
         [96, 104, 40, 44, 48, 52],
     ),
     (
+        "wide, high byte first",
         WIDE_BIG_SECTIONS,
         ByteOrder2::Big,
         [100, 108, 40, 44, 48, 52],
@@ -622,46 +595,34 @@ const FORMS: [Form; 4] = [
 // A file of this form with these numbers there.
 fn with_sections(form: &Form, numbers: &[u32; 6]) -> [u8; 640] {
     let mut bytes = [0; 640];
-    put(&mut bytes, 0, form.0);
+    put(&mut bytes, 0, form.1);
     for i in 0..6 {
-        lay(&mut bytes, form.2[i], &[numbers[i]], form.1);
+        lay(&mut bytes, form.3[i], &[numbers[i]], form.2);
     }
     bytes
 }
 
-// Where the content of a file begins.
-fn first_content(alloc: Global, bytes: &[u8]) -> Result<usize, MachFault> {
-    match MachO::parse(alloc, bytes) {
-        Ok(file) => Ok(file.first_content()),
-        Err(fault) => Err(fault),
-    }
-}
-
-const FIRST_CONTENT: [([u32; 6], usize); 6] = [
-    ([0, 640, 0, 0, 0, 0], 600),
-    ([590, 8, 0, 0, 0, 0], 590),
-    ([590, 0, 0, 0, 0, 0], 600),
-    ([0, 640, 592, 1, 0, 9], 592),
-    ([0, 640, 592, 0, 594, 9], 594),
-    ([0, 640, 0, 3, 594, 0], 600),
+// Those numbers, and where the content of a file begins that has them.
+const FIRST_CONTENT: &[([u32; 6], &str)] = &[
+    ([0, 640, 0, 0, 0, 0], "600"),
+    ([590, 8, 0, 0, 0, 0], "590"),
+    ([590, 0, 0, 0, 0, 0], "600"),
+    ([0, 640, 592, 1, 0, 9], "592"),
+    ([0, 640, 592, 0, 594, 9], "594"),
+    ([0, 640, 0, 3, 594, 0], "600"),
 ];
-
-fn expect_first_content(rt: &impl Runtime, form: &Form) {
-    for (numbers, first) in &FIRST_CONTENT {
-        let bytes = with_sections(form, numbers);
-        let found = again!(rt; first_content(rt.alloc(), &bytes));
-        same(rt, "first content", &found, &Ok(*first));
-    }
-}
 
 #[test]
 fn finds_first_content(rt: HostRuntime) {
-    for form in &FORMS {
-        expect_first_content(&rt, form);
+    for form in FORMS {
+        for (numbers, first) in FIRST_CONTENT {
+            let bytes = with_sections(form, numbers);
+            expect_shown(&rt, form.0, &bytes, What::Content, first);
+        }
     }
 }
 
-const FAULTS: [(MachFault, &str); 9] = [
+const FAULTS: &[(MachFault, &str)] = &[
     (MachFault::BadMagic, "BadMagic"),
     (MachFault::Truncated, "Truncated"),
     (MachFault::BadCommandSize, "BadCommandSize"),
@@ -675,7 +636,7 @@ const FAULTS: [(MachFault, &str); 9] = [
 
 #[test]
 fn prints_faults(rt: HostRuntime) {
-    for (fault, name) in &FAULTS {
-        sure!(&rt; prints(&rt, fault, name));
+    for (fault, name) in FAULTS {
+        prints(&rt, fault, name);
     }
 }

@@ -2,7 +2,6 @@
 //! by the calls of each container.
 
 use super::{Edit, Sample, Step, walks};
-use crate::support::Runtime;
 
 // A command with the run path `/a`, low byte first.
 const PATH: &[u8] = b"\x1c\0\0\x80\x10\0\0\0\x0c\0\0\0/a\0\0";
@@ -414,64 +413,65 @@ const MAKE_EACH_KIND: [Step<'static>; 1] = [Step {
     ],
 }];
 
-// A file, and steps in it.
-type Row = (Sample<'static>, &'static [Step<'static>]);
-
-// Takes the steps of each row. (A table is kept in the frame of the test that names it, so the loop stands apart.)
-fn follow(rt: &impl Runtime, rows: &[Row]) {
-    for (sample, steps) in rows {
-        walks(rt, sample, steps);
-    }
-}
+// A name, a file, and steps in it. (The proof of a test spells all that its table holds, so tables are short.)
+type Row = (&'static str, Sample<'static>, &'static [Step<'static>]);
 
 // Files without commands, which are filled.
-const FILLS: [Row; 4] = [
-    (EMPTY, &FILL_WIDE),
-    (WIDE_BIG, &FILL_WIDE_BIG),
-    (NARROW_LITTLE, &FILL_NARROW),
-    (NARROW_BIG, &FILL_NARROW_BIG),
+const FILLS: &[Row] = &[
+    ("fill wide", EMPTY, &FILL_WIDE),
+    ("fill wide big", WIDE_BIG, &FILL_WIDE_BIG),
+    ("fill narrow", NARROW_LITTLE, &FILL_NARROW),
+    ("fill narrow big", NARROW_BIG, &FILL_NARROW_BIG),
 ];
 
 #[test]
 fn fills_files(rt: HostRuntime) {
-    follow(&rt, &FILLS);
+    for (name, sample, steps) in FILLS {
+        walks(&rt, name, sample, steps);
+    }
 }
 
 // Run paths that are changed and removed.
-const PATHS: [Row; 4] = [
-    (WITH_PATH, &CHANGE_PATH),
-    (EQUAL_PATHS, &REMOVE_PATHS),
-    (FULL, &CHANGE_NO_BYTE),
-    (FULL, &LEAVE_ZEROS),
+const PATHS: &[Row] = &[
+    ("change path", WITH_PATH, &CHANGE_PATH),
+    ("remove paths", EQUAL_PATHS, &REMOVE_PATHS),
+    ("change no byte", FULL, &CHANGE_NO_BYTE),
+    ("leave zeros", FULL, &LEAVE_ZEROS),
 ];
 
 #[test]
 fn follows_path_edits(rt: HostRuntime) {
-    follow(&rt, &PATHS);
+    for (name, sample, steps) in PATHS {
+        walks(&rt, name, sample, steps);
+    }
 }
 
 // Room that ends at the content, or with the last list.
-const ROOMS: [Row; 3] = [
-    (CONTENT_AT_256, &STOP_BEFORE_CONTENT),
-    (CONTENT_AT_264, &REACH_CONTENT),
-    (EMPTY, &DECIDE_ROOM),
+const ROOMS: &[Row] = &[
+    ("stop before content", CONTENT_AT_256, &STOP_BEFORE_CONTENT),
+    ("reach content", CONTENT_AT_264, &REACH_CONTENT),
+    ("decide room", EMPTY, &DECIDE_ROOM),
 ];
 
 #[test]
 fn stays_within_room(rt: HostRuntime) {
-    follow(&rt, &ROOMS);
+    for (name, sample, steps) in ROOMS {
+        walks(&rt, name, sample, steps);
+    }
 }
 
 // Names of libraries, own ones and those that are loaded.
-const NAMES: [Row; 5] = [
-    (LIBRARY, &CHANGE_NAME),
-    (LIBRARY, &CHANGE_OWN_NAME),
-    (LIBX, &SHORTEN_NAME),
-    (EMPTY, &FIND_NO_NAMES),
-    (LIBRARY, &MAKE_EACH_KIND),
+const NAMES: &[Row] = &[
+    ("change name", LIBRARY, &CHANGE_NAME),
+    ("change own name", LIBRARY, &CHANGE_OWN_NAME),
+    ("shorten name", LIBX, &SHORTEN_NAME),
+    ("find no names", EMPTY, &FIND_NO_NAMES),
+    ("make each kind", LIBRARY, &MAKE_EACH_KIND),
 ];
 
 #[test]
 fn follows_name_edits(rt: HostRuntime) {
-    follow(&rt, &NAMES);
+    for (name, sample, steps) in NAMES {
+        walks(&rt, name, sample, steps);
+    }
 }

@@ -3,15 +3,14 @@ ghost use Rattle.std.specs.Prelude.{◌≡◌, ◌+◌, ◌≤◌, IfOk, None, l
 ghost use Rattle.macho_image.specs.Checks.{area_fault};
 ghost use Rattle.macho_image.specs.Form.{ctx_of, header_size};
 
-use crate::image::{What, expect_shown};
-use crate::support::{Runtime, same};
-use macho_image::format::MachFault;
-use macho_image::{Ctx, MachO, header_size, read_commands};
+use crate::image::{What, shown};
+use crate::support::{Runtime, same, wants_memory};
+use macho_image::{Ctx, MachFault, MachO, header_size, read_commands};
 use std::alloc::{AllocError, Global};
 
 // In four forms: a run path and a symbol table with one symbol and four bytes of strings, and files with one command
-// (another run path), with these two, and with none. Zeros stand behind stored commands up to the strings, and other bytes
-// at the end.
+// (another run path), with these two, and with none. Zeros stand behind stored commands up to the strings, and other
+// bytes at the end.
 const NARROW_LITTLE_AREA: &[u8; 40] = b"\x1c\0\0\x80\x10\0\0\0\x0c\0\0\0\x62\0\0\0\
 \x02\0\0\0\x18\0\0\0\x50\0\0\0\x01\0\0\0\x4c\0\0\0\x04\0\0\0";
 
@@ -163,7 +162,7 @@ struct Row {
     none: State,
 }
 
-const ROWS: [Row; 4] = [
+const ROWS: &[Row] = &[
     Row {
         area: NARROW_LITTLE_AREA,
         one: (NARROW_LITTLE_ONE, NARROW_ONE),
@@ -190,9 +189,9 @@ const ROWS: [Row; 4] = [
     },
 ];
 
-fn expect_state(rt: &impl Runtime, file: &MachO<'_>, state: &State) -> Result<(), MachFault> {
+fn expect_state(rt: &impl Runtime, file: &MachO<'_>, state: &State) {
     same(rt, "bytes", &file.bytes(), &state.0);
-    expect_shown(rt, file, What::Lists, state.1)
+    tells!(rt; "lists"; shown(rt.alloc(), file, What::Lists); state.1);
 }
 
 // The area passes its checks.
@@ -206,62 +205,43 @@ fn check_area(alloc: Global, ctx: Ctx, count: u32, area: &[u8]) -> Result<(), Ma
     }
 }
 
-// Compares what storing writes at the file's front, told before.
-fn expect_front(
-    rt: &impl Runtime,
-    file: &MachO<'_>,
+// Stores an area that passes its checks, with zeros behind it up to `high`, and tells what it writes at the file's
+// front. Memory is taken before a byte is stored.
+fn store_checked(
+    alloc: Global,
+    file: &mut MachO<'_>,
     count: u32,
     area: &[u8],
-    want: &[u8],
-) -> Result<(), AllocError>
-    requires area { header_size (ctx_of file.now.bytes).container + length area.now ≤ length want.now }
-    requires front { length want.now ≤ length file.now.bytes }
+    high: usize,
+) -> Result<Vec<u8>, AllocError>
+    requires commands { area_fault (ctx_of file.old.bytes).le count area.now ≡ None }
+    requires room { header_size (ctx_of file.old.bytes).container + length area.now ≤ high }
+    requires inside { high ≤ length file.old.bytes }
 {
-    let front = file.front_with(rt.alloc(), count, area, want.len())?;
-    same(rt, "front", &front.as_slice(), &want);
-    Ok(())
+    let front = file.front_with(alloc, count, area, high)?;
+    let prepared = file.prepare(alloc, count, Vec::from_slice(alloc, area)?)?;
+    file.store(prepared, high);
+    Ok(front)
 }
 
-// Stores an area of commands, with zeros behind it up to `high`, and other bytes from there on. Memory is taken before a
-// byte is stored.
+// Stores an area that is checked first.
 fn store_area(
-    rt: &impl Runtime,
+    alloc: Global,
     file: &mut MachO<'_>,
     count: u32,
     area: &[u8],
-    front: &[u8],
-) -> Result<(), MachFault> {
-    let ctx = file.ctx();
-    check_area(rt.alloc(), ctx, count, area)?;
-    let start = header_size(ctx.container);
-    assert!(rt; area.len() <= front.len() && start <= front.len() - area.len());
-    assert!(rt; front.len() <= file.bytes().len());
-    expect_front(rt, file, count, area, front)?;
-    let copy = Vec::from_slice(rt.alloc(), area)?;
-    let prepared = file.prepare(rt.alloc(), count, copy)?;
-    file.store(prepared, front.len());
-    Ok(())
-}
-
-// Stores an area, once more where memory is refused. Then the file shows what it did before.
-fn stored(
-    rt: &impl Runtime,
-    file: &mut MachO<'_>,
-    count: u32,
-    area: &[u8],
-    before: &State,
-    front: &[u8],
-) -> Result<(), MachFault> {
-    match store_area(rt, file, count, area, front) {
-        Err(MachFault::Memory) => {
-            sure!(rt; expect_state(rt, file, before));
-            store_area(rt, file, count, area, front)
-        }
-        answer => answer,
+    high: usize,
+) -> Result<Vec<u8>, MachFault> {
+    check_area(alloc, file.ctx(), count, area)?;
+    let start = header_size(file.ctx().container);
+    if start > high || area.len() > high - start || high > file.bytes().len() {
+        return Err(MachFault::TooLong);
     }
+    Ok(store_checked(alloc, file, count, area, high)?)
 }
 
-// Stores an area in a file that shows this before and that after.
+// Stores an area in a file that shows this before and that after, up to its last 12 bytes. It is stored once more where
+// memory is refused, and then the file shows what it did before.
 fn store(
     rt: &impl Runtime,
     file: &mut MachO<'_>,
@@ -270,40 +250,27 @@ fn store(
     before: &State,
     after: &State,
 ) {
-    sure!(rt; expect_state(rt, file, before));
-    let front = &after.0[..after.0.len().saturating_sub(12)];
-    let answer = stored(rt, file, count, area, before, front);
-    same(rt, "stored", &answer, &Ok(()));
-    sure!(rt; expect_state(rt, file, after));
+    expect_state(rt, file, before);
+    let high = after.0.len().saturating_sub(12);
+    let mut answer = store_area(rt.alloc(), file, count, area, high);
+    if wants_memory(rt, &answer) {
+        expect_state(rt, file, before);
+        answer = store_area(rt.alloc(), file, count, area, high);
+    }
+    let front = answer.expect(rt, "stored");
+    same(rt, "front", &front.as_slice(), &&after.0[..high]);
+    expect_state(rt, file, after);
 }
 
 // Two commands are stored in place of one, and then none over the copy that is there. The bytes are handed out without
 // memory then.
-fn expect_edits(rt: &impl Runtime, mut file: MachO<'_>, row: &Row) {
-    store(rt, &mut file, 2, row.area, &row.one, &row.two);
-    store(rt, &mut file, 0, &[], &row.two, &row.none);
-    let handed = file.into_bytes(rt.alloc()).expect(rt, "bytes");
-    same(rt, "handed out", &handed.as_slice(), &row.none.0);
-}
-
-fn expect_stores(rt: &impl Runtime, row: &Row) -> Result<(), MachFault> {
-    match MachO::parse(rt.alloc(), row.one.0) {
-        Ok(file) => {
-            expect_edits(rt, file, row);
-            Ok(())
-        }
-        Err(fault) => Err(fault),
-    }
-}
-
-// (A table is kept in the frame of the test that names it, so the loop stands apart.)
-fn store_each(rt: &impl Runtime, rows: &[Row]) {
-    for row in rows {
-        sure!(rt; expect_stores(rt, row));
-    }
-}
-
 #[test]
 fn stores_in_each_form(rt: HostRuntime) {
-    store_each(&rt, &ROWS);
+    for row in ROWS {
+        let mut file = sure!(&rt; MachO::parse(rt.alloc(), row.one.0));
+        store(&rt, &mut file, 2, row.area, &row.one, &row.two);
+        store(&rt, &mut file, 0, &[], &row.two, &row.none);
+        let handed = file.into_bytes(rt.alloc()).expect(&rt, "bytes");
+        same(&rt, "handed out", &handed.as_slice(), &row.none.0);
+    }
 }

@@ -1,8 +1,8 @@
 //! A small signed file.
 
-// A file of 10 signed bytes and two more, and a signature of 366 bytes behind them: a directory with SHA-1 at 36, one with
-// SHA-256 at 162, and at 336 a message of 8 bytes in the slot of an identity's, in room for 30. The directories are of
-// pages of 4 bytes, with the identifier "a", one special slot and three code slots, which are zeros.
+// A file of 10 signed bytes and two more, and a signature of 366 bytes behind them: a directory with SHA-1 at 36, one
+// with SHA-256 at 162, and at 336 a message of 8 bytes in the slot of an identity's, in room for 30. The directories
+// are of pages of 4 bytes, with the identifier "a", one special slot and three code slots, which are zeros.
 pub(crate) const SIGNED: &[u8; 378] = b"0123456789AB\
 \xfa\xde\x0c\xc0\0\0\x01\x6e\0\0\0\x03\
 \0\0\0\0\0\0\0\x24\0\0\x10\0\0\0\0\xa2\0\x01\0\0\0\0\x01\x50\
