@@ -1,6 +1,0 @@
-use Rattle.elf_tables.specs.Strings.{HoldNoNul}
-use Rattle.test_elf_tables.proofs.support.finished.Given as goal
-
--- no text so far has a NUL
-abbrev pub invariant-loop-text : goal.invariant-loop-text
-invariant-loop-text g l = HoldNoNul l.table
