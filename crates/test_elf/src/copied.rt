@@ -38,7 +38,7 @@ fn follow(rt: &impl Abort, what: &str, table: &mut Finished<'static>, rows: &[Ro
 }
 
 // The bytes of tables, and texts in them.
-const TABLES: [(&str, &[u8], &[Row]); 7] = [
+static TABLES: [(&str, &[u8], &[Row]); 7] = [
     (
         "texts of a table",
         b"\0libc.so.6\0libm.so.6\0",
@@ -126,7 +126,7 @@ fn places(table: &Finished<'static>) -> [Option<u32>; 3] {
 }
 
 // An offset, whether `bc` is placed there, and the places then.
-const PLACED: [(u32, bool, [Option<u32>; 3]); 2] = [
+static PLACED: [(u32, bool, [Option<u32>; 3]); 2] = [
     (3, false, [Some(6), Some(5), Some(6)]),
     (2, true, [Some(2), Some(5), Some(6)]),
 ];

@@ -21,7 +21,7 @@ fn word(answer: io::Result<()>) -> &'static str {
     }
 }
 
-const ROWS: [Row; 17] = [
+static ROWS: [Row; 17] = [
     // Some bytes at a time.
     ((9, 0, 99), b"abcdef", "done", b"abcdef", 0),
     ((4, 0, 99), b"abcdef", "done", b"abcdef", 0),

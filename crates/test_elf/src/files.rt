@@ -25,13 +25,13 @@ pub(crate) fn put(out: &mut Vec<u8>, widths: &[usize], numbers: &[u64]) -> Resul
 pub(crate) const IDENTIFICATION: &[u8] = b"\x7fELF\x02\x01\x01\0\0\0\0\0\0\0\0\0";
 
 // The fields of the file header behind its identification.
-pub(crate) const HEADER: [usize; 13] = [2, 2, 4, 8, 8, 8, 4, 2, 2, 2, 2, 2, 2];
+pub(crate) static HEADER: [usize; 13] = [2, 2, 4, 8, 8, 8, 4, 2, 2, 2, 2, 2, 2];
 
 // The fields of a program header.
-pub(crate) const SEGMENT: [usize; 8] = [4, 4, 8, 8, 8, 8, 8, 8];
+pub(crate) static SEGMENT: [usize; 8] = [4, 4, 8, 8, 8, 8, 8, 8];
 
 // The fields of a section header.
-pub(crate) const SECTION: [usize; 10] = [4, 4, 8, 8, 8, 8, 4, 4, 8, 8];
+pub(crate) static SECTION: [usize; 10] = [4, 4, 8, 8, 8, 8, 4, 4, 8, 8];
 
 // The file header of a shared object for x86-64, and one loaded segment up to the names of sections.
 fn put_headers(out: &mut Vec<u8>, counts: &Counts, names: u64) -> Result<(), AllocError> {

@@ -4,7 +4,7 @@ use crate::support::same;
 use elf_tables::{gnu_hash, sysv_hash};
 
 // The hashes were computed by another program.
-const HASHES: [(&[u8], u32, u32); 10] = [
+static HASHES: [(&[u8], u32, u32); 10] = [
     (b"", 0, 5381),
     (b"f", 0x66, 177_675),
     (b"g", 0x67, 177_676),

@@ -47,7 +47,7 @@ struct Row {
     want: Found,
 }
 
-const ROWS: [Row; 3] = [
+static ROWS: [Row; 3] = [
     Row {
         what: "as many sections as there can be, and few program headers",
         counts: Counts {

@@ -91,14 +91,6 @@ fn names_and_ends(alloc: Global, names: &[u8]) -> Result<Vec<&[u8]>, AllocError>
     Ok(texts)
 }
 
-#[test]
-fn many_texts_with_common_ends(rt: HostRuntime) {
-    let names = sure!(&rt; names(rt.alloc()));
-    let texts = sure!(&rt; names_and_ends(rt.alloc(), &names));
-    same(&rt, "texts", &texts.len(), &65_536);
-    follow(&rt, "names and ends", &texts, 212_993);
-}
-
 // The ends of a text, each as a text.
 fn ends(alloc: Global, text: &[u8]) -> Result<Vec<&[u8]>, AllocError> {
     let mut texts = Vec::new(alloc);
@@ -106,13 +98,6 @@ fn ends(alloc: Global, text: &[u8]) -> Result<Vec<&[u8]>, AllocError> {
         texts.push(part(text, start, text.len()))?;
     }
     Ok(texts)
-}
-
-#[test]
-fn all_ends_of_a_text(rt: HostRuntime) {
-    let text = [b'a'; 1000];
-    let texts = sure!(&rt; ends(rt.alloc(), &text));
-    follow(&rt, "ends", &texts, 1002);
 }
 
 // One text 65,536 times.
@@ -123,7 +108,22 @@ fn repeated(alloc: Global) -> Result<Vec<&'static [u8]>, AllocError> {
 }
 
 #[test]
-fn one_text_many_times(rt: HostRuntime) {
-    let texts = sure!(&rt; repeated(rt.alloc()));
-    follow(&rt, "one text", &texts, 5);
+fn tables_of_many_texts(rt: HostRuntime) {
+    let names = sure!(&rt; names(rt.alloc()));
+    let texts = sure!(&rt; names_and_ends(rt.alloc(), &names));
+    same(&rt, "texts", &texts.len(), &65_536);
+    follow(&rt, "names and ends", &texts, 212_993);
+    let text = [b'a'; 1000];
+    follow(
+        &rt,
+        "all ends of a text",
+        &sure!(&rt; ends(rt.alloc(), &text)),
+        1002,
+    );
+    follow(
+        &rt,
+        "one text many times",
+        &sure!(&rt; repeated(rt.alloc())),
+        5,
+    );
 }

@@ -6,9 +6,9 @@ ghost use Rattle.elf_tables.specs.Strings.{place_of};
 ghost use Rattle.elf_tables.specs.VersionRecords.{has_needs_texts};
 
 use crate::support::{fitting, same, table_of};
+use elf_format::{ByteOrder2, ByteString};
 use elf_image::{VersionNeed, VersionNeedName};
 use elf_tables::{Finished, build_verneed};
-use patch_bytes::{ByteOrder2, ByteString};
 use std::alloc::{AllocError, Global};
 
 // Whether a table has the names of these versions.
@@ -83,7 +83,7 @@ struct Row {
     bytes: Option<&'static [u8]>,
 }
 
-const NEEDED: [Row; 3] = [
+static NEEDED: [Row; 3] = [
     Row {
         what: "no library",
         libraries: &[],

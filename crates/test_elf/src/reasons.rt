@@ -27,7 +27,7 @@ fn told(alloc: Global, position: usize, byte: u8) -> Result<String, AllocError> 
 }
 
 // A position, the byte that is put there, and what is told then.
-const TOLD: [(usize, u8, &str); 12] = [
+static TOLD: [(usize, u8, &str); 12] = [
     (0, 0x7f, "accepted"),
     (0, 0x7e, "magic"),
     (16, 1, "file kind: e_type is 1"),

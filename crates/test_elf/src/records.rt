@@ -3,10 +3,10 @@
 use crate::support::same;
 use elf_format::form::Form;
 use elf_format::records::{EntryNumbers, FileHeader, SectionHeader, SegmentHeader, SymbolNumbers};
+use elf_format::{ByteOrder2, Wide};
 use elf_tables::spelled::{
     push_entry, push_file_header, push_section_header, push_segment_header, push_symbol,
 };
-use patch_bytes::{ByteOrder2, Wide};
 use std::alloc::{AllocError, Global};
 
 const NARROW: Form = Form {
@@ -83,28 +83,24 @@ const HEADER: FileHeader = FileHeader {
     e_shstrndx: 27,
 };
 
-// Appends a record of a form.
-fn put(bytes: &mut Vec<u8>, kind: Kind, form: Form) -> Result<(), AllocError> {
-    match kind {
-        Kind::Segment => push_segment_header(bytes, form, SEGMENT),
-        Kind::Section => push_section_header(bytes, form, SECTION),
-        Kind::Symbol => push_symbol(bytes, form, SYMBOL),
-        Kind::Entry => push_entry(bytes, form, ENTRY),
-        Kind::Header => push_file_header(bytes, form, HEADER),
-    }
-}
-
-// The bytes of a record.
+// The bytes of a record of a form.
 fn bytes_of(alloc: Global, kind: Kind, form: Form) -> Result<Vec<u8>, AllocError> {
     let mut bytes = Vec::new(alloc);
-    put(&mut bytes, kind, form)?;
+    let pushed = match kind {
+        Kind::Segment => push_segment_header(&mut bytes, form, SEGMENT),
+        Kind::Section => push_section_header(&mut bytes, form, SECTION),
+        Kind::Symbol => push_symbol(&mut bytes, form, SYMBOL),
+        Kind::Entry => push_entry(&mut bytes, form, ENTRY),
+        Kind::Header => push_file_header(&mut bytes, form, HEADER),
+    };
+    pushed?;
     Ok(bytes)
 }
 
 // Records, their form, and their bytes.
 type Row = (&'static str, Kind, Form, &'static [u8]);
 
-const ROWS: [Row; 10] = [
+static ROWS: [Row; 10] = [
     (
         "narrow segment",
         Kind::Segment,

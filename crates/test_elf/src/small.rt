@@ -10,7 +10,7 @@ pub(crate) const LIST: usize = 184;
 pub(crate) const TABLE: usize = 240;
 
 // What stands behind the identification: how wide numbers are, and the numbers.
-const PARTS: [(&[usize], &[u64]); 9] = [
+static PARTS: [(&[usize], &[u64]); 9] = [
     (&HEADER, &[3, 62, 1, 0, 64, 240, 0, 64, 56, 2, 64, 4, 3]),
     (&SEGMENT, &[1, 6, 0, 0, 0, 232, 232, 8]),
     (&SEGMENT, &[2, 6, 184, 184, 184, 48, 48, 8]),

@@ -1,8 +1,6 @@
 //! String tables of a few texts: their bytes, and where each text stands.
 
 use crate::support::{same, table_of};
-use elf_tables::Finished;
-use std::process::Abort;
 
 // Texts, the table's bytes, where each text stands, and texts that it tells no place of.
 #[derive(Clone, Copy)]
@@ -14,7 +12,7 @@ struct Row {
     others: &'static [&'static [u8]],
 }
 
-const ROWS: [Row; 9] = [
+static ROWS: [Row; 9] = [
     Row {
         what: "few texts",
         texts: &[],
@@ -80,22 +78,18 @@ const ROWS: [Row; 9] = [
     },
 ];
 
-// Compares a table of the texts: where these stand, the places of all that were added, in order, and that others are absent.
-fn compare(rt: &impl Abort, row: &Row, table: &Finished<'_>) {
-    let found = (table.bytes(), table.in_order());
-    same(rt, row.what, &found, &(row.bytes, row.places));
-    for (i, text) in row.texts.iter().enumerate() {
-        let want = row.places.get(i).copied();
-        same(rt, row.what, &table.offset_of(text), &want);
-    }
-    for text in row.others {
-        same(rt, row.what, &table.offset_of(text), &None);
-    }
-}
-
+// Where the texts stand, the places of all that were added, in order, and that others are absent.
 #[test]
 fn places_texts(rt: HostRuntime) {
     for row in &ROWS {
-        compare(&rt, row, &table_of(&rt, row.texts));
+        let table = table_of(&rt, row.texts);
+        let found = (table.bytes(), table.in_order());
+        same(&rt, row.what, &found, &(row.bytes, row.places));
+        for (text, place) in row.texts.iter().zip(row.places) {
+            same(&rt, row.what, &table.offset_of(text), &Some(*place));
+        }
+        for text in row.others {
+            same(&rt, row.what, &table.offset_of(text), &None);
+        }
     }
 }

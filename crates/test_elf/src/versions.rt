@@ -6,13 +6,13 @@ ghost use Rattle.elf_tables.specs.Strings.{place_of};
 ghost use Rattle.elf_tables.specs.VersionRecords.{has_definition_texts};
 
 use crate::support::{fitting, same, table_of};
+use elf_format::{ByteOrder2, ByteString};
 use elf_image::{VersionDef, VersionId};
 use elf_tables::{Finished, build_verdef, build_versym};
-use patch_bytes::{ByteOrder2, ByteString};
 use std::alloc::{AllocError, Global};
 
 // Versions of symbols, the byte order, and the bytes. There are none where a number is too large.
-const SYMBOLS: [(&[VersionId], ByteOrder2, Option<&[u8]>); 5] = [
+static SYMBOLS: [(&[VersionId], ByteOrder2, Option<&[u8]>); 5] = [
     (&[], ByteOrder2::Little, Some(b"")),
     (
         &[VersionId {
@@ -137,7 +137,7 @@ const OWN: Definition = (1, 1, &[b"libx.so.1"], 1);
 
 const SECOND: Definition = (2, 0, &[b"V_2", b"V_1"], 1);
 
-const DEFINED: [Row; 4] = [
+static DEFINED: [Row; 4] = [
     Row {
         what: "no version",
         versions: &[],

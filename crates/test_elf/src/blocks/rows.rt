@@ -15,7 +15,7 @@ macro_rules! blocks {
     };
 }
 
-const ROWS: [Row; 22] = [
+static ROWS: [Row; 22] = [
     (
         "apart",
         blocks![(0, 10, 0), (10, 5, 0)],

@@ -1,15 +1,14 @@
 //! Symbols, and tables of them.
-ghost use Rattle.std.specs.Prelude.{◌≡◌, ◌↔◌, ◌→◌, ◌<◌, All, is_some, IsTrue};
+ghost use Rattle.std.specs.Prelude.{◌↔◌, All, is_some, IsTrue};
 ghost use Rattle.elf_image_symbol_edits.specs.Loan.{symbols_now};
 ghost use Rattle.elf_hashes.specs.Found.{ArePlaces};
 
 use elf_format::form::Form;
+use elf_format::{ByteOrder2, Wide};
 use elf_hashes::{
     GnuSizes, TableFault, build_gnu_hash, build_hash, build_versym, gnu_hashes, order_for_gnu_hash,
 };
-use elf_image_symbol_edits::{EditedSymbols, SymbolsNow};
-use elf_image_symbols::Symbols;
-use patch_bytes::{ByteOrder2, Wide};
+use elf_image_symbol_edits::{EditedSymbols, Symbols, SymbolsNow};
 use std::alloc::Global;
 
 pub(crate) const LITTLE_64: Form = Form {
@@ -49,8 +48,9 @@ pub(crate) fn gnu_order(
         return Err(TableFault::NumberTooLarge);
     }
     let edited = edited(alloc, source)?;
-    let hashes = gnu_hashes(alloc, edited.lend())?;
-    order_for_gnu_hash(alloc, edited.lend(), &hashes, buckets)
+    let symbols = edited.lend();
+    let hashes = gnu_hashes(alloc, symbols)?;
+    order_for_gnu_hash(alloc, symbols, &hashes, buckets)
 }
 
 // A kind of table, of the gABI or GNU, or the versions.
@@ -82,14 +82,6 @@ fn have_versions(symbols: SymbolsNow<'_>) -> bool
     true
 }
 
-// Whether there are tables of such sizes.
-fn are_sizes(sizes: GnuSizes) -> bool
-    ensures { IsTrue result → (0 < sizes.buckets) × (0 < sizes.filter_words)
-        × (sizes.filter_shift < 32) }
-{
-    sizes.buckets > 0 && sizes.filter_words > 0 && sizes.filter_shift < 32
-}
-
 // The GNU table of symbols in an order.
 fn gnu_table(
     alloc: Global,
@@ -100,7 +92,7 @@ fn gnu_table(
 ) -> Result<Vec<u8>, TableFault>
     requires { ArePlaces (symbols_now symbols) order.now }
 {
-    if !are_sizes(sizes) {
+    if sizes.buckets == 0 || sizes.filter_words == 0 || sizes.filter_shift >= 32 {
         return Err(TableFault::NumberTooLarge);
     }
     let hashes = gnu_hashes(alloc, symbols)?;

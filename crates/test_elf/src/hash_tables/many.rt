@@ -24,7 +24,7 @@ const SIZES: GnuSizes = GnuSizes {
 
 // What a table is made of, the buckets that its order is for, its kind, and how long it is: of the gABI's in one bucket two
 // numbers, the bucket and the chain; of the GNU one, whose symbols are one run, header, filter, buckets and words.
-const LONG: [(&str, u32, Kind, usize); 2] = [
+static LONG: [(&str, u32, Kind, usize); 2] = [
     ("one bucket", 1, Kind::Gabi(1), 4 * (COUNT + 4)),
     ("one run", 3, Kind::Gnu(SIZES), 16 + 8 + 12 + 4 * COUNT),
 ];

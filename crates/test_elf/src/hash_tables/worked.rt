@@ -84,7 +84,7 @@ const BIG_VERSIONS: Source<'static> = Source {
 // Orders that a GNU table of so many buckets asks for.
 type Order = (&'static str, Source<'static>, u32, &'static [usize]);
 
-const ORDERS: [Order; 3] = [
+static ORDERS: [Order; 3] = [
     ("order of two", TWO_SYMBOLS, 2, &[0, 2, 1]),
     ("order of mixed", SIX_MIXED, 1, &[0, 3, 2, 5, 1, 4]),
     ("order of no symbol", NONE, 3, &[]),
@@ -107,7 +107,7 @@ struct Row {
     want: &'static [u8],
 }
 
-const TABLES: [Row; 9] = [
+static TABLES: [Row; 9] = [
     Row {
         what: "gABI table of two",
         source: TWO_SYMBOLS,
