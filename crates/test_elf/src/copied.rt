@@ -117,25 +117,27 @@ fn places_texts(rt: HostRuntime) {
 }
 
 // Where `bc` and `abc` are placed, and where the third text stands.
-fn places(table: &Finished<'static>) -> [Option<u32>; 3] {
-    [
+type Places = (Option<u32>, Option<u32>, Option<u32>);
+
+fn places(table: &Finished<'static>) -> Places {
+    (
         table.offset_of(b"bc"),
         table.offset_of(b"abc"),
         table.in_order().get(2).copied(),
-    ]
+    )
 }
 
 // An offset, whether `bc` is placed there, and the places then.
-static PLACED: [(u32, bool, [Option<u32>; 3]); 2] = [
-    (3, false, [Some(6), Some(5), Some(6)]),
-    (2, true, [Some(2), Some(5), Some(6)]),
+static PLACED: [(u32, bool, Places); 2] = [
+    (3, false, (Some(6), Some(5), Some(6))),
+    (2, true, (Some(2), Some(5), Some(6))),
 ];
 
 // A text of a table that was made is placed where it stands a second time. Other texts, and what was added, stay.
 #[test]
 fn placed_in_a_table_that_was_made(rt: HostRuntime) {
     let mut table = table_of(&rt, &[b"abc", b"xbc", b"bc"]);
-    let want = (b"\0xbc\0abc\0".as_slice(), [Some(6), Some(5), Some(6)]);
+    let want = (b"\0xbc\0abc\0".as_slice(), (Some(6), Some(5), Some(6)));
     same(&rt, "before", &(table.bytes(), places(&table)), &want);
     for (offset, is_placed, want) in &PLACED {
         let found = place(&rt, &mut table, b"bc", *offset);

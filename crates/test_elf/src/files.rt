@@ -25,13 +25,13 @@ pub(crate) fn put(out: &mut Vec<u8>, widths: &[usize], numbers: &[u64]) -> Resul
 pub(crate) const IDENTIFICATION: &[u8] = b"\x7fELF\x02\x01\x01\0\0\0\0\0\0\0\0\0";
 
 // The fields of the file header behind its identification.
-pub(crate) static HEADER: [usize; 13] = [2, 2, 4, 8, 8, 8, 4, 2, 2, 2, 2, 2, 2];
+pub(crate) const HEADER: &[usize] = &[2, 2, 4, 8, 8, 8, 4, 2, 2, 2, 2, 2, 2];
 
 // The fields of a program header.
-pub(crate) static SEGMENT: [usize; 8] = [4, 4, 8, 8, 8, 8, 8, 8];
+pub(crate) const SEGMENT: &[usize] = &[4, 4, 8, 8, 8, 8, 8, 8];
 
 // The fields of a section header.
-pub(crate) static SECTION: [usize; 10] = [4, 4, 8, 8, 8, 8, 4, 4, 8, 8];
+pub(crate) const SECTION: &[usize] = &[4, 4, 8, 8, 8, 8, 4, 4, 8, 8];
 
 // The file header of a shared object for x86-64, and one loaded segment up to the names of sections.
 fn put_headers(out: &mut Vec<u8>, counts: &Counts, names: u64) -> Result<(), AllocError> {
@@ -54,8 +54,8 @@ fn put_headers(out: &mut Vec<u8>, counts: &Counts, names: u64) -> Result<(), All
         sections,
         sections - 1,
     ];
-    put(out, &HEADER, &numbers)?;
-    put(out, &SEGMENT, &[1, 4, 0, 0, 0, names, names, 4096])
+    put(out, HEADER, &numbers)?;
+    put(out, SEGMENT, &[1, 4, 0, 0, 0, names, names, 4096])
 }
 
 // Program headers, each over the notes from another one on, at addresses that are offsets.
@@ -64,17 +64,17 @@ fn put_segments(out: &mut Vec<u8>, counts: &Counts, end: u64) -> Result<(), Allo
     for i in 0..counts.headers {
         let start = u64::from(counts.first) + 4 * u64::from(i % places);
         let size = end.saturating_sub(start);
-        put(out, &SEGMENT, &[4, 4, start, start, start, size, size, 4])?;
+        put(out, SEGMENT, &[4, 4, start, start, start, size, size, 4])?;
     }
     Ok(())
 }
 
 // No section, and the notes, each of four bytes, at addresses that are offsets.
 fn put_notes(out: &mut Vec<u8>, counts: &Counts) -> Result<(), AllocError> {
-    put(out, &SECTION, &[0; 10])?;
+    put(out, SECTION, &[0; 10])?;
     for i in 0..counts.notes {
         let start = u64::from(counts.first) + 4 * u64::from(i);
-        put(out, &SECTION, &[0, 7, 2, start, start, 4, 0, 0, 4, 0])?;
+        put(out, SECTION, &[0, 7, 2, start, start, 4, 0, 0, 4, 0])?;
     }
     Ok(())
 }
@@ -88,6 +88,6 @@ pub(crate) fn file(alloc: Global, counts: &Counts) -> Result<Vec<u8>, AllocError
     put_segments(&mut out, counts, end)?;
     out.resize(names as usize + 8, 0)?;
     put_notes(&mut out, counts)?;
-    put(&mut out, &SECTION, &[0, 3, 0, 0, names, 1, 0, 0, 4, 0])?;
+    put(&mut out, SECTION, &[0, 3, 0, 0, names, 1, 0, 0, 4, 0])?;
     Ok(out)
 }

@@ -37,9 +37,10 @@ fn is_right(blocks: &[Block], moves: Option<&[bool]>) -> bool {
 #[test]
 fn walks_over_made_lists(rt: HostRuntime) {
     for number in 0..4000 {
-        let blocks = sure!(&rt; made(rt.alloc(), number));
-        assert!(rt; is_ordered(&blocks), "{number}: the order of blocks");
-        let moves = sure!(&rt; moved(rt.alloc(), &blocks));
-        assert!(rt; is_right(&blocks, moves.as_deref()), "{number}: the walk");
+        let list = sure!(&rt; made(rt.alloc(), number));
+        let blocks = list.as_slice();
+        assert!(rt; is_ordered(blocks), "{number}: the order of blocks");
+        let moves = sure!(&rt; moved(rt.alloc(), blocks));
+        assert!(rt; is_right(blocks, moves.as_deref()), "{number}: the walk");
     }
 }

@@ -1,4 +1,4 @@
-use Rattle.std.proofs.Common.{List, true, refl, inl, inr, arith}
+use Rattle.std.proofs.Common.{List, refl, inl, inr, arith}
 use Rattle.std.proofs.lemmas.Bool.{cases_eq}
 use Rattle.std.proofs.lemmas.Option.{slice_get-get_or, slice_get_within}
 use Rattle.elf_layout_plan.specs.declared.block.Block.{Block}

@@ -1,4 +1,4 @@
-use Rattle.std.proofs.Common.{List, true, refl, arith}
+use Rattle.std.proofs.Common.{List, refl, arith}
 use Rattle.std.proofs.lemmas.Option.{slice_get-get_or}
 use Rattle.elf_layout_plan.specs.declared.block.Block.{Block}
 use Rattle.elf_layout_plan.specs.MovedBlocks.{IsStuck}

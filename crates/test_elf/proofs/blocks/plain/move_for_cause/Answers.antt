@@ -1,4 +1,4 @@
-use Rattle.std.proofs.Common.{◌≡◌, ◌+◌, ℕ, List, Bool, Some, true, false, get_or, refl, sym, inl, inr, subst, arith}
+use Rattle.std.proofs.Common.{◌≡◌, ℕ, List, Bool, Some, true, false, get_or, refl, sym, inl, inr, subst, arith}
 use Rattle.std.specs.Prelude.{slice_get}
 use Rattle.std.proofs.lemmas.Bool.{cases_eq}
 use Rattle.std.proofs.lemmas.Option.{get_or_from_slice_get, slice_get_within}

@@ -1,4 +1,4 @@
-use Rattle.std.proofs.Common.{◌≡◌, List, Bool, Some, true, false, refl, arith}
+use Rattle.std.proofs.Common.{◌≡◌, List, Bool, Some, false, refl, arith}
 use Rattle.std.specs.Prelude.{slice_get}
 use Rattle.std.proofs.lemmas.Option.{slice_get-get_or}
 use Rattle.elf_layout_plan.specs.declared.block.Block.{Block}
