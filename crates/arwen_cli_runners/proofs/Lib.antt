@@ -1,2 +1,4 @@
+pub mod AnsweredLaws
+pub mod BracketLaws
 pub mod EndLaws
 pub mod RunLaws

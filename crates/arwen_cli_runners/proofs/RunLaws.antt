@@ -3,6 +3,7 @@ use Rattle.std.proofs.Common.{◌≡◌, ◌<◌, ◌≤◌, ◌+◌, ℕ, List,
 use Rattle.std.specs.Prelude.{IfOk, String, string_bytes}
 use Rattle.std.specs.declared.alloc.Global.{Global}
 use Rattle.std.proofs.lemmas.List.{drop_all, drop_more}
+use Rattle.arwen_cli_patchelf.specs.ElfCommandError.{ElfCommandError}
 use Rattle.arwen_cli_patchelf.specs.Shrinking.{Finding}
 use Rattle.arwen_cli_peers.specs.Options.{Text}
 use Rattle.arwen_cli_patchelf.specs.Made.{AsksNothing, IsAppliedTo, IsShrunkTo}
@@ -37,46 +38,46 @@ held_made is_new finds plan known new holds = λ file is. ((holds file is).made,
 -- ## One file after the other
 
 -- what is done of the files that are left, and where they stop, is so of all
-abbrev pub Leads : {W : Type 0} → (W → Option (List ℕ)) → (W → ℕ) → Finding → List Print → PlanMeant → (Text → Option (List ℕ)) → List (String Global) → W → List (String Global) → W → Type 0
-Leads {W} written failed finds prints plan contents paths first left now =
+abbrev pub Leads : {W : Type 0} → (W → Option (List ℕ)) → (W → ℕ) → Finding → List Print → PlanMeant → (Text → Option (List ℕ)) → (Text → ElfCommandError → Type 0) → List (String Global) → W → List (String Global) → W → Type 0
+Leads {W} written failed finds prints plan contents answered paths first left now =
     ((new : Option (List ℕ)) → AreDone finds prints plan contents (map string_bytes left) (written now) new → AreDone finds prints plan contents (map string_bytes paths) (written first) new)
-    × ((new : W) (at : Text) (e : PatchelfError) → StopsAt written failed finds prints plan contents (map string_bytes left) now new at e → StopsAt written failed finds prints plan contents (map string_bytes paths) first new at e)
+    × ((new : W) (at : Text) (e : PatchelfError) → StopsAt written failed finds prints plan contents answered (map string_bytes left) now new at e → StopsAt written failed finds prints plan contents answered (map string_bytes paths) first new at e)
 
-module _ {W : Type 0} (written : W → Option (List ℕ)) (failed : W → ℕ) (finds : Finding) (prints : List Print) (plan : PlanMeant) (contents : Text → Option (List ℕ)) (paths : List (String Global)) (first : W) where
+module _ {W : Type 0} (written : W → Option (List ℕ)) (failed : W → ℕ) (finds : Finding) (prints : List Print) (plan : PlanMeant) (contents : Text → Option (List ℕ)) (answered : Text → ElfCommandError → Type 0) (paths : List (String Global)) (first : W) where
   pub one_more : (i : ℕ) (d : String Global) (path : Text) (old now : W) → i < length paths → path ≡ string_bytes (get_or paths i d)
-      → Leads written failed finds prints plan contents paths first (drop i paths) old → IsDone finds prints plan contents path (written old) (written now)
-      → Leads written failed finds prints plan contents paths first (drop (i + 1) paths) now
+      → Leads written failed finds prints plan contents answered paths first (drop i paths) old → IsDone finds prints plan contents path (written old) (written now)
+      → Leads written failed finds prints plan contents answered paths first (drop (i + 1) paths) now
   one_more i d path old now inside is before done =
       let here = subst (λ (p : Text). IsDone finds prints plan contents p (written old) (written now)) is done in (
         (λ new more. before.0 new (subst (λ (left : List (String Global)). AreDone finds prints plan contents (map string_bytes left) (written old) new) (sym (drop_more paths i d inside)) (written now, here, more))),
-        (λ new at e more. before.1 new at e (subst (λ (left : List (String Global)). StopsAt written failed finds prints plan contents (map string_bytes left) old new at e) (sym (drop_more paths i d inside)) (inr (now, here, more)))),
+        (λ new at e more. before.1 new at e (subst (λ (left : List (String Global)). StopsAt written failed finds prints plan contents answered (map string_bytes left) old new at e) (sym (drop_more paths i d inside)) (inr (now, here, more)))),
       )
 
   pub stops_here : (i : ℕ) (d : String Global) (path : Text) (old now : W) (e : PatchelfError) → i < length paths → path ≡ string_bytes (get_or paths i d)
-      → Leads written failed finds prints plan contents paths first (drop i paths) old → Stops written failed finds prints plan contents path old now e
-      → StopsAt written failed finds prints plan contents (map string_bytes paths) first now path e
+      → Leads written failed finds prints plan contents answered paths first (drop i paths) old → Stops written failed finds prints plan contents answered path old now e
+      → StopsAt written failed finds prints plan contents answered (map string_bytes paths) first now path e
   stops_here i d path old now e inside is before stops =
-      before.1 now path e (subst (λ (left : List (String Global)). StopsAt written failed finds prints plan contents (map string_bytes left) old now path e) (sym (drop_more paths i d inside))
-      (inl (is, subst (λ (p : Text). Stops written failed finds prints plan contents p old now e) is stops)))
+      before.1 now path e (subst (λ (left : List (String Global)). StopsAt written failed finds prints plan contents answered (map string_bytes left) old now path e) (sym (drop_more paths i d inside))
+      (inl (is, subst (λ (p : Text). Stops written failed finds prints plan contents answered p old now e) is stops)))
 
-  pub all_done : (i : ℕ) (now : W) → length paths ≤ i → Leads written failed finds prints plan contents paths first (drop i paths) now
+  pub all_done : (i : ℕ) (now : W) → length paths ≤ i → Leads written failed finds prints plan contents answered paths first (drop i paths) now
       → AreDone finds prints plan contents (map string_bytes paths) (written first) (written now)
   all_done i now past before =
       before.0 (written now) (subst (λ (left : List (String Global)). AreDone finds prints plan contents (map string_bytes left) (written now) (written now)) (sym (drop_all i paths past)) refl)
 
   -- the ending that tells a fault is that of all files
-  pub ends_by : {E : Type 0} (r : Result Ending E) (path : Text) (now : W) (e : PatchelfError) → IfOk r (IsFaultEnding path e)
-      → StopsAt written failed finds prints plan contents (map string_bytes paths) first now path e
-      → IfOk r (EndsFiles written failed finds prints plan contents (map string_bytes paths) first now)
+  pub ends_by : {E : Type 0} (r : Result Ending E) (path : Text) (now : W) (e : PatchelfError) → IfOk r (IsFaultEnding plan (contents path) path e)
+      → StopsAt written failed finds prints plan contents answered (map string_bytes paths) first now path e
+      → IfOk r (EndsFiles written failed finds prints plan contents answered (map string_bytes paths) first now)
   ends_by (Ok (Failed line)) path now e is stops = (path, e, stops, is)
   ends_by (Ok Done) path now e is stops = absurd is
   ends_by (Ok (Told text)) path now e is stops = absurd is
   ends_by (Err x) path now e is stops = tt
 
 -- what an ending of files says of any line
-pub read_ends : {W : Type 0} {E : Type 0} (written : W → Option (List ℕ)) (failed : W → ℕ) (finds : Finding) (prints : List Print) (plan : PlanMeant) (contents : Text → Option (List ℕ)) (paths : List Text) (first now : W) (r : Result Ending E)
-    → IfOk r (EndsFiles written failed finds prints plan contents paths first now) → IfOk r EndsReadLine
-read_ends written failed finds prints plan contents paths first now (Ok Done) ends = tt
-read_ends written failed finds prints plan contents paths first now (Ok (Failed line)) ends = (ends.0, ends.1, ends.3)
-read_ends written failed finds prints plan contents paths first now (Ok (Told text)) ends = absurd ends
-read_ends written failed finds prints plan contents paths first now (Err x) ends = tt
+pub read_ends : {W : Type 0} {E : Type 0} (written : W → Option (List ℕ)) (failed : W → ℕ) (finds : Finding) (prints : List Print) (plan : PlanMeant) (contents : Text → Option (List ℕ)) (answered : Text → ElfCommandError → Type 0) (paths : List Text) (first now : W) (r : Result Ending E)
+    → IfOk r (EndsFiles written failed finds prints plan contents answered paths first now) → IfOk r EndsReadLine
+read_ends written failed finds prints plan contents answered paths first now (Ok Done) ends = tt
+read_ends written failed finds prints plan contents answered paths first now (Ok (Failed line)) ends = (plan, contents ends.0, ends.0, ends.1, ends.3)
+read_ends written failed finds prints plan contents answered paths first now (Ok (Told text)) ends = absurd ends
+read_ends written failed finds prints plan contents answered paths first now (Err x) ends = tt

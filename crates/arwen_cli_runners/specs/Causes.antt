@@ -1,13 +1,18 @@
 -- Why files aren't edited, in words.
-use Rattle.std.specs.Prelude.{ℕ, ◌≡◌, ◌++◌, List, [], Option, Some, None, codes, decimal, ⊤}
+use Rattle.std.specs.Prelude.{ℕ, ◌≡◌, ◌++◌, ◌⊎◌, List, [], Option, Some, None, codes, decimal, ⊤}
 use Rattle.byte_store.specs.Known.{IsAll}
+use Rattle.elf_apply.specs.declared.error.ElfError.{ElfError}
+use Rattle.elf_apply.specs.declared.error.ElfError.TheVariants as elf_error
+use Rattle.elf_apply.specs.declared.error.ModifyCause.TheVariants as cause
+use Rattle.arwen_cli_overlaps.specs.Overlaps.{TellsOverlap}
+use Rattle.arwen_cli_patchelf.specs.Made.{words_ask}
 use Rattle.arwen_cli_patchelf.specs.Meaning.{apply_moving_elf, elf_command_model}
 use Rattle.arwen_cli_patchelf.specs.ElfCommand.{ElfCommand}
 use Rattle.arwen_cli_patchelf.specs.ElfCommandError.{ElfCommandError}
 use Rattle.arwen_cli_patchelf.specs.ElfCommandError.TheVariants as elf
 use Rattle.macho_commands.specs.declared.error.MachoCommandError.{MachoCommandError}
 use Rattle.macho_commands.specs.declared.error.MachoCommandError.TheVariants as macho
-use Rattle.arwen_cli_facts.specs.Reasons.{TellsWords, file_line, macho_words}
+use Rattle.arwen_cli_facts.specs.Reasons.{IsToldText, TellsWords, elf_words, file_line, macho_words}
 use Rattle.arwen_cli_facts.specs.declared.refusal.Told.{Told}
 use Rattle.arwen_cli_install_names.specs.declared.editing.NamesError.{NamesError}
 use Rattle.arwen_cli_install_names.specs.declared.editing.NamesError.TheVariants.{Command, Unlike}
@@ -91,6 +96,25 @@ abbrev pub TellsMachoKnown : NamesError → Option (List ℕ) → Option Told �
 TellsMachoKnown e known None = ⊤
 TellsMachoKnown e known (Some told) = (file : List ℕ) × IsAll known file × TellsMachoFile e file (Some told)
 
+-- it names two blocks of some known bytes that stand against the words of a plan
+abbrev pub TellsOverlapOf : PlanMeant → Option (List ℕ) → Text → Type 0
+TellsOverlapOf plan known text = (file : List ℕ) × IsAll known file × TellsOverlap (words_ask plan.words) file text
+
+-- it tells what a fault leaves open of some known bytes. How a rule is put into words isn't said
+abbrev pub IsElfReason : ElfError → Option (List ℕ) → Text → Type 0
+IsElfReason e known text = (reason : Told) × TellsElfKnown (elf_words e) known (Some reason) × IsToldText reason text
+
+-- what stands in brackets: two blocks, where the fault is that two overlap, or what another fault leaves open; there may be nothing
+abbrev pub IsElfBracket : PlanMeant → Option (List ℕ) → PatchelfError → Option Text → Type 0
+IsElfBracket plan known e None = ⊤
+IsElfBracket plan known e (Some text) =
+    ((e ≡ patchelf.Command (elf.Elf (elf_error.Modify cause.Overlap))) × TellsOverlapOf plan known text)
+    ⊎ ((fault : ElfError) × (e ≡ patchelf.Command (elf.Elf fault)) × IsElfReason fault known text)
+
+abbrev pub IsNamesBracket : Option (List ℕ) → NamesError → Option Text → Type 0
+IsNamesBracket known e None = ⊤
+IsNamesBracket known e (Some text) = (reason : Told) × TellsMachoKnown e known (Some reason) × IsToldText reason text
+
 -- the command that makes the words of a plan, with leave that the dynamic section moves
 abbrev pub IsApplyCommand : PlanMeant → ElfCommand → Type 0
 IsApplyCommand plan command = elf_command_model command ≡ apply_moving_elf [] plan.words
@@ -98,14 +122,16 @@ IsApplyCommand plan command = elf_command_model command ≡ apply_moving_elf [] 
 -- ## Lines
 
 -- The line of a tool that tells why the file at a path isn't edited: the path, the causes, and perhaps a text in brackets.
-pub record IsLineOf (tool path : Text) (AreCauses : Text → Type 0) (line : Text) : Type 0 where
+pub record IsLineOf (tool path : Text) (AreCauses : Text → Type 0) (IsBracket : Option Text → Type 0) (line : Text) : Type 0 where
   pub causes : Text
   pub are : AreCauses causes
   pub bracket : Option Text
+  pub bracket_is : IsBracket bracket
   pub is : line ≡ tool ++ file_line path causes bracket
 
-abbrev pub IsElfFaultLine : Text → PatchelfError → Text → Type 0
-IsElfFaultLine path e line = IsLineOf (codes "patchelf: ") path (AreElfCauses e) line
+-- of a plan, for a file whose bytes may be known
+abbrev pub IsElfFaultLine : PlanMeant → Option (List ℕ) → Text → PatchelfError → Text → Type 0
+IsElfFaultLine plan known path e line = IsLineOf (codes "patchelf: ") path (AreElfCauses e) (IsElfBracket plan known e) line
 
-abbrev pub IsNamesFaultLine : Text → NamesError → Text → Type 0
-IsNamesFaultLine path e line = IsLineOf (codes "install_name_tool: ") path (AreNameCauses e) line
+abbrev pub IsNamesFaultLine : Option (List ℕ) → Text → NamesError → Text → Type 0
+IsNamesFaultLine known path e line = IsLineOf (codes "install_name_tool: ") path (AreNameCauses e) (IsNamesBracket known e) line

@@ -7,6 +7,7 @@ use Rattle.arwen_cli_install_names.specs.declared.line.NameLine.{NameLine}
 use Rattle.arwen_cli_install_names.specs.declared.line.NameLineError.{NameLineError}
 use Rattle.arwen_cli_patchelf.specs.declared.error.PatchelfError.{PatchelfError}
 use Rattle.arwen_cli_patchelf_lines.specs.Line.{ReadsLine, TellsLine}
+use Rattle.arwen_cli_patchelf_lines.specs.Plans.{PlanMeant}
 use Rattle.arwen_cli_patchelf_lines.specs.declared.line.Line.{Line}
 use Rattle.arwen_cli_patchelf_lines.specs.declared.line.LineError.{LineError}
 use Rattle.arwen_cli_peers.specs.Options.{Text, help, line_of, version}
@@ -35,22 +36,23 @@ any_error path e = ⊤
 
 -- ## Lines that were read
 
--- all is done of a line of patchelf, or its ending tells the fault of a file
+-- all is done of a line of patchelf, or its ending tells the fault of a file, of whose bytes nothing need be known
 abbrev pub EndsReadLine : Ending → Type 0
 EndsReadLine Done = ⊤
-EndsReadLine (Failed line) = (path : Text) × (e : PatchelfError) × IsElfFaultLine path e (string_bytes line)
+EndsReadLine (Failed line) = (plan : PlanMeant) × (known : Option (List ℕ)) × (path : Text) × (e : PatchelfError)
+    × IsElfFaultLine plan known path e (string_bytes line)
 EndsReadLine (Told text) = ⊥
 
 -- the ending tells why the file of a line of install_name_tool isn't edited
 abbrev pub IsNamesEnding : Text → NamesError → Ending → Type 0
-IsNamesEnding path e (Failed line) = IsNamesFaultLine path e (string_bytes line)
+IsNamesEnding path e (Failed line) = (known : Option (List ℕ)) × IsNamesFaultLine known path e (string_bytes line)
 IsNamesEnding path e Done = ⊥
 IsNamesEnding path e (Told text) = ⊥
 
 -- it is edited, or the ending tells why it isn't
 abbrev pub EndsReadNames : Text → Ending → Type 0
 EndsReadNames path Done = ⊤
-EndsReadNames path (Failed line) = (e : NamesError) × IsNamesFaultLine path e (string_bytes line)
+EndsReadNames path (Failed line) = (e : NamesError) × IsNamesEnding path e (Failed line)
 EndsReadNames path (Told text) = ⊥
 
 -- ## Lines

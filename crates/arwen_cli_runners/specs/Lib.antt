@@ -1,3 +1,4 @@
+pub mod Answered
 pub mod Causes
 pub mod Endings
 pub mod NameRuns

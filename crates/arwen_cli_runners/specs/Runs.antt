@@ -4,7 +4,8 @@ use Rattle.arwen_cli_patchelf.specs.Shrinking.{Finding}
 use Rattle.arwen_cli_peers.specs.Options.{Text}
 use Rattle.arwen_cli_patchelf.specs.Made.{IsMadeOf}
 use Rattle.arwen_cli_patchelf.specs.Patched.{TellsPlanPath}
-use Rattle.arwen_cli_patchelf.specs.Printing.{PrintsAll, TellsPrints}
+use Rattle.arwen_cli_patchelf.specs.ElfCommandError.{ElfCommandError}
+use Rattle.arwen_cli_patchelf.specs.Printing.{IfCommand, PrintsAll, TellsPrints}
 use Rattle.arwen_cli_patchelf.specs.declared.error.PatchelfError.{PatchelfError}
 use Rattle.arwen_cli_patchelf.specs.declared.error.PatchelfError.TheVariants.{Absent, Command}
 use Rattle.arwen_cli_patchelf.specs.declared.printing.Print.{Print}
@@ -34,29 +35,34 @@ TellsPlanFault finds plan known (Command e) = TellsPlanPath finds plan known e
 TellsPlanFault finds plan known (Absent print) = ⊥
 
 -- not all is done: a print fails, or, once all is printed, the plan is refused or not written
-abbrev pub Stops : {W : Type 0} → (W → Option (List ℕ)) → (W → ℕ) → Finding → List Print → PlanMeant → (Text → Option (List ℕ)) → Text → W → W → PatchelfError → Type 0
-Stops written failed finds prints plan contents path old new e =
-    TellsPrints written failed prints (contents path) old new e
-    ⊎ (PrintsAll prints (contents path) (written old) (written new) × TellsPlanFault finds plan (contents path) e)
+abbrev pub TellsStop : {W : Type 0} → (W → Option (List ℕ)) → (W → ℕ) → Finding → List Print → PlanMeant → Option (List ℕ) → W → W → PatchelfError → Type 0
+TellsStop written failed finds prints plan known old new e =
+    TellsPrints written failed prints known old new e
+    ⊎ (PrintsAll prints known (written old) (written new) × TellsPlanFault finds plan known e)
+
+-- Not all is done of the file at a path. An error of reading or writing has its cause, which `answered` tells of the path.
+pub record Stops {W : Type 0} (written : W → Option (List ℕ)) (failed : W → ℕ) (finds : Finding) (prints : List Print) (plan : PlanMeant) (contents : Text → Option (List ℕ)) (answered : Text → ElfCommandError → Type 0) (path : Text) (old new : W) (e : PatchelfError) : Type 0 where
+  pub tells : TellsStop written failed finds prints plan (contents path) old new e
+  pub cause : IfCommand (answered path) e
 
 -- of one of these files, which is at this path, once all is done of those before it
-abbrev pub StopsAt : {W : Type 0} → (W → Option (List ℕ)) → (W → ℕ) → Finding → List Print → PlanMeant → (Text → Option (List ℕ)) → List Text → W → W → Text → PatchelfError → Type 0
-StopsAt written failed finds prints plan contents [] old new at e = ⊥
-StopsAt {W} written failed finds prints plan contents (path ∷ rest) old new at e =
-    ((at ≡ path) × Stops written failed finds prints plan contents path old new e)
+abbrev pub StopsAt : {W : Type 0} → (W → Option (List ℕ)) → (W → ℕ) → Finding → List Print → PlanMeant → (Text → Option (List ℕ)) → (Text → ElfCommandError → Type 0) → List Text → W → W → Text → PatchelfError → Type 0
+StopsAt written failed finds prints plan contents answered [] old new at e = ⊥
+StopsAt {W} written failed finds prints plan contents answered (path ∷ rest) old new at e =
+    ((at ≡ path) × Stops written failed finds prints plan contents answered path old new e)
     ⊎ ((mid : W) × IsDone finds prints plan contents path (written old) (written mid)
-    × StopsAt written failed finds prints plan contents rest mid new at e)
+    × StopsAt written failed finds prints plan contents answered rest mid new at e)
 
--- a line ends with one that tells the fault of the file at a path
-abbrev pub IsFaultEnding : Text → PatchelfError → Ending → Type 0
-IsFaultEnding path e (Failed line) = IsElfFaultLine path e (string_bytes line)
-IsFaultEnding path e Done = ⊥
-IsFaultEnding path e (Told text) = ⊥
+-- a line ends with one that tells the fault of the file at a path, whose bytes may be known
+abbrev pub IsFaultEnding : PlanMeant → Option (List ℕ) → Text → PatchelfError → Ending → Type 0
+IsFaultEnding plan known path e (Failed line) = IsElfFaultLine plan known path e (string_bytes line)
+IsFaultEnding plan known path e Done = ⊥
+IsFaultEnding plan known path e (Told text) = ⊥
 
 -- how a line ends: all is done of all its files, or a line tells the first of which not all is done
-abbrev pub EndsFiles : {W : Type 0} → (W → Option (List ℕ)) → (W → ℕ) → Finding → List Print → PlanMeant → (Text → Option (List ℕ)) → List Text → W → W → Ending → Type 0
-EndsFiles written failed finds prints plan contents paths old new Done = AreDone finds prints plan contents paths (written old) (written new)
-EndsFiles written failed finds prints plan contents paths old new (Failed line) =
-    (path : Text) × (e : PatchelfError) × StopsAt written failed finds prints plan contents paths old new path e
-    × IsElfFaultLine path e (string_bytes line)
-EndsFiles written failed finds prints plan contents paths old new (Told text) = ⊥
+abbrev pub EndsFiles : {W : Type 0} → (W → Option (List ℕ)) → (W → ℕ) → Finding → List Print → PlanMeant → (Text → Option (List ℕ)) → (Text → ElfCommandError → Type 0) → List Text → W → W → Ending → Type 0
+EndsFiles written failed finds prints plan contents answered paths old new Done = AreDone finds prints plan contents paths (written old) (written new)
+EndsFiles written failed finds prints plan contents answered paths old new (Failed line) =
+    (path : Text) × (e : PatchelfError) × StopsAt written failed finds prints plan contents answered paths old new path e
+    × IsElfFaultLine plan (contents path) path e (string_bytes line)
+EndsFiles written failed finds prints plan contents answered paths old new (Told text) = ⊥

@@ -2,8 +2,9 @@
 ghost use Rattle.std.specs.Prelude.{◌≡◌, ◌++◌, IfOk, IfSome, codes, decimal, map, string_bytes};
 ghost use Rattle.byte_store.specs.Known.{IsAll};
 ghost use Rattle.arwen_cli_facts.specs.Reasons.{elf_words as elf_told};
+ghost use Rattle.arwen_cli_facts.specs.Texts.{text_model};
 ghost use Rattle.arwen_cli_patchelf_lines.specs.Plans.{plan_model};
-ghost use Rattle.arwen_cli_runners.specs.Causes.{AreElfCauses, AreElfInner, AreNameCauses, AreNamesInner, IsApplyCommand, IsElfFaultLine, IsNamesFaultLine, TellsElfKnown, TellsMachoKnown, absent_words as absent_told, command_kind as command_kind_of, elf_kind as elf_kind_of, names_kind as names_kind_of};
+ghost use Rattle.arwen_cli_runners.specs.Causes.{AreElfCauses, AreElfInner, AreNameCauses, AreNamesInner, IsApplyCommand, IsElfBracket, IsElfFaultLine, IsNamesBracket, IsNamesFaultLine, TellsElfKnown, TellsMachoKnown, TellsOverlapOf, absent_words as absent_told, command_kind as command_kind_of, elf_kind as elf_kind_of, names_kind as names_kind_of};
 
 use crate::ending::{joined, three};
 use arwen_cli_facts::{
@@ -31,7 +32,8 @@ pub(crate) fn elf_fault_line<'p, O: Opens<'p>>(
     path: &'p str,
     error: &PatchelfError,
 ) -> Result<String, AllocError>
-    ensures { IfOk result (λ line. IsElfFaultLine path.entry.now error.now (string_bytes line)) }
+    ensures { IfOk result (λ line. IsElfFaultLine (plan_model plan.now)
+        (O.contents files.now path.entry.now) path.entry.now error.now (string_bytes line)) }
 {
     let causes = elf_causes(alloc, error)?;
     let bracket = elf_bracket(alloc, files, plan, path, error)?;
@@ -116,15 +118,17 @@ fn elf_bracket<'p, O: Opens<'p>>(
     plan: &Plan,
     path: &'p str,
     error: &PatchelfError,
-) -> Result<Option<String>, AllocError> {
-    let PatchelfError::Command(error) = error else {
-        return Ok(None);
-    };
+) -> Result<Option<String>, AllocError>
+    ensures { IfOk result (λ bracket. IsElfBracket (plan_model plan.now)
+        (O.contents files.now path.entry.now) error.now (text_model bracket)) }
+{
     match error {
-        ElfCommandError::Elf(ElfError::Modify(ModifyCause::Overlap)) => {
+        PatchelfError::Command(ElfCommandError::Elf(ElfError::Modify(ModifyCause::Overlap))) => {
             Ok(overlap_at(alloc, files, plan, path))
         }
-        ElfCommandError::Elf(fault) => bracket_of(alloc, elf_reason_at(alloc, files, path, fault)),
+        PatchelfError::Command(ElfCommandError::Elf(fault)) => {
+            bracket_of(alloc, elf_reason_at(alloc, files, path, fault))
+        }
         _ => Ok(None),
     }
 }
@@ -135,7 +139,10 @@ fn overlap_at<'p, O: Opens<'p>>(
     files: &O,
     plan: &Plan,
     path: &'p str,
-) -> Option<String> {
+) -> Option<String>
+    ensures { IfSome result (λ text. TellsOverlapOf (plan_model plan.now)
+        (O.contents files.now path.entry.now) (string_bytes text)) }
+{
     let bytes = bytes_at(alloc, files, path)?;
     let command = apply_command(alloc, plan).ok()?;
     let text = overlap_text(alloc, bytes.as_slice(), &command);
@@ -194,12 +201,26 @@ pub(crate) fn names_fault_line<'p, O: Opens<'p>>(
     path: &'p str,
     error: &NamesError,
 ) -> Result<String, AllocError>
-    ensures { IfOk result (λ line. IsNamesFaultLine path.entry.now error.now (string_bytes line)) }
+    ensures { IfOk result (λ line. IsNamesFaultLine (O.contents files.now path.entry.now)
+        path.entry.now error.now (string_bytes line)) }
 {
     let causes = names_causes(alloc, error)?;
-    let bracket = bracket_of(alloc, macho_reason_at(alloc, files, path, error))?;
+    let bracket = names_bracket(alloc, files, path, error)?;
     let line = file_line(alloc, path, causes.as_str(), &bracket)?;
     joined(alloc, "install_name_tool: ", line.as_str())
+}
+
+/// What stands in brackets behind the causes of a fault of the Mach-O file at a path.
+fn names_bracket<'p, O: Opens<'p>>(
+    alloc: Global,
+    files: &O,
+    path: &'p str,
+    error: &NamesError,
+) -> Result<Option<String>, AllocError>
+    ensures { IfOk result (λ bracket. IsNamesBracket (O.contents files.now path.entry.now)
+        error.now (text_model bracket)) }
+{
+    bracket_of(alloc, macho_reason_at(alloc, files, path, error))
 }
 
 /// The causes of a fault of a Mach-O file.

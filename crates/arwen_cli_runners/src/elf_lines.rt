@@ -1,8 +1,10 @@
 //! Lines of patchelf, run.
-ghost use Rattle.std.specs.Prelude.{IfErr, IfOk, OnOk, map, string_bytes};
+ghost use Rattle.std.specs.Prelude.{IfErr, IfOk, OnOk, map, option_map, string_bytes};
+ghost use Rattle.arwen_cli_patchelf.specs.Counted.{sink_failures, sink_inner};
 ghost use Rattle.arwen_cli_patchelf.specs.Patched.{TellsPlanPath};
-ghost use Rattle.arwen_cli_patchelf.specs.Printing.{PrintsAll, TellsPrints};
+ghost use Rattle.arwen_cli_patchelf.specs.Printing.{IfCommand, PrintsAll, TellsPrints};
 ghost use Rattle.arwen_cli_patchelf_lines.specs.Plans.{plan_model};
+ghost use Rattle.arwen_cli_runners.specs.Answered.{IsAnswered, IsEditAnswered, IsOutputAnswered, IsPrintAnswered};
 ghost use Rattle.arwen_cli_runners.specs.Runs.{CanBeMade, EndsFiles, IsDone, IsFaultEnding, Stops};
 
 use crate::causes::elf_fault_line;
@@ -19,9 +21,10 @@ use std::alloc::{AllocError, Global};
 /// Does what a line asks of the files at these paths, in order, and answers how it ends. Of each it prints first what is
 /// asked for, and then makes the plan: in place, or at the path of the output. The first of which not all is done ends it,
 /// with a line that names it and the causes. Error: `AllocError`, where there was no memory for that line.
-pub fn files_ending<'p, F: Opens<'p> + Creates<'p>, P: Probe, W: CountedWrite>(
+pub fn files_ending<'p, F: Opens<'p>, C: Creates<'p>, P: Probe, W: CountedWrite>(
     alloc: Global,
     files: &F,
+    outputs: &C,
     paths: &'p [String],
     prints: &[Print],
     plan: &Plan,
@@ -30,12 +33,18 @@ pub fn files_ending<'p, F: Opens<'p> + Creates<'p>, P: Probe, W: CountedWrite>(
     out: &mut W,
 ) -> Result<Ending, AllocError>
     ensures { IfOk result (EndsFiles W.contents W.failed (P.may_find probe.now) prints.now
-        (plan_model plan.now) (F.contents files.now) (map string_bytes paths.now)
-        out.old out.new) }
+        (plan_model plan.now) (F.contents files.now) (IsAnswered
+        (record { contents = F.contents files.now; opens = F.may_fail files.now;
+            reads = F.Opened.may_fail_read; writes = F.Opened.may_fail_write;
+            takes_none = F.Opened.may_take_none; failed = F.Opened.failed })
+        (record { creates = C.may_fail outputs.now; is_new = C.is_new;
+            written = C.Created.contents; inner = sink_inner; failed = sink_failures })
+        (P.may_find probe.now) (plan_model plan.now) (option_map (λ path. path.now) output))
+        (map string_bytes paths.now) out.old out.new) }
 {
     for path in paths {
         let path = path.as_str();
-        match run_file(alloc, files, path, prints, plan, output, probe, out) {
+        match run_file(alloc, files, outputs, path, prints, plan, output, probe, out) {
             Ok(()) => {}
             Err(error) => return fault_ending(alloc, files, plan, path, error),
         }
@@ -51,7 +60,8 @@ fn fault_ending<'p, O: Opens<'p>>(
     path: &'p str,
     error: PatchelfError,
 ) -> Result<Ending, AllocError>
-    ensures { IfOk result (IsFaultEnding path.now error) }
+    ensures { IfOk result (IsFaultEnding (plan_model plan.now) (O.contents files.now path.now)
+        path.now error) }
 {
     let text = elf_fault_line(alloc, files, plan, path, &error);
     drop(error);
@@ -59,9 +69,10 @@ fn fault_ending<'p, O: Opens<'p>>(
 }
 
 /// Does what a line asks of the file at a path.
-fn run_file<'p, F: Opens<'p> + Creates<'p>, P: Probe, W: CountedWrite>(
+fn run_file<'p, F: Opens<'p>, C: Creates<'p>, P: Probe, W: CountedWrite>(
     alloc: Global,
     files: &F,
+    outputs: &C,
     path: &'p str,
     prints: &[Print],
     plan: &Plan,
@@ -72,11 +83,18 @@ fn run_file<'p, F: Opens<'p> + Creates<'p>, P: Probe, W: CountedWrite>(
     ensures done { OnOk result (IsDone (P.may_find probe.now) prints.now (plan_model plan.now)
         (F.contents files.now) path.now (W.contents out.old) (W.contents out.new)) }
     ensures stopped { IfErr result (Stops W.contents W.failed (P.may_find probe.now) prints.now
-        (plan_model plan.now) (F.contents files.now) path.now out.old out.new) }
+        (plan_model plan.now) (F.contents files.now) (IsAnswered
+        (record { contents = F.contents files.now; opens = F.may_fail files.now;
+            reads = F.Opened.may_fail_read; writes = F.Opened.may_fail_write;
+            takes_none = F.Opened.may_take_none; failed = F.Opened.failed })
+        (record { creates = C.may_fail outputs.now; is_new = C.is_new;
+            written = C.Created.contents; inner = sink_inner; failed = sink_failures })
+        (P.may_find probe.now) (plan_model plan.now) (option_map (λ path. path.now) output))
+        path.now out.old out.new) }
 {
     print_file(alloc, files, path, prints, out)?;
     match output {
-        Some(output) => Ok(write_file(alloc, files, path, output, plan, probe)?),
+        Some(output) => Ok(write_file(alloc, files, outputs, path, output, plan, probe)?),
         None => Ok(edit_file(alloc, files, path, plan, probe)?),
     }
 }
@@ -93,6 +111,11 @@ fn print_file<'p, O: Opens<'p>, W: CountedWrite>(
         (W.contents out.old) (W.contents out.new)) }
     ensures tells { IfErr result (TellsPrints W.contents W.failed prints.now
         (O.contents files.now path.now) out.old out.new) }
+    ensures cause { IfErr result (IfCommand (IsPrintAnswered
+        (record { contents = O.contents files.now; opens = O.may_fail files.now;
+            reads = O.Opened.may_fail_read; writes = O.Opened.may_fail_write;
+            takes_none = O.Opened.may_take_none; failed = O.Opened.failed })
+        path.now)) }
 {
     match print_path(alloc, files, path, prints, out) {
         Ok(_) => Ok(()),
@@ -104,9 +127,10 @@ fn print_file<'p, O: Opens<'p>, W: CountedWrite>(
 }
 
 /// Writes the bytes of a file, with its plan made, to the path of the output.
-fn write_file<'p, F: Opens<'p> + Creates<'p>, P: Probe>(
+fn write_file<'p, F: Opens<'p>, C: Creates<'p>, P: Probe>(
     alloc: Global,
     files: &F,
+    outputs: &C,
     path: &'p str,
     output: &'p str,
     plan: &Plan,
@@ -116,8 +140,15 @@ fn write_file<'p, F: Opens<'p> + Creates<'p>, P: Probe>(
         (F.contents files.now path.now)) }
     ensures tells { IfErr result (TellsPlanPath (P.may_find probe.now) (plan_model plan.now)
         (F.contents files.now path.now)) }
+    ensures cause { IfErr result (IsOutputAnswered
+        (record { contents = F.contents files.now; opens = F.may_fail files.now;
+            reads = F.Opened.may_fail_read; writes = F.Opened.may_fail_write;
+            takes_none = F.Opened.may_take_none; failed = F.Opened.failed })
+        (record { creates = C.may_fail outputs.now; is_new = C.is_new;
+            written = C.Created.contents; inner = sink_inner; failed = sink_failures })
+        (P.may_find probe.now) (plan_model plan.now) output.now path.now) }
 {
-    match write_path(alloc, files, path, files, output, plan, probe) {
+    match write_path(alloc, files, path, outputs, output, plan, probe) {
         Ok(_) => Ok(()),
         Err(NotDone { error, store }) => {
             drop(store);
@@ -138,6 +169,11 @@ fn edit_file<'p, O: Opens<'p>, P: Probe>(
         (O.contents files.now path.now)) }
     ensures tells { IfErr result (TellsPlanPath (P.may_find probe.now) (plan_model plan.now)
         (O.contents files.now path.now)) }
+    ensures cause { IfErr result (IsEditAnswered
+        (record { contents = O.contents files.now; opens = O.may_fail files.now;
+            reads = O.Opened.may_fail_read; writes = O.Opened.may_fail_write;
+            takes_none = O.Opened.may_take_none; failed = O.Opened.failed })
+        path.now) }
 {
     match patch_path(alloc, files, path, plan, probe) {
         Ok(Some(_)) => Ok(()),

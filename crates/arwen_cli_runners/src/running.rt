@@ -105,6 +105,7 @@ fn run_lent<R: Files + Print + AllocGlobal>(rt: &R, line: &Line) -> Result<Endin
     files_ending(
         rt.alloc(),
         &files,
+        &files,
         line.paths.as_slice(),
         prints.as_slice(),
         &line.plan,

@@ -12,5 +12,6 @@ returns g c =
       causes = c.as_str.result.now;
       are = subst Causes (sym c.as_str.ensures.value) c.in_ok-causes.ensures;
       bracket = text_model c.in_ok-bracket.bracket;
+      bracket_is = c.in_ok-bracket.ensures;
       is = is ∙ ap (λ (told : List ℕ). codes "patchelf: " ++ told) (c.as_str-2.ensures.value ∙ c.in_ok-line.ensures);
     }) c.joined.ensures
