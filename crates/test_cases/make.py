@@ -308,6 +308,7 @@ def elfs():
         "elf-loader": elf(little64, [(DT_SONAME, b"ld-tiny.so.1"), (DT_RUNPATH, b"/opt/lib"), (DT_NEEDED, b"libc.so.6")]),
         "elf-read-only": altered(small(little64), PT_LOAD, 4, -2),
         "elf-loose-headers": loose(little64),
+        "elf-trailing": small(little64) + b"payload",
         "elf-bad-class": b"\x7fELF\x03" + full[5:],
         "elf-bad-text": full.replace(b"/old\0", b"/old!"),
         "elf-moved-list": altered(full, 2, 16, 8),

@@ -60,6 +60,9 @@ read_only_line = codes "its dynamic section can't be written to: a loader that f
 abbrev pub lost_headers_line : Words
 lost_headers_line = codes "its program headers lie in no loaded segment: a program that looks for them in memory may not find them any more"
 
+abbrev pub lost_bytes_line : Words
+lost_bytes_line = codes "the bytes behind its last section and segment are gone: an AppImage loses its file system"
+
 -- what edits found
 abbrev pub finding_lines : Words → Findings → Words
 finding_lines file found =
@@ -79,6 +82,7 @@ left_lines file notes =
     ++ line_if notes.seeks_old_place file old_place_line
     ++ line_if notes.refuses_debug file read_only_line
     ++ line_if notes.loses_headers file lost_headers_line
+    ++ line_if notes.loses_bytes file lost_bytes_line
 
 abbrev pub lines_of : Words → ElfNotes → Words
 lines_of file notes =

@@ -1,5 +1,5 @@
 -- What a user should know of edits of an image.
-use Rattle.std.specs.Prelude.{ℕ, ◌≡◌, ◌*◌, ◌/◌, ◌==◌, ◌&&◌, ◌||◌, ◌⊎◌, ◌++◌, List, [], ◌∷◌, Bool, Option, Some, true, false, not, drop, map, filter, find, is_none, length, take, bit_and, nat_eq, unwrap_or}
+use Rattle.std.specs.Prelude.{ℕ, ◌≡◌, ◌*◌, ◌/◌, ◌==◌, ◌&&◌, ◌||◌, ◌⊎◌, ◌++◌, List, [], ◌∷◌, Bool, Option, Some, true, false, not, drop, map, filter, find, is_none, length, take, bit_and, nat_eq, nat_le, nat_lt, unwrap_or}
 use Rattle.std.specs.List.{flat_map, list_any, starts_with}
 use Rattle.std.specs.Str.{bytes_eq}
 use Rattle.std.specs.Option.{option_map}
@@ -13,9 +13,9 @@ use Rattle.elf_format.specs.Image.{Image, ImageSection, lists_tag}
 use Rattle.elf_format.specs.Options.{is_one_of, is_some_and}
 use Rattle.elf_format.specs.Placement.{file_part, memory_part}
 use Rattle.elf_format.specs.Places.{is_set}
-use Rattle.elf_format.specs.Ranges.{lies_in, range}
+use Rattle.elf_format.specs.Ranges.{end_of, lies_in, range}
 use Rattle.elf_format.specs.declared.range.Range.{Range}
-use Rattle.elf_format.specs.Records.{segment_header_size}
+use Rattle.elf_format.specs.Records.{section_header_size, segment_header_size}
 use Rattle.elf_format.specs.Views.{NamedSymbol}
 use Rattle.elf_format.specs.declared.constants.TheConstants.{DT_DEBUG, DT_FLAGS_1, DT_SONAME, ET_DYN, ET_EXEC, PT_DYNAMIC, SHT_GNU_HASH, SHT_REL, SHT_RELA}
 use Rattle.elf_format.specs.File.{is_loaded, segment_of_type}
@@ -208,6 +208,32 @@ has_loose_headers image =
     image.header.e_type == ET_EXEC && is_none image.interpreter
     && not (list_any (has_range (header_table image)) image.segments) && list_any (shares_page image.header.e_phoff) image.segments
 
+-- ## Files that go on behind all that is written of them
+
+-- the section header table (gABI, ELF Header, e_shoff, e_shentsize and e_shnum)
+abbrev pub section_table : Image → Range
+section_table image = range image.header.e_shoff (length image.sections * section_header_size image.form)
+
+-- a range goes up to the end of a file
+abbrev pub reaches : ℕ → Range → Bool
+reaches file_end part = nat_le file_end (end_of part)
+
+-- so does the file's part of a loaded segment
+abbrev pub does_load_reach : ℕ → SegmentHeader → Bool
+does_load_reach file_end p = is_loaded p && reaches file_end (file_part p)
+
+-- so do the bytes of a section
+abbrev pub does_section_reach : ℕ → ImageSection → Bool
+does_section_reach file_end s = nat_lt 0 (length s.content) && reaches file_end (range s.sh_offset (length s.content))
+
+-- Bytes stand behind both header tables, all loaded segments and all sections, as the file system of an AppImage does. A file that is
+-- written hasn't got them.
+abbrev pub has_bytes_behind : Image → Bool
+has_bytes_behind image =
+    not (reaches (length image.source) (header_table image)) && not (reaches (length image.source) (section_table image))
+    && not (list_any (does_load_reach (length image.source)) image.segments)
+    && not (list_any (does_section_reach (length image.source)) image.sections)
+
 -- ## What edits leave
 
 -- versions are needed still of a library that was dropped, and that no entry needs any more
@@ -305,6 +331,7 @@ pub record AreFindings (edits : List Edit) (image : Image) (found : Findings) : 
   pub no_list : found.lacks_list ≡ is_none image.entries
   pub debug : found.adds_debug ≡ list_any adds_debug edits
   pub loose_headers : found.has_loose_headers ≡ has_loose_headers image
+  pub bytes_behind : found.has_bytes_behind ≡ has_bytes_behind image
 
 -- What an edited image shows beside these.
 pub record AreLeft (edited : Image) (notes : ElfNotes) : Type 0 where
@@ -315,6 +342,7 @@ pub record AreLeft (edited : Image) (notes : ElfNotes) : Type 0 where
   pub old_place : TellsOldPlace edited notes.seeks_old_place
   pub read_only : TellsReadOnly notes.found.adds_debug edited notes.refuses_debug
   pub lost_headers : notes.loses_headers ≡ (notes.found.has_loose_headers && edited.changed)
+  pub lost_bytes : notes.loses_bytes ≡ (notes.found.has_bytes_behind && edited.changed)
 
 -- Notes of edits of an image: of what they find in it, and of the image after them.
 pub record AreNotes (edits : List Edit) (image : Image) (notes : ElfNotes) : Type 0 where

@@ -6,6 +6,7 @@ ghost use Rattle.elf_edits.specs.Texts.{is_among as among};
 ghost use Rattle.elf_image.specs.ImageModel.{entry_model};
 ghost use Rattle.elf_notes.specs.Notes.{AreFindings, adds_debug as puts_debug, asked, entries_asked, entries_of as entries_shown, gives_other_name as is_other_name_given, has_no_names as lacks_names, has_no_pairs as lacks_pairs, has_other_text as is_other_text, is_loader_name as names_loader, is_unmatched, libraries_asked, loads_itself as is_self_loading, recorded_of, rename_loader as do_rename_loader, says_loader as tells_loader, says_pie as tells_pie, sets_run_path as gives_run_path, unmatched_symbols};
 
+use crate::behind::has_bytes_behind;
 use crate::headers::has_loose_headers;
 use crate::names::{
     entries_asked_in, joined, libraries_asked_in, needed_of, put_in, recorded_in, symbols_asked_in,
@@ -48,6 +49,8 @@ pub struct Findings<'e> {
     /// Whether the file is a program that may look for its program headers in memory, where they are by the page of a loaded
     /// segment alone: none has all of them.
     pub has_loose_headers: bool,
+    /// Whether bytes stand behind all loaded segments, sections and header tables, as the file system of an AppImage does.
+    pub has_bytes_behind: bool,
 }
 
 /// What edits look for in an image, and find, before they are made. Error: `AllocError`.
@@ -74,6 +77,7 @@ pub fn findings_of<'e>(
         lacks_list: image.dynamic_data().is_none(),
         adds_debug: add_debug(edits),
         has_loose_headers: has_loose_headers(image),
+        has_bytes_behind: has_bytes_behind(image),
     })
 }
 

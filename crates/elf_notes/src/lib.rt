@@ -1,6 +1,7 @@
 //! What a user should know of edits of an ELF file that were made, and the lines that tell it.
 #![tactic(auto)]
 
+mod behind;
 pub mod findings;
 mod headers;
 mod lines;

@@ -88,6 +88,9 @@ fn put_left(
     let lost_headers =
         "its program headers lie in no loaded segment: a program that looks for them in memory may not find them any more";
     put_if(alloc, text, notes.loses_headers, file, lost_headers)?;
+    let lost_bytes =
+        "the bytes behind its last section and segment are gone: an AppImage loses its file system";
+    put_if(alloc, text, notes.loses_bytes, file, lost_bytes)?;
     Ok(())
 }
 

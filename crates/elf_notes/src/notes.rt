@@ -46,6 +46,8 @@ pub struct ElfNotes<'a> {
     pub refuses_debug: bool,
     /// Whether the file is a program that may look for its program headers in memory, and they move to where none is loaded.
     pub loses_headers: bool,
+    /// Whether bytes stood behind all that is written of the file.
+    pub loses_bytes: bool,
 }
 
 /// What a user should know of edits that were made, by what they found and the image after them. Where a library was
@@ -63,6 +65,7 @@ pub fn notes_of<'a>(
     let seeks_old_place = seeks_old_place(alloc, edited)?;
     let refuses_debug = refuses_debug(alloc, edited, found.adds_debug)?;
     let loses_headers = found.has_loose_headers && edited.changed();
+    let loses_bytes = found.has_bytes_behind && edited.changed();
     let is_hashed_anew = is_hashed_anew(edited);
     Ok(ElfNotes {
         found,
@@ -73,6 +76,7 @@ pub fn notes_of<'a>(
         seeks_old_place,
         refuses_debug,
         loses_headers,
+        loses_bytes,
     })
 }
 

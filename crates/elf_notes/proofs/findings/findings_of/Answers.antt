@@ -34,4 +34,5 @@ returns c =
       no_list = none_made (λ list. map entry_model list.now) c.dynamic_data.result c.is_none.result c.is_none.ensures ∙ ap is_none c.dynamic_data.ensures;
       debug = c.add_debug.ensures;
       loose_headers = c.has_loose_headers.ensures;
+      bytes_behind = c.has_bytes_behind.ensures;
     }
