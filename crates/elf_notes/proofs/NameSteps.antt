@@ -130,6 +130,10 @@ none_made f None false is = is
 none_made f (Some a) true is = is
 none_made f (Some a) false is = refl
 
+-- two texts, one behind another
+pub two_more : (text a last x y : List ℕ) → a ≡ text ++ x → last ≡ a ++ y → last ≡ text ++ (x ++ y)
+two_more text a last x y first second = second ∙ ap (λ l. l ++ y) first ∙ append_assoc text x y
+
 -- three texts, one behind another
 pub three_more : (text a b last x y z : List ℕ) → a ≡ text ++ x → b ≡ a ++ y → last ≡ b ++ z → last ≡ text ++ (x ++ y ++ z)
 three_more text a b last x y z first second third =
