@@ -3,6 +3,7 @@ use Rattle.std.proofs.Common.{◌≡◌, ◌≤◌, ◌<◌, ◌^◌, ◌+◌, �
 use Rattle.std.specs.List.{All, flat_map}
 use Rattle.std.proofs.lemmas.List.{take_all}
 use Rattle.std.proofs.lemmas.List.Elements.{All-append, All-cons, All-head, All-nil, All-tail}
+use Rattle.std.specs.declared.io.Error.{Error}
 use Rattle.byte_store.proofs.LaidLaws.{length-laid}
 use Rattle.byte_store.specs.Fault.{BecomesLaid}
 use Rattle.byte_store.specs.Known.{Becomes, HasLength, Stays}
@@ -249,7 +250,7 @@ file_tells a known read file e (inl is) refuses knows =
 file_tells a known read file e (inr is) refuses knows =
     thin_tells a file read.length read.fronts.items refuses.before refuses.behind refuses.front e (is.long file knows) is.short (slice_fronts known read file (was_read known read (inr is)) knows) refuses.are refuses.tells
 
-pub refused_renewed : (choice : Signing) (meaning : MachoMeaning) (old : Option (List ℕ)) (read : SliceFronts) (e : MachoCommandError) → AreFrontsRead old read → RefusesFronts (asked meaning) read.fronts.items e → FailsPatch choice meaning old old e
-refused_renewed choice meaning old read e is refuses =
-    refused_by choice meaning old old (outcome_of (asked meaning) refuses.front.bytes.items) e refl refuses.tells (λ file knows.
+pub refused_renewed : (ended : Error → Type 0) (choice : Signing) (meaning : MachoMeaning) (old : Option (List ℕ)) (read : SliceFronts) (e : MachoCommandError) → AreFrontsRead old read → RefusesFronts (asked meaning) read.fronts.items e → FailsPatch ended choice meaning old old e
+refused_renewed ended choice meaning old read e is refuses =
+    refused_by ended choice meaning old old (outcome_of (asked meaning) refuses.front.bytes.items) e refl refuses.tells (λ file knows.
     tells_signed (signs_of choice meaning) (asked meaning) file e (file_tells (asked meaning) old read file e is refuses knows))

@@ -20,7 +20,7 @@ use Rattle.byte_store.specs.Fault.{BecomesLaid}
 use Rattle.byte_store.specs.Known.{Becomes, Stays}
 use Rattle.byte_store.specs.declared.reading.ReadError.TheVariants as read
 use Rattle.macho_commands.specs.Engine.{Asked, IsSignedOutcome, MayFail, Outcome, ShowsBy, ShowsEdited, Tells, WritesEdits, asked, outcome, outcome_by, outcome_of, signs_of}
-use Rattle.macho_commands.specs.Failures.{HasCause}
+use Rattle.macho_commands.specs.Failures.{HasCause, WritesEnd}
 use Rattle.macho_commands.specs.Meaning.{MachoMeaning, file_of}
 use Rattle.macho_commands.specs.Stores.{FailsPatch, IsPartOf, Patched, Torn}
 use Rattle.macho_commands.specs.declared.signing.Signing.{Signing}
@@ -260,10 +260,10 @@ torn_slices choice meaning old new read patches leaves is makes (inr laid_first)
       first = laid_first.1 file knows;
     })
 
-pub refused_slices : (choice : Signing) (meaning : MachoMeaning) (old : Option (List ℕ)) (read : SliceFronts) (e : MachoCommandError) → signs_of choice meaning ≡ Nothing → AreSlicesRead old read → RefusesFronts (asked meaning) read.fronts.items e → FailsPatch choice meaning old old e
-refused_slices choice meaning old read e leaves is refuses =
+pub refused_slices : (ended : Error → Type 0) (choice : Signing) (meaning : MachoMeaning) (old : Option (List ℕ)) (read : SliceFronts) (e : MachoCommandError) → signs_of choice meaning ≡ Nothing → AreSlicesRead old read → RefusesFronts (asked meaning) read.fronts.items e → FailsPatch ended choice meaning old old e
+refused_slices ended choice meaning old read e leaves is refuses =
     let P : Outcome → Type 0 = λ o. Tells o e in
-    refused_by choice meaning old old (outcome_of (asked meaning) refuses.front.bytes.items) e refl refuses.tells (λ file knows.
+    refused_by ended choice meaning old old (outcome_of (asked meaning) refuses.front.bytes.items) e refl refuses.tells (λ file knows.
     subst P (sym (outcome_plain (signs_of choice meaning) (asked meaning) file leaves))
     (sliced_tells (asked meaning) file is.archs read.fronts.items e (is.has file knows).0 (read_slices old read file is knows) refuses))
 
@@ -292,6 +292,22 @@ caused_later reads writes none old mid (MachoBatch e) a b c same grows is = tt
 caused_later reads writes none old mid (Edits e) a b c same grows is = tt
 caused_later reads writes none old mid (signing e) a b c same grows is = tt
 caused_later reads writes none old mid Unfit a b c same grows is = tt
+
+-- counts may begin before a call that left the bytes
+fails_later : (writes : Error → Type 0) (none : Type 0) (choice : Signing) (meaning : MachoMeaning) (old new : Option (List ℕ)) (e : MachoCommandError) (a b c : ℕ) → a ≤ b → FailsPatch (WritesEnd writes none b c) choice meaning old new e → FailsPatch (WritesEnd writes none a c) choice meaning old new e
+fails_later writes none choice meaning old new (Io e) a b c grows (inl kept) = inl kept
+fails_later writes none choice meaning old new (Io e) a b c grows (inr (ended, torn)) = inr (ended_later writes none e a b c grows ended, torn)
+fails_later writes none choice meaning old new Memory a b c grows fails = fails
+fails_later writes none choice meaning old new (Macho e) a b c grows fails = fails
+fails_later writes none choice meaning old new (MachoBatch e) a b c grows fails = fails
+fails_later writes none choice meaning old new (Edits e) a b c grows fails = fails
+fails_later writes none choice meaning old new (signing e) a b c grows fails = fails
+fails_later writes none choice meaning old new Unfit a b c grows fails = fails
+
+pub left_later : (writes : Error → Type 0) (none : Type 0) (choice : Signing) (meaning : MachoMeaning) (old mid new : Option (List ℕ)) (e : MachoCommandError) (a b c : ℕ) → mid ≡ old → a ≤ b → FailsPatch (WritesEnd writes none b c) choice meaning mid new e → FailsPatch (WritesEnd writes none a c) choice meaning old new e
+left_later writes none choice meaning old mid new e a b c same grows fails =
+    let P : Option (List ℕ) → Type 0 = λ known. FailsPatch (WritesEnd writes none b c) choice meaning known new e in
+    fails_later writes none choice meaning old new e a b c grows (subst P same fails)
 
 -- what was made of lent fronts, by pieces that are lent
 pub makes_lent : (a : Asked) (lent fronts : List SliceFront) (owned back : List OwnedPiece) (pieces now : List Piece) → lent ≡ fronts → now ≡ pieces → patches_of pieces ≡ owned_patches back → back ≡ owned → MakesFronts a lent (owned_patches owned) → MakesFronts a fronts (patches_of now)

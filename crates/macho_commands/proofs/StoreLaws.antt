@@ -1,6 +1,9 @@
 -- Of a file that is too long its first bytes tell as much as the whole.
 use Rattle.std.proofs.Common.{◌≡◌, ◌≤◌, ◌-◌, ◌^◌, ◌⊎◌, inl, inr, if◌then◌else◌, ℕ, Bool, true, false, List, [], ◌∷◌, ◌++◌, length, take, drop, Option, Some, Ok, Err, refl, sym, ap, ◌∙◌, subst, arith}
+use Rattle.std.specs.declared.io.Error.{Error}
+use Rattle.byte_store.proofs.CauseLaws.{ended_later}
 use Rattle.byte_store.proofs.LaidLaws.{length-laid}
+use Rattle.byte_store.specs.Causes.{EndsBy}
 use Rattle.byte_store.specs.declared.pieces.Piece.{Piece}
 use Rattle.byte_store.specs.Composed.{Stands}
 use Rattle.byte_store.specs.Fault.{BecomesLaid}
@@ -10,6 +13,7 @@ use Rattle.command_words.specs.Rows.{Text}
 use Rattle.command_words.specs.declared.noting.Notes.{Notes}
 use Rattle.arwen_macho.specs.declared.front.Front.{Front}
 use Rattle.arwen_macho.specs.Fronts.{fronts_on}
+use Rattle.macho_commands.specs.Failures.{WritesEnd}
 use Rattle.macho_commands.specs.Stores.{FailsPatch, IsPartOf, Patched, Torn}
 use Rattle.macho_commands_signing.specs.Loading.{IsFirstOf, IsFrontRead, IsLoaded}
 use Rattle.macho_commands_signing.specs.Pieces.{ArePartsOf, ArePiecesOf}
@@ -229,18 +233,18 @@ tells_all choice meaning old loaded e reads tells file known =
     tells_file (signs_of choice meaning) (asked meaning) loaded file e (reads_file (signs_of choice meaning) old loaded file reads known) tells
 
 -- an error that tells some outcome, and where the bytes are known theirs
-pub refused_by : (choice : Signing) (meaning : MachoMeaning) (old mid : Option (List ℕ)) (o : Outcome) (e : MachoCommandError) → Stays old mid → Tells o e → ((file : List ℕ) → old ≡ Some file → Tells (outcome choice meaning file) e) → FailsPatch choice meaning old mid e
-refused_by choice meaning old mid o (Io e) kept some tells = absurd some
-refused_by choice meaning old mid o Memory kept some tells = (kept, tells)
-refused_by choice meaning old mid o (Macho e) kept some tells = (kept, tells)
-refused_by choice meaning old mid o (MachoBatch e) kept some tells = (kept, tells)
-refused_by choice meaning old mid o (Edits e) kept some tells = (kept, tells)
-refused_by choice meaning old mid o (signing e) kept some tells = (kept, tells)
-refused_by choice meaning old mid o Unfit kept some tells = (kept, tells)
+pub refused_by : (ended : Error → Type 0) (choice : Signing) (meaning : MachoMeaning) (old mid : Option (List ℕ)) (o : Outcome) (e : MachoCommandError) → Stays old mid → Tells o e → ((file : List ℕ) → old ≡ Some file → Tells (outcome choice meaning file) e) → FailsPatch ended choice meaning old mid e
+refused_by ended choice meaning old mid o (Io e) kept some tells = absurd some
+refused_by ended choice meaning old mid o Memory kept some tells = (kept, tells)
+refused_by ended choice meaning old mid o (Macho e) kept some tells = (kept, tells)
+refused_by ended choice meaning old mid o (MachoBatch e) kept some tells = (kept, tells)
+refused_by ended choice meaning old mid o (Edits e) kept some tells = (kept, tells)
+refused_by ended choice meaning old mid o (signing e) kept some tells = (kept, tells)
+refused_by ended choice meaning old mid o Unfit kept some tells = (kept, tells)
 
-pub refused_store : (choice : Signing) (meaning : MachoMeaning) (old mid : Option (List ℕ)) (loaded : Loaded) (e : MachoCommandError) → ReadsStore (signs_of choice meaning) old loaded → Stays old mid → Tells (outcome choice meaning loaded.bytes.items) e → FailsPatch choice meaning old mid e
-refused_store choice meaning old mid loaded e reads kept tells =
-    refused_by choice meaning old mid (outcome choice meaning loaded.bytes.items) e kept tells (tells_all choice meaning old loaded e reads tells)
+pub refused_store : (ended : Error → Type 0) (choice : Signing) (meaning : MachoMeaning) (old mid : Option (List ℕ)) (loaded : Loaded) (e : MachoCommandError) → ReadsStore (signs_of choice meaning) old loaded → Stays old mid → Tells (outcome choice meaning loaded.bytes.items) e → FailsPatch ended choice meaning old mid e
+refused_store ended choice meaning old mid loaded e reads kept tells =
+    refused_by ended choice meaning old mid (outcome choice meaning loaded.bytes.items) e kept tells (tells_all choice meaning old loaded e reads tells)
 
 pub patched_store : (choice : Signing) (meaning : MachoMeaning) (old mid new : Option (List ℕ)) (loaded : Loaded) (fronts : List Front) (slots : List Slot) (pieces : List Piece) → ReadsStore (signs_of choice meaning) old loaded → Stays old mid → Writes choice meaning loaded.bytes.items fronts slots → ArePartsOf loaded.bytes.items (slots_on slots (fronts_on fronts loaded.bytes.items)) pieces → Becomes (laid (patches_of pieces)) mid new → Patched choice meaning old new
 patched_store choice meaning old mid new loaded fronts slots pieces reads kept writes are becomes file known =
@@ -279,6 +283,11 @@ torn_store choice meaning old mid new loaded fronts slots pieces reads kept writ
       count = laid_first.0;
       first = laid_first.1 file (kept ∙ known);
     })
+
+-- writes behind reads ended by an error, and left the bytes or tore them
+pub torn_by : (writes : Error → Type 0) (none : Type 0) (choice : Signing) (meaning : MachoMeaning) (old new : Option (List ℕ)) (e : Error) (a b c : ℕ) → a ≤ b → EndsBy writes none e b c → Stays old new ⊎ Torn choice meaning old new → FailsPatch (WritesEnd writes none a c) choice meaning old new (Io e)
+torn_by writes none choice meaning old new e a b c grows ends (inl kept) = inl kept
+torn_by writes none choice meaning old new e a b c grows ends (inr torn) = inr (ended_later writes none e a b c grows ends, torn)
 
 -- the line that is told of what was read is told of the file
 told_file : (signs : Signs) (n : Notes) (a : Asked) (path : Text) (loaded : Loaded) (file new : List ℕ) (told : Text) → Reads signs loaded file → outcome_by signs a loaded.bytes.items ≡ bytes new → TellsBy signs n a path loaded.bytes.items told → TellsBy signs n a path file told

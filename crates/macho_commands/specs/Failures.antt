@@ -6,6 +6,10 @@ use Rattle.byte_store.specs.declared.reading.ReadError.TheVariants as read
 use Rattle.macho_commands.specs.declared.error.MachoCommandError.{MachoCommandError}
 use Rattle.macho_commands.specs.declared.error.MachoCommandError.TheVariants.{Io}
 
+-- writes to a store ended by this error
+abbrev pub WritesEnd : (Error → Type 0) → Type 0 → ℕ → ℕ → Error → Type 0
+WritesEnd writes takes_none old new e = EndsBy writes takes_none e old new
+
 -- an error of a store of these bytes: its calls that read failed or came to no end, or those that write ended by it
 abbrev pub IsOfStore : (Error → Type 0) → (Error → Type 0) → Type 0 → Option (List ℕ) → ℕ → ℕ → Error → Type 0
 IsOfStore reads writes takes_none known old new e =

@@ -1,5 +1,6 @@
 -- What a command makes of the bytes of a store, where they are known.
 use Rattle.std.specs.Prelude.{ℕ, ◌≡◌, ◌⊎◌, All, List, None, Option, Some, ⊤}
+use Rattle.std.specs.declared.io.Error.{Error}
 use Rattle.byte_store.specs.Composed.{Stands}
 use Rattle.byte_store.specs.Known.{Stays}
 use Rattle.byte_store.specs.Laid.{Patch, first_bytes, laid}
@@ -7,6 +8,7 @@ use Rattle.macho_commands.specs.declared.error.MachoCommandError.{MachoCommandEr
 use Rattle.macho_commands.specs.declared.error.MachoCommandError.TheVariants.{Io}
 use Rattle.macho_commands.specs.Engine.{IsSignedOutcome, Tells, asked, outcome, outcome_of}
 use Rattle.macho_commands.specs.Engine.Outcome.{bytes}
+use Rattle.macho_commands.specs.Failures.{WritesEnd}
 use Rattle.macho_commands.specs.Meaning.{MachoMeaning}
 use Rattle.macho_commands.specs.declared.signing.Signing.{Signing}
 
@@ -40,12 +42,14 @@ abbrev pub RefusesPatch : Signing → MachoMeaning → Option (List ℕ) → Opt
 RefusesPatch choice meaning old new e =
     Stays old new × ((file : List ℕ) → old ≡ Some file → Tells (outcome choice meaning file) e)
 
--- what an error leaves and tells: only a write that failed changes bytes, where the command was accepted
-abbrev pub FailsPatch : Signing → MachoMeaning → Option (List ℕ) → Option (List ℕ) → MachoCommandError → Type 0
-FailsPatch choice meaning old new (Io e) = Stays old new ⊎ Torn choice meaning old new
-FailsPatch choice meaning old new e = RefusesPatch choice meaning old new e
+-- what an error leaves and tells: only writes that ended by it change bytes, where the command was accepted
+abbrev pub FailsPatch : (Error → Type 0) → Signing → MachoMeaning → Option (List ℕ) → Option (List ℕ) → MachoCommandError → Type 0
+FailsPatch ended choice meaning old new (Io e) = Stays old new ⊎ (ended e × Torn choice meaning old new)
+FailsPatch ended choice meaning old new e = RefusesPatch choice meaning old new e
 
--- what an error at a path leaves and tells: nothing was opened, or what was opened holds what the error left of the bytes there
-abbrev pub FailsPatchAt : {S : Type 0} → Signing → MachoMeaning → (S → Option (List ℕ)) → Option (List ℕ) → MachoCommandError → Option S → Type 0
-FailsPatchAt signing meaning contents known e None = ⊤
-FailsPatchAt signing meaning contents known e (Some store) = FailsPatch signing meaning known (contents store) e
+-- what an error at a path leaves and tells: nothing was opened, or what was opened, which counted no failure before, holds what
+-- the error left of the bytes there
+abbrev pub FailsPatchAt : {S : Type 0} → (Error → Type 0) → Type 0 → (S → ℕ) → Signing → MachoMeaning → (S → Option (List ℕ)) → Option (List ℕ) → MachoCommandError → Option S → Type 0
+FailsPatchAt writes takes_none failed choice meaning contents known e None = ⊤
+FailsPatchAt writes takes_none failed choice meaning contents known e (Some store) =
+    FailsPatch (WritesEnd writes takes_none 0 (failed store)) choice meaning known (contents store) e

@@ -5,7 +5,7 @@ ghost use Rattle.arwen_macho.specs.Fronts.{LiesIn, fronts_on};
 ghost use Rattle.macho_commands.specs.Engine.{AreAsked, IsSignedOutcome, IsSigningError, MayFail, Outcome};
 ghost use Rattle.macho_commands.specs.Engine.{SignsBy, Tells, TellsAsked, Writes, WritesBy, WritesEdits};
 ghost use Rattle.macho_commands.specs.Engine.{asked, outcome, outcome_by, outcome_of, pages_by, refused_answer, signs_of};
-ghost use Rattle.macho_commands.specs.Failures.{HasCause, HasCauseAt};
+ghost use Rattle.macho_commands.specs.Failures.{HasCause, HasCauseAt, WritesEnd};
 ghost use Rattle.macho_commands.specs.Meaning.{file_of, macho_command_model};
 ghost use Rattle.macho_commands.specs.Notes.{TellsBy, TellsCommand, TellsOf, TellsSigned, TellsWanted, TellsWantedAt};
 ghost use Rattle.macho_commands.specs.Refusing.{IsRefusal, LeadsWith};
@@ -358,8 +358,9 @@ pub fn patch_store<S: Store>(
     ensures told { IfOk result (λ text. TellsWantedAt signing (macho_command_model command.now)
         notes (S.contents store.old) (string_bytes text)) }
     ensures err { IfErr result (λ e. MayFail (macho_command_model command.now) e) }
-    ensures left { IfErr result (λ e. FailsPatch signing (macho_command_model command.now)
-        (S.contents store.old) (S.contents store.new) e) }
+    ensures left { IfErr result (FailsPatch
+        (WritesEnd S.may_fail_write S.may_take_none (S.failed store.old) (S.failed store.new))
+        signing (macho_command_model command.now) (S.contents store.old) (S.contents store.new)) }
     ensures cause { IfErr result (HasCause S.may_fail_read S.may_fail_write S.may_take_none
         (S.contents store.old) (S.failed store.old) (S.failed store.new)) }
 {
@@ -387,8 +388,9 @@ fn patch_touched<S: Store>(
     ensures patched { IfOk result (PatchesOr signing (macho_command_model command.now) notes
         (S.contents store.old) (S.contents store.new)) }
     ensures err { IfErr result (λ e. MayFail (macho_command_model command.now) e) }
-    ensures left { IfErr result (λ e. FailsPatch signing (macho_command_model command.now)
-        (S.contents store.old) (S.contents store.new) e) }
+    ensures left { IfErr result (FailsPatch
+        (WritesEnd S.may_fail_write S.may_take_none (S.failed store.old) (S.failed store.new))
+        signing (macho_command_model command.now) (S.contents store.old) (S.contents store.new)) }
     ensures grows { S.failed store.old ≤ S.failed store.new }
     ensures cause { IfErr result (HasCause S.may_fail_read S.may_fail_write S.may_take_none
         (S.contents store.old) (S.failed store.old) (S.failed store.new)) }
@@ -415,8 +417,9 @@ fn patch_loaded<S: Store>(
     ensures told { IfOk result (λ text. TellsWantedAt signing (macho_command_model command.now)
         notes (S.contents store.old) (string_bytes text)) }
     ensures err { IfErr result (λ e. MayFail (macho_command_model command.now) e) }
-    ensures left { IfErr result (λ e. FailsPatch signing (macho_command_model command.now)
-        (S.contents store.old) (S.contents store.new) e) }
+    ensures left { IfErr result (FailsPatch
+        (WritesEnd S.may_fail_write S.may_take_none (S.failed store.old) (S.failed store.new))
+        signing (macho_command_model command.now) (S.contents store.old) (S.contents store.new)) }
     ensures cause { IfErr result (HasCause S.may_fail_read S.may_fail_write S.may_take_none
         (S.contents store.old) (S.failed store.old) (S.failed store.new)) }
 {
@@ -456,9 +459,9 @@ pub fn patch_path<'p, O: OpensOnce<'p>>(
         (string_bytes edited.1)) }
     ensures err { IfErr result (λ refused.
         MayFail (macho_command_model command.now) refused.error) }
-    ensures left { IfErr result (λ refused. FailsPatchAt signing
-        (macho_command_model command.now) O.Opened.contents
-        (O.contents files (file_of (macho_command_model command.now)))
+    ensures left { IfErr result (λ refused. FailsPatchAt O.Opened.may_fail_write
+        O.Opened.may_take_none O.Opened.failed signing (macho_command_model command.now)
+        O.Opened.contents (O.contents files (file_of (macho_command_model command.now)))
         refused.error refused.store) }
     ensures cause { IfErr result (λ refused. HasCauseAt
         (O.may_fail files (file_of (macho_command_model command.now)))

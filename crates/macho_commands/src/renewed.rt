@@ -2,7 +2,7 @@
 ghost use Rattle.std.specs.Prelude.{◌≡◌, ◌≤◌, ◌++◌, IfErr, IfOk};
 ghost use Rattle.byte_store.specs.Composed.{owned_patches};
 ghost use Rattle.macho_commands.specs.Engine.{MayFail, signs_of};
-ghost use Rattle.macho_commands.specs.Failures.{HasCause};
+ghost use Rattle.macho_commands.specs.Failures.{HasCause, WritesEnd};
 ghost use Rattle.macho_commands.specs.Meaning.{macho_command_model};
 ghost use Rattle.macho_commands.specs.Stores.{FailsPatch};
 ghost use Rattle.macho_commands.specs.Renewed.{PatchesOr};
@@ -34,8 +34,9 @@ pub(crate) fn patch_renewed<S: Store>(
     ensures patched { IfOk result (PatchesOr signing (macho_command_model command.now) notes
         (S.contents store.old) (S.contents store.new)) }
     ensures err { IfErr result (λ e. MayFail (macho_command_model command.now) e) }
-    ensures left { IfErr result (λ e. FailsPatch signing (macho_command_model command.now)
-        (S.contents store.old) (S.contents store.new) e) }
+    ensures left { IfErr result (FailsPatch
+        (WritesEnd S.may_fail_write S.may_take_none (S.failed store.old) (S.failed store.new))
+        signing (macho_command_model command.now) (S.contents store.old) (S.contents store.new)) }
     ensures grows { S.failed store.old ≤ S.failed store.new }
     ensures cause { IfErr result (HasCause S.may_fail_read S.may_fail_write S.may_take_none
         (S.contents store.old) (S.failed store.old) (S.failed store.new)) }

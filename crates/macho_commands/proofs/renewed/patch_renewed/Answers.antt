@@ -10,6 +10,7 @@ use Rattle.macho_commands.specs.Sliced.{IsLoadedFront, MakesEdited, RefusesFront
 use Rattle.macho_commands_signing.specs.Renewing.{AreAsLong, IsLow, SignsFronts}
 use Rattle.macho_commands_signing.specs.declared.slices.SliceFront.{SliceFront}
 use Rattle.macho_commands.proofs.RenewedRuns.{Makes, edited_long, makes_inside, may_refuse_renewed, patched_renewed, read_loaded, read_low, refused_renewed, told_renewed, torn_renewed}
+use Rattle.macho_commands.proofs.StoreLaws.{torn_by}
 use Rattle.macho_commands.proofs.renewed.patch_renewed.Goals as goal
 
 abbrev items_of : Vec ℕ Global → List ℕ
@@ -29,7 +30,7 @@ pub returns-in_err-pieces-clause-left : goal.returns-in_err-pieces-clause-left
 returns-in_err-pieces-clause-left g c =
     let p = err_from_is_err_and c.from_residual.result c.from_residual.ensures.1 in
     let Refuses : List SliceFront → Type 0 = λ l. RefusesFronts (asked (macho_command_model c.args.command.now)) l c.in_err-pieces.field-0.0 in
-    rw (p.1, p.2) (refused_renewed c.args.signing (macho_command_model c.args.command.now) _ c.args.slices.now _ c.requires.read (subst Refuses c.as_slice-fronts.ensures.value c.in_err-pieces.ensures.err))
+    rw (p.1, p.2) (refused_renewed _ c.args.signing (macho_command_model c.args.command.now) _ c.args.slices.now _ c.requires.read (subst Refuses c.as_slice-fronts.ensures.value c.in_err-pieces.ensures.err))
 
 pub load_slots-requires-clause-low : goal.load_slots-requires-clause-low
 load_slots-requires-clause-low g c =
@@ -118,4 +119,5 @@ returns-in_err-write_changes_of-clause-left g c =
       all =
           ap patches_of c.as_slice-3.ensures.value ∙ c.in_ok-lent.ensures ∙ ap owned_patches c.as_slice-2.ensures.value ∙ c.in_ok-all.ensures;
     } in
-    rw (p.1, p.2) (torn_renewed c.args.signing (macho_command_model c.args.command.now) known _ _ c.args.slices.now (patches_of c.as_slice-3.result.now) c.in-Some.slots.are_some_left m c.in_ok-slots.ensures.kept c.in_err-write_changes_of.ensures.err)
+    rw (p.1, p.2) (torn_by g.S.Store.may_fail_write g.S.Store.may_take_none c.args.signing (macho_command_model c.args.command.now) _ _ _ _ _ _ c.in_ok-slots.ensures.grows c.in_err-write_changes_of.ensures.cause
+    (torn_renewed c.args.signing (macho_command_model c.args.command.now) known _ _ c.args.slices.now (patches_of c.as_slice-3.result.now) c.in-Some.slots.are_some_left m c.in_ok-slots.ensures.kept c.in_err-write_changes_of.ensures.err))
