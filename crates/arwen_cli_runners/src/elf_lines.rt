@@ -39,7 +39,7 @@ pub fn files_ending<'p, F: Opens<'p>, C: Creates<'p>, P: Probe, W: CountedWrite>
             takes_none = F.Opened.may_take_none; failed = F.Opened.failed })
         (record { creates = C.may_fail outputs.now; is_new = C.is_new;
             written = C.Created.contents; inner = sink_inner; failed = sink_failures })
-        (P.may_find probe.now) (plan_model plan.now) (option_map (λ path. path.now) output))
+        (P.may_find probe.now) (plan_model plan.now) (option_map (λ path. path.now) output.entry))
         (map string_bytes paths.now) out.old out.new) }
 {
     for path in paths {
@@ -89,7 +89,7 @@ fn run_file<'p, F: Opens<'p>, C: Creates<'p>, P: Probe, W: CountedWrite>(
             takes_none = F.Opened.may_take_none; failed = F.Opened.failed })
         (record { creates = C.may_fail outputs.now; is_new = C.is_new;
             written = C.Created.contents; inner = sink_inner; failed = sink_failures })
-        (P.may_find probe.now) (plan_model plan.now) (option_map (λ path. path.now) output))
+        (P.may_find probe.now) (plan_model plan.now) (option_map (λ path. path.now) output.entry))
         path.now out.old out.new) }
 {
     print_file(alloc, files, path, prints, out)?;
