@@ -5,11 +5,13 @@ use Rattle.byte_store.specs.Causes.{IsNotWhole}
 use Rattle.byte_store.specs.Known.{Stays}
 use Rattle.byte_store.specs.declared.reading.ReadError.{ReadError}
 use Rattle.byte_store.specs.declared.reading.ReadError.TheVariants as read
-use Rattle.macho_commands.proofs.SlicedRuns.{caused_later}
+use Rattle.macho_commands.proofs.SlicedRuns.{caused_later, left_later}
 use Rattle.macho_commands.specs.Errors.{answer_to, answer_to_read}
-use Rattle.macho_commands.specs.Failures.{HasCause}
+use Rattle.macho_commands.specs.Failures.{HasCause, WritesEnd}
+use Rattle.macho_commands.specs.Meaning.{apply}
 use Rattle.macho_commands.specs.declared.error.MachoCommandError.{MachoCommandError}
 use Rattle.macho_commands.specs.declared.error.MachoCommandError.TheVariants.{Edits, Io, Macho, MachoBatch, Memory, Signing as signing, Unfit}
+use Rattle.macho_commands.specs.declared.signing.Signing.TheVariants.{Left}
 use Rattle.macho_edits.specs.declared.error.MachoError.{MachoError}
 use Rattle.macho_edits.specs.declared.error.MachoError.TheVariants as macho
 use Rattle.arwen_cli_peers.specs.Options.{Asked, Text}
@@ -23,30 +25,41 @@ use Rattle.arwen_cli_install_names.specs.declared.naming.NamingFault.TheVariants
 -- ## What is left and told
 
 -- there are no words
-pub wordless_fails : (given : List Asked) (path : Text) (old new : Option (List ℕ)) (e : NamesError) → Stays old new → TellsNoWords given old e → FailsNames given path old new e
-wordless_fails given path old new (Command (Io e)) kept tells = inl kept
-wordless_fails given path old new (Command Memory) kept tells = (kept, λ file known. inl (tells file known))
-wordless_fails given path old new (Command (Macho e)) kept tells = (kept, λ file known. inl (tells file known))
-wordless_fails given path old new (Command (MachoBatch e)) kept tells = (kept, λ file known. inl (tells file known))
-wordless_fails given path old new (Command (Edits e)) kept tells = (kept, λ file known. inl (tells file known))
-wordless_fails given path old new (Command (signing e)) kept tells = (kept, λ file known. inl (tells file known))
-wordless_fails given path old new (Command Unfit) kept tells = (kept, λ file known. inl (tells file known))
-wordless_fails given path old new Unlike kept tells = (kept, tells)
+pub wordless_fails : (ended : Error → Type 0) (given : List Asked) (path : Text) (old new : Option (List ℕ)) (e : NamesError) → Stays old new → TellsNoWords given old e → FailsNames ended given path old new e
+wordless_fails ended given path old new (Command (Io e)) kept tells = inl kept
+wordless_fails ended given path old new (Command Memory) kept tells = (kept, λ file known. inl (tells file known))
+wordless_fails ended given path old new (Command (Macho e)) kept tells = (kept, λ file known. inl (tells file known))
+wordless_fails ended given path old new (Command (MachoBatch e)) kept tells = (kept, λ file known. inl (tells file known))
+wordless_fails ended given path old new (Command (Edits e)) kept tells = (kept, λ file known. inl (tells file known))
+wordless_fails ended given path old new (Command (signing e)) kept tells = (kept, λ file known. inl (tells file known))
+wordless_fails ended given path old new (Command Unfit) kept tells = (kept, λ file known. inl (tells file known))
+wordless_fails ended given path old new Unlike kept tells = (kept, tells)
 
 -- `apply` isn't made with the words that options mean
-pub unapplied_fails : (given : List Asked) (path : Text) (words : List Text) (old new : Option (List ℕ)) (e : MachoCommandError) → AreKnownWords given old words → FailsPatchBy path words old new e
-    → FailsNames given path old new (Command e)
-unapplied_fails given path [] old new e are fails = absurd fails
-unapplied_fails given path (word ∷ words) old new (Io e) are fails = elim fails [
+unapplied_fails : (ended : Error → Type 0) (given : List Asked) (path : Text) (words : List Text) (old new : Option (List ℕ)) (e : MachoCommandError) → AreKnownWords given old words → FailsPatchBy ended path words old new e
+    → FailsNames ended given path old new (Command e)
+unapplied_fails ended given path [] old new e are fails = absurd fails
+unapplied_fails ended given path (word ∷ words) old new (Io e) are fails = elim fails [
   | inl kept ↦ inl kept
-  | inr torn ↦ inr (word ∷ words, are, torn)
+  | inr (by, torn) ↦ inr (by, word ∷ words, are, torn)
 ]
-unapplied_fails given path (word ∷ words) old new Memory are fails = (fails.0, λ file known. inr (word ∷ words, are file known, fails.1 file known))
-unapplied_fails given path (word ∷ words) old new (Macho e) are fails = (fails.0, λ file known. inr (word ∷ words, are file known, fails.1 file known))
-unapplied_fails given path (word ∷ words) old new (MachoBatch e) are fails = (fails.0, λ file known. inr (word ∷ words, are file known, fails.1 file known))
-unapplied_fails given path (word ∷ words) old new (Edits e) are fails = (fails.0, λ file known. inr (word ∷ words, are file known, fails.1 file known))
-unapplied_fails given path (word ∷ words) old new (signing e) are fails = (fails.0, λ file known. inr (word ∷ words, are file known, fails.1 file known))
-unapplied_fails given path (word ∷ words) old new Unfit are fails = (fails.0, λ file known. inr (word ∷ words, are file known, fails.1 file known))
+unapplied_fails ended given path (word ∷ words) old new Memory are fails = (fails.0, λ file known. inr (word ∷ words, are file known, fails.1 file known))
+unapplied_fails ended given path (word ∷ words) old new (Macho e) are fails = (fails.0, λ file known. inr (word ∷ words, are file known, fails.1 file known))
+unapplied_fails ended given path (word ∷ words) old new (MachoBatch e) are fails = (fails.0, λ file known. inr (word ∷ words, are file known, fails.1 file known))
+unapplied_fails ended given path (word ∷ words) old new (Edits e) are fails = (fails.0, λ file known. inr (word ∷ words, are file known, fails.1 file known))
+unapplied_fails ended given path (word ∷ words) old new (signing e) are fails = (fails.0, λ file known. inr (word ∷ words, are file known, fails.1 file known))
+unapplied_fails ended given path (word ∷ words) old new Unfit are fails = (fails.0, λ file known. inr (word ∷ words, are file known, fails.1 file known))
+
+-- the calls of `apply` come after the bytes were read
+patched_later : (writes : Error → Type 0) (none : Type 0) (path : Text) (words : List Text) (old mid new : Option (List ℕ)) (a b c : ℕ) (e : MachoCommandError) → mid ≡ old → a ≤ b → FailsPatchBy (WritesEnd writes none b c) path words mid new e
+    → FailsPatchBy (WritesEnd writes none a c) path words old new e
+patched_later writes none path [] old mid new a b c e same grows fails = fails
+patched_later writes none path (word ∷ words) old mid new a b c e same grows fails = left_later writes none Left (apply path (word ∷ words)) old mid new e a b c same grows fails
+
+pub fails_after : (writes : Error → Type 0) (none : Type 0) (given : List Asked) (path : Text) (words : List Text) (old mid new : Option (List ℕ)) (a b c : ℕ) (e : MachoCommandError) → AreKnownWords given old words → mid ≡ old → a ≤ b
+    → FailsPatchBy (WritesEnd writes none b c) path words mid new e → FailsNames (WritesEnd writes none a c) given path old new (Command e)
+fails_after writes none given path words old mid new a b c e are same grows fails =
+    unapplied_fails (WritesEnd writes none a c) given path words old new e are (patched_later writes none path words old mid new a b c e same grows fails)
 
 -- ## Causes
 

@@ -37,9 +37,9 @@ pub record IsNamed (given : List Asked) (path : Text) (old new : Option (List �
 -- ## What an error leaves and tells
 
 -- what an error of `apply` with these words leaves and tells; without words it isn't called
-abbrev pub FailsPatchBy : Text → List Text → Option (List ℕ) → Option (List ℕ) → MachoCommandError → Type 0
-FailsPatchBy path [] old new e = ⊥
-FailsPatchBy path (word ∷ words) old new e = FailsPatch Left (apply path (word ∷ words)) old new e
+abbrev pub FailsPatchBy : (Error → Type 0) → Text → List Text → Option (List ℕ) → Option (List ℕ) → MachoCommandError → Type 0
+FailsPatchBy ended path [] old new e = ⊥
+FailsPatchBy ended path (word ∷ words) old new e = FailsPatch ended Left (apply path (word ∷ words)) old new e
 
 -- why a file isn't edited of which it isn't known what options mean
 abbrev pub answer_to_naming : NamingFault → NamesError
@@ -67,11 +67,11 @@ abbrev pub TellsNaming : List Asked → Text → List ℕ → NamesError → Typ
 TellsNaming given path file (Command e) = TellsUnread file e ⊎ TellsUnapplied given path file e
 TellsNaming given path file Unlike = IsUnlike given file
 
--- what an error leaves and tells: only a write that failed changes bytes, where `apply` was accepted
-abbrev pub FailsNames : List Asked → Text → Option (List ℕ) → Option (List ℕ) → NamesError → Type 0
-FailsNames given path old new (Command (Io e)) =
-    Stays old new ⊎ ((words : List Text) × AreKnownWords given old words × Torn Left (apply path words) old new)
-FailsNames given path old new e = Stays old new × ((file : List ℕ) → old ≡ Some file → TellsNaming given path file e)
+-- what an error leaves and tells: only writes that ended by it change bytes, where `apply` was accepted
+abbrev pub FailsNames : (Error → Type 0) → List Asked → Text → Option (List ℕ) → Option (List ℕ) → NamesError → Type 0
+FailsNames ended given path old new (Command (Io e)) =
+    Stays old new ⊎ (ended e × (words : List Text) × AreKnownWords given old words × Torn Left (apply path words) old new)
+FailsNames ended given path old new e = Stays old new × ((file : List ℕ) → old ≡ Some file → TellsNaming given path file e)
 
 -- ## Why a file could not be read or written
 

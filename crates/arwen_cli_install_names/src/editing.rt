@@ -1,7 +1,7 @@
 //! Stores and files, edited as lines ask.
 ghost use Rattle.std.specs.Prelude.{◌≡◌, ◌≤◌, IfErr, IfOk, OnOk, map, string_bytes};
 ghost use Rattle.byte_store.specs.Known.{Stays};
-ghost use Rattle.macho_commands.specs.Failures.{HasCause};
+ghost use Rattle.macho_commands.specs.Failures.{HasCause, WritesEnd};
 ghost use Rattle.macho_commands.specs.Meaning.{apply as apply_meant, macho_command_model};
 ghost use Rattle.macho_commands.specs.Stores.{FailsPatch};
 ghost use Rattle.macho_commands.specs.declared.signing.Signing.TheVariants.{Left};
@@ -90,8 +90,9 @@ pub fn name_store<S: Store>(
 ) -> Result<String, NamesError>
     ensures named { OnOk result (IsNamed (map given_model given.now) path.now
         (S.contents store.old) (S.contents store.new)) }
-    ensures left { IfErr result (FailsNames (map given_model given.now) path.now
-        (S.contents store.old) (S.contents store.new)) }
+    ensures left { IfErr result (FailsNames
+        (WritesEnd S.may_fail_write S.may_take_none (S.failed store.old) (S.failed store.new))
+        (map given_model given.now) path.now (S.contents store.old) (S.contents store.new)) }
     ensures cause { IfErr result (HasNamesCause S.may_fail_read S.may_fail_write S.may_take_none
         (S.contents store.old) (S.failed store.old) (S.failed store.new)) }
 {
@@ -127,8 +128,9 @@ fn patch_by<S: Store>(
 ) -> Result<String, MachoCommandError>
     ensures patched { OnOk result (IsPatchedBy path.now (map string_bytes words.items)
         (S.contents store.old) (S.contents store.new)) }
-    ensures left { IfErr result (FailsPatchBy path.now (map string_bytes words.items)
-        (S.contents store.old) (S.contents store.new)) }
+    ensures left { IfErr result (FailsPatchBy
+        (WritesEnd S.may_fail_write S.may_take_none (S.failed store.old) (S.failed store.new))
+        path.now (map string_bytes words.items) (S.contents store.old) (S.contents store.new)) }
     ensures cause { IfErr result (HasCause S.may_fail_read S.may_fail_write S.may_take_none
         (S.contents store.old) (S.failed store.old) (S.failed store.new)) }
 {
