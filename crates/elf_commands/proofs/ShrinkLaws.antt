@@ -1,9 +1,12 @@
 -- What comes of run paths that shrink.
-use Rattle.std.proofs.Common.{◌≡◌, ◌+◌, [], ◌∷◌, ◌∙◌, ℕ, List, Option, Some, None, Result, Ok, Err, arith, length, map, refl, sym, ap, subst, take, inl, inr}
+use Rattle.std.proofs.Common.{◌≡◌, ◌≤◌, ◌+◌, [], ◌∷◌, ◌∙◌, ℕ, List, Option, Some, None, Result, Ok, Err, arith, length, map, refl, sym, ap, subst, take, inl, inr}
 use Rattle.std.proofs.lemmas.List.{take_all}
 use Rattle.std.specs.Io.KnownBytes.{Appends}
 use Rattle.std.specs.declared.alloc.Global.{Global}
+use Rattle.std.specs.declared.io.Error.{Error}
 use Rattle.std.specs.declared.vec.Vec.{Vec}
+use Rattle.byte_store.proofs.CauseLaws.{ended_later}
+use Rattle.byte_store.specs.Causes.{IsNotWritten}
 use Rattle.byte_store.specs.Composed.{IsDifference, IsNotMade, made_of}
 use Rattle.byte_store.specs.Known.{Becomes, IsAll}
 use Rattle.byte_store.specs.declared.composed.Difference.{Difference}
@@ -27,6 +30,7 @@ use Rattle.elf_commands_steps.specs.ElfError.TheVariants as elf
 use Rattle.elf_commands.specs.ElfAsked.{one, shrinking}
 use Rattle.elf_commands_steps.specs.Images.{AreChanged, TellsNoImage}
 use Rattle.elf_commands.specs.ElfEngine.{IsElfEdited, LeavesElf, MayFailAs, TellsEdit}
+use Rattle.elf_commands.specs.ElfStores.{WritesEnd}
 use Rattle.elf_commands_steps.specs.ElfErrors.{answer_to_elf, answer_to_replaced}
 use Rattle.command_words.specs.Rows.{Text}
 use Rattle.elf_commands_steps.specs.ShrunkImages.{IsRemovalTold, IsShrunkImage, Steps, TellsUnshrunk, TellsUntold}
@@ -189,25 +193,38 @@ shrinks_store finds prefixes old new said told loaded d text all shrunk becomes 
     record { difference = d; text = text; shrunk = subst P (all file known) shrunk; made = becomes file known; gets = gets }
 
 -- nothing was written
-pub shrink_refused : (finds : Finding) (prefixes : List Text) (old : Option (List ℕ)) (loaded : List ℕ) (e : ElfCommandError) → IsAll old loaded → TellsShrunk finds prefixes loaded e
-    → FailsShrink finds prefixes old old e
-shrink_refused finds prefixes old loaded (Io e) all tells = inl refl
-shrink_refused finds prefixes old loaded Memory all tells = (refl, λ file known. tt)
-shrink_refused finds prefixes old loaded (Edits wrong) all tells =
+pub shrink_refused : (ended : Error → Type 0) (finds : Finding) (prefixes : List Text) (old : Option (List ℕ)) (loaded : List ℕ) (e : ElfCommandError) → IsAll old loaded → TellsShrunk finds prefixes loaded e
+    → FailsShrink ended finds prefixes old old e
+shrink_refused ended finds prefixes old loaded (Io e) all tells = inl refl
+shrink_refused ended finds prefixes old loaded Memory all tells = (refl, λ file known. tt)
+shrink_refused ended finds prefixes old loaded (Edits wrong) all tells =
     let P : List ℕ → Type 0 = λ l. TellsShrunk finds prefixes l (Edits wrong) in (refl, λ file known. subst P (all file known) tells)
-shrink_refused finds prefixes old loaded (Elf e) all tells =
+shrink_refused ended finds prefixes old loaded (Elf e) all tells =
     let P : List ℕ → Type 0 = λ l. TellsShrunk finds prefixes l (Elf e) in (refl, λ file known. subst P (all file known) tells)
-shrink_refused finds prefixes old loaded (ElfBatch e) all tells =
+shrink_refused ended finds prefixes old loaded (ElfBatch e) all tells =
     let P : List ℕ → Type 0 = λ l. TellsShrunk finds prefixes l (ElfBatch e) in (refl, λ file known. subst P (all file known) tells)
 
--- the difference was not made
-pub shrink_failed : {S : Type 0} (finds : Finding) (prefixes : List Text) (contents : S → Option (List ℕ)) (old new : S) (loaded : List ℕ) (d : Difference) (text : Text) (e : ReplaceError)
-    → IsAll (contents old) loaded → IsDifference loaded d → IsShrunkBy finds prefixes loaded d text → IsNotMade contents d old new e → FailsShrink finds prefixes (contents old) (contents new) (answer_to_replaced e)
-shrink_failed finds prefixes contents old new loaded d text replace.Memory all makeable shrunk same = (ap contents same, λ file known. tt)
-shrink_failed finds prefixes contents old new loaded d text (replace.Write e) all makeable shrunk part = inr (λ file known.
-    let P : List ℕ → Type 0 = λ l. IsShrunkBy finds prefixes l d text in
-    let M : List ℕ → Type 0 = λ l. IsDifference l d in
-    record { difference = d; text = text; makeable = subst M (all file known) makeable; shrunk = subst P (all file known) shrunk; left = e.left; part = part })
+-- the difference was not made: where there was memory, writes ended
+pub shrink_failed : {S : Type 0} (writes : Error → Type 0) (none : Type 0) (m n : ℕ) (finds : Finding) (prefixes : List Text) (contents : S → Option (List ℕ)) (old new : S) (loaded : List ℕ) (d : Difference) (text : Text) (e : ReplaceError)
+    → IsAll (contents old) loaded → IsDifference loaded d → IsShrunkBy finds prefixes loaded d text → IsNotMade contents d old new e → IsNotWritten writes none m n e
+    → FailsShrink (WritesEnd writes none m n) finds prefixes (contents old) (contents new) (answer_to_replaced e)
+shrink_failed writes none m n finds prefixes contents old new loaded d text replace.Memory all makeable shrunk same why = (ap contents same, λ file known. tt)
+shrink_failed writes none m n finds prefixes contents old new loaded d text (replace.Write e) all makeable shrunk part why = inr (
+  why,
+  λ file known.
+      let P : List ℕ → Type 0 = λ l. IsShrunkBy finds prefixes l d text in
+      let M : List ℕ → Type 0 = λ l. IsDifference l d in
+      record { difference = d; text = text; makeable = subst M (all file known) makeable; shrunk = subst P (all file known) shrunk; left = e.left; part = part },
+)
+
+-- writes that come after reads and failed
+pub shrink_fails_after : (writes : Error → Type 0) (none : Type 0) (k m n : ℕ) (finds : Finding) (prefixes : List Text) (old new : Option (List ℕ)) (e : ElfCommandError) → k ≤ m
+    → FailsShrink (WritesEnd writes none m n) finds prefixes old new e → FailsShrink (WritesEnd writes none k n) finds prefixes old new e
+shrink_fails_after writes none k m n finds prefixes old new (Io e) later fails = elim fails [
+  | inl kept ↦ inl kept
+  | inr (ends, torn) ↦ inr (ended_later writes none e k m n later ends, torn)
+]
+shrink_fails_after writes none k m n finds prefixes old new e later fails = fails
 
 -- such an error is one that the command may have
 pub shrink_may_fail : (finds : Finding) (prefixes : List Text) (file : List ℕ) (e : ElfCommandError) → TellsShrunk finds prefixes file e → MayFailAs (shrinking prefixes) e

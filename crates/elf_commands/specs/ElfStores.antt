@@ -1,6 +1,7 @@
 -- What commands for ELF files make of the bytes of a store, where they are known.
 use Rattle.std.specs.Prelude.{ℕ, ◌≡◌, ◌⊎◌, List, Option, Some, None, false, ⊤}
 use Rattle.std.specs.declared.io.Error.{Error}
+use Rattle.byte_store.specs.Causes.{EndsBy}
 use Rattle.byte_store.specs.Known.{Stays}
 use Rattle.byte_store.specs.Composed.{IsDifference, made_of, owned_patches}
 use Rattle.byte_store.specs.Fault.{IsLeft}
@@ -36,10 +37,14 @@ pub record ChangesNothing (a : ElfAsked) (file : List ℕ) : Type 0 where
   pub makes : Makes edits file made
   pub same : made.changed ≡ false
 
--- what an error leaves and tells: only a write that failed changes bytes, where the command was accepted
-abbrev pub FailsElf : ElfAsked → Option (List ℕ) → Option (List ℕ) → ElfCommandError → Type 0
-FailsElf a old new (Io e) = Stays old new ⊎ ((file : List ℕ) → old ≡ Some file → IsElfTorn a file old new)
-FailsElf a old new e = Stays old new × ((file : List ℕ) → old ≡ Some file → TellsEdit a file e)
+-- writes to a store ended by this error
+abbrev pub WritesEnd : (Error → Type 0) → Type 0 → ℕ → ℕ → Error → Type 0
+WritesEnd writes takes_none old new e = EndsBy writes takes_none e old new
+
+-- what an error leaves and tells: only writes that ended by it change bytes, where the command was accepted
+abbrev pub FailsElf : (Error → Type 0) → ElfAsked → Option (List ℕ) → Option (List ℕ) → ElfCommandError → Type 0
+FailsElf ended a old new (Io e) = Stays old new ⊎ (ended e × ((file : List ℕ) → old ≡ Some file → IsElfTorn a file old new))
+FailsElf ended a old new e = Stays old new × ((file : List ℕ) → old ≡ Some file → TellsEdit a file e)
 
 -- ---- at a path
 
@@ -55,7 +60,8 @@ IsKeptAt opens contents known e None = ⊥
 IsKeptAt opens contents known e (Some store) = Stays known (contents store)
 
 -- what an error at a path leaves and tells: nothing was opened, or what was opened holds what the error left of the bytes
--- there
-abbrev pub FailsElfAt : {S : Type 0} → ElfAsked → (S → Option (List ℕ)) → Option (List ℕ) → ElfCommandError → Option S → Type 0
-FailsElfAt a contents known e None = ⊤
-FailsElfAt a contents known e (Some store) = FailsElf a known (contents store) e
+-- there; it counted no failure before
+abbrev pub FailsElfAt : {S : Type 0} → (Error → Type 0) → Type 0 → (S → ℕ) → ElfAsked → (S → Option (List ℕ)) → Option (List ℕ) → ElfCommandError → Option S → Type 0
+FailsElfAt writes takes_none failed a contents known e None = ⊤
+FailsElfAt writes takes_none failed a contents known e (Some store) =
+    FailsElf (WritesEnd writes takes_none 0 (failed store)) a known (contents store) e

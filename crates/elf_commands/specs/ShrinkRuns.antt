@@ -2,6 +2,7 @@
 use Rattle.std.specs.Prelude.{ℕ, ◌≡◌, ◌⊎◌, List, Option, Some, None, Ok, Result, take, ⊤}
 use Rattle.std.specs.Io.KnownBytes.{Appends}
 use Rattle.std.specs.declared.alloc.Global.{Global}
+use Rattle.std.specs.declared.io.Error.{Error}
 use Rattle.std.specs.declared.vec.Vec.{Vec}
 use Rattle.byte_store.specs.Known.{Stays}
 use Rattle.byte_store.specs.Composed.{IsDifference, made_of, owned_patches}
@@ -14,6 +15,7 @@ use Rattle.elf_format.specs.declared.fault.ElfFault.{ElfFault}
 use Rattle.elf_image.specs.Image.{Image, image_of, shown}
 use Rattle.elf_commands.specs.ElfAsked.{elf_asked, one}
 use Rattle.elf_commands.specs.ElfEngine.{IsElfEdited, LeavesElf, RunsElf, TellsEdit, TellsRun}
+use Rattle.elf_commands.specs.ElfStores.{WritesEnd}
 use Rattle.elf_commands.specs.Meaning.{ElfMeaning, shrink_elf}
 use Rattle.command_words.specs.Rows.{Text}
 use Rattle.elf_commands_steps.specs.Shrinking.{AreFound, Finding, removal_lines}
@@ -78,10 +80,11 @@ pub record IsShrinkTorn (finds : Finding) (prefixes : List Text) (file : List �
   pub left : Left
   pub part : IsLeft left difference.growth.items (owned_patches difference.pieces.items) old new
 
--- what an error leaves and tells: only a write that failed changes bytes, where the edit was accepted
-abbrev pub FailsShrink : Finding → List Text → Option (List ℕ) → Option (List ℕ) → ElfCommandError → Type 0
-FailsShrink finds prefixes old new (Io e) = Stays old new ⊎ ((file : List ℕ) → old ≡ Some file → IsShrinkTorn finds prefixes file old new)
-FailsShrink finds prefixes old new e = Stays old new × ((file : List ℕ) → old ≡ Some file → TellsShrunk finds prefixes file e)
+-- what an error leaves and tells: only writes that ended by it change bytes, where the edit was accepted
+abbrev pub FailsShrink : (Error → Type 0) → Finding → List Text → Option (List ℕ) → Option (List ℕ) → ElfCommandError → Type 0
+FailsShrink ended finds prefixes old new (Io e) =
+    Stays old new ⊎ (ended e × ((file : List ℕ) → old ≡ Some file → IsShrinkTorn finds prefixes file old new))
+FailsShrink ended finds prefixes old new e = Stays old new × ((file : List ℕ) → old ≡ Some file → TellsShrunk finds prefixes file e)
 
 -- a writer got first bytes of the lines of what is made of a file
 abbrev pub GetsFirst : Finding → List Text → List ℕ → Option (List ℕ) → Option (List ℕ) → Type 0
@@ -98,10 +101,12 @@ IsQuiet finds prefixes contents known old new e = new ≡ old
 
 -- ---- at a path
 
--- what an error leaves and tells: nothing was opened, or what was opened holds what the error left of the bytes there
-abbrev pub FailsShrinkAt : {S : Type 0} → Finding → List Text → (S → Option (List ℕ)) → Option (List ℕ) → ElfCommandError → Option S → Type 0
-FailsShrinkAt finds prefixes contents known e None = ⊤
-FailsShrinkAt finds prefixes contents known e (Some store) = FailsShrink finds prefixes known (contents store) e
+-- what an error leaves and tells: nothing was opened, or what was opened holds what the error left of the bytes there; it
+-- counted no failure before
+abbrev pub FailsShrinkAt : {S : Type 0} → (Error → Type 0) → Type 0 → (S → ℕ) → Finding → List Text → (S → Option (List ℕ)) → Option (List ℕ) → ElfCommandError → Option S → Type 0
+FailsShrinkAt writes takes_none failed finds prefixes contents known e None = ⊤
+FailsShrinkAt writes takes_none failed finds prefixes contents known e (Some store) =
+    FailsShrink (WritesEnd writes takes_none 0 (failed store)) finds prefixes known (contents store) e
 
 -- where nothing was opened, no lines are told
 abbrev pub IsQuietAt : {W S : Type 0} → Finding → List Text → (W → Option (List ℕ)) → Option (List ℕ) → W → W → ElfCommandError → Option S → Type 0

@@ -3,7 +3,7 @@ ghost use Rattle.std.specs.Prelude.{IfErr, IfOk, IsTrue, OnOk, length, string_by
 ghost use Rattle.byte_store.specs.Known.{HasLength, IsAll, Stays};
 ghost use Rattle.elf_commands.specs.ElfAsked.{elf_asked};
 ghost use Rattle.elf_commands.specs.ElfEngine.{AreAsked, AreEditsAsked, ElfMayFail};
-ghost use Rattle.elf_commands.specs.ElfStores.{ChangesNothing, FailsElf, FailsElfAt, IsElfPatched};
+ghost use Rattle.elf_commands.specs.ElfStores.{ChangesNothing, FailsElf, FailsElfAt, IsElfPatched, WritesEnd};
 ghost use Rattle.elf_commands.specs.ElfWords.{edits_model};
 ghost use Rattle.elf_commands_steps.specs.Failures.{HasCause, HasCauseAt, HasWriteCause};
 ghost use Rattle.elf_commands.specs.Meaning.{elf_file_of, elf_command_model};
@@ -48,7 +48,9 @@ pub fn edit_store<S: Store>(
         (elf_asked (elf_command_model command.now)) (elf_file_of (elf_command_model command.now))
         (S.contents store.old) (string_bytes text)) }
     ensures err { IfErr result (ElfMayFail (elf_command_model command.now)) }
-    ensures left { IfErr result (FailsElf (elf_asked (elf_command_model command.now))
+    ensures left { IfErr result (FailsElf
+        (WritesEnd S.may_fail_write S.may_take_none (S.failed store.old) (S.failed store.new))
+        (elf_asked (elf_command_model command.now))
         (S.contents store.old) (S.contents store.new)) }
     ensures cause { IfErr result (HasCause S.may_fail_read S.may_fail_write S.may_take_none
         (S.contents store.old) (S.failed store.old) (S.failed store.new)) }
@@ -77,7 +79,9 @@ fn edit_as_asked<S: Store>(
         (elf_asked (elf_command_model command.now)) (elf_file_of (elf_command_model command.now))
         (S.contents store.old) (string_bytes text)) }
     ensures err { IfErr result (ElfMayFail (elf_command_model command.now)) }
-    ensures left { IfErr result (FailsElf (elf_asked (elf_command_model command.now))
+    ensures left { IfErr result (FailsElf
+        (WritesEnd S.may_fail_write S.may_take_none (S.failed store.old) (S.failed store.new))
+        (elf_asked (elf_command_model command.now))
         (S.contents store.old) (S.contents store.new)) }
     ensures cause { IfErr result (HasWriteCause S.may_fail_write S.may_take_none
         (S.failed store.old) (S.failed store.new)) }
@@ -114,7 +118,9 @@ fn edit_loaded<S: Store>(
         (elf_asked (elf_command_model command.now)) (elf_file_of (elf_command_model command.now))
         bytes.now (string_bytes text)) }
     ensures err { IfErr result (ElfMayFail (elf_command_model command.now)) }
-    ensures left { IfErr result (FailsElf (elf_asked (elf_command_model command.now))
+    ensures left { IfErr result (FailsElf
+        (WritesEnd S.may_fail_write S.may_take_none (S.failed store.old) (S.failed store.new))
+        (elf_asked (elf_command_model command.now))
         (S.contents store.old) (S.contents store.new)) }
     ensures idle { ChangesNothing (elf_asked (elf_command_model command.now)) bytes.now
         → OnOk result (Stays (S.contents store.old) (S.contents store.new)) }
@@ -152,6 +158,7 @@ pub fn edit_path<'p, O: OpensOnce<'p>>(
     ensures err { IfErr result (λ refused.
         ElfMayFail (elf_command_model command.now) refused.error) }
     ensures left { IfErr result (λ refused. FailsElfAt
+        O.Opened.may_fail_write O.Opened.may_take_none O.Opened.failed
         (elf_asked (elf_command_model command.now)) O.Opened.contents
         (O.contents files (elf_file_of (elf_command_model command.now)))
         refused.error refused.store) }

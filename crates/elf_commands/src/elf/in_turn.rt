@@ -5,7 +5,7 @@ ghost use Rattle.byte_store.specs.Known.{HasLength, IsAll};
 ghost use Rattle.elf_commands_steps.specs.Groups.{group_model};
 ghost use Rattle.elf_commands.specs.ElfAsked.{elf_asked};
 ghost use Rattle.elf_commands.specs.ElfEngine.{AreAskedInTurn, ElfMayFail, IsElfEdited, LeavesElf, TellsEdit};
-ghost use Rattle.elf_commands.specs.ElfStores.{FailsElf, IsElfPatched};
+ghost use Rattle.elf_commands.specs.ElfStores.{FailsElf, IsElfPatched, WritesEnd};
 ghost use Rattle.elf_commands_steps.specs.Failures.{HasWriteCause};
 ghost use Rattle.elf_commands.specs.Meaning.{elf_command_model};
 
@@ -86,7 +86,9 @@ pub(crate) fn edit_in_turn<S: Store>(
     ensures patched { OnOk result (IsElfPatched (elf_asked (elf_command_model command.now))
         (S.contents store.old) (S.contents store.new)) }
     ensures err { IfErr result (ElfMayFail (elf_command_model command.now)) }
-    ensures left { IfErr result (FailsElf (elf_asked (elf_command_model command.now))
+    ensures left { IfErr result (FailsElf
+        (WritesEnd S.may_fail_write S.may_take_none (S.failed store.old) (S.failed store.new))
+        (elf_asked (elf_command_model command.now))
         (S.contents store.old) (S.contents store.new)) }
     ensures cause { IfErr result (HasWriteCause S.may_fail_write S.may_take_none
         (S.failed store.old) (S.failed store.new)) }

@@ -6,6 +6,7 @@ ghost use Rattle.elf_commands_steps.specs.ShrinkModel.{answer_model};
 ghost use Rattle.elf_edits.specs.Edit.{ShrinkRunPath};
 ghost use Rattle.elf_commands.specs.ElfAsked.{shrinking};
 ghost use Rattle.elf_commands.specs.ElfEngine.{MayFailAs};
+ghost use Rattle.elf_commands.specs.ElfStores.{WritesEnd};
 ghost use Rattle.elf_commands_steps.specs.Failures.{HasShrinkCause, HasShrinkCauseAt, HasTellCause};
 ghost use Rattle.elf_commands.specs.ShrinkRuns.{FailsShrink, FailsShrinkAt, IsQuiet, IsQuietAt, IsShrunkBy, RunsShrink, ShrinksStore, TellsShrink, TellsShrunk};
 
@@ -105,8 +106,9 @@ pub fn shrink_store<S: Store, P: Probe, W: CountedWrite>(
         (S.contents store.new) (W.contents out.old) (W.contents out.new)) }
     ensures err { IfErr result (MayFailAs
         (shrinking (map string_bytes args.now.allowed_rpath_prefixes.items))) }
-    ensures left { IfErr result (FailsShrink (P.may_find probe.now)
-        (map string_bytes args.now.allowed_rpath_prefixes.items)
+    ensures left { IfErr result (FailsShrink
+        (WritesEnd S.may_fail_write S.may_take_none (S.failed store.old) (S.failed store.new))
+        (P.may_find probe.now) (map string_bytes args.now.allowed_rpath_prefixes.items)
         (S.contents store.old) (S.contents store.new)) }
     ensures quiet { IfErr result (IsQuiet (P.may_find probe.now)
         (map string_bytes args.now.allowed_rpath_prefixes.items) W.contents
@@ -135,8 +137,10 @@ fn shrink_loaded<S: Store, P: Probe, W: CountedWrite>(
         (map string_bytes prefixes.now) (S.contents store.old)
         (S.contents store.new) (W.contents out.old) (W.contents out.new)) }
     ensures err { IfErr result (MayFailAs (shrinking (map string_bytes prefixes.now))) }
-    ensures left { IfErr result (FailsShrink (P.may_find probe.now)
-        (map string_bytes prefixes.now) (S.contents store.old) (S.contents store.new)) }
+    ensures left { IfErr result (FailsShrink
+        (WritesEnd S.may_fail_write S.may_take_none (S.failed store.old) (S.failed store.new))
+        (P.may_find probe.now) (map string_bytes prefixes.now)
+        (S.contents store.old) (S.contents store.new)) }
     ensures quiet { IfErr result (IsQuiet (P.may_find probe.now) (map string_bytes prefixes.now)
         W.contents (S.contents store.old) out.old out.new) }
     ensures cause { IfErr result (HasTellCause S.may_fail_write S.may_take_none
@@ -167,7 +171,8 @@ pub fn shrink_path<'p, O: OpensOnce<'p>, P: Probe, W: CountedWrite>(
         (O.Opened.contents store) (W.contents out.old) (W.contents out.new)) }
     ensures err { IfErr result (λ refused. MayFailAs
         (shrinking (map string_bytes args.now.allowed_rpath_prefixes.items)) refused.error) }
-    ensures left { IfErr result (λ refused. FailsShrinkAt (P.may_find probe.now)
+    ensures left { IfErr result (λ refused. FailsShrinkAt
+        O.Opened.may_fail_write O.Opened.may_take_none O.Opened.failed (P.may_find probe.now)
         (map string_bytes args.now.allowed_rpath_prefixes.items) O.Opened.contents
         (O.contents files (string_bytes args.now.path_to_binary))
         refused.error refused.store) }

@@ -1,13 +1,14 @@
 use Rattle.std.proofs.Common.{[], List, Option, ℕ, string_bytes, subst}
 use Rattle.std.specs.Prelude.{IfErr, IfOk, OnOk}
 use Rattle.std.proofs.lemmas.Result.{IfErr-weaker, err_from_is_err_and}
+use Rattle.std.specs.declared.io.Error.{Error}
 use Rattle.command_words.specs.Rows.{Text}
 use Rattle.elf_commands.specs.ElfAsked.{ElfAsked, elf_asked}
-use Rattle.elf_commands.specs.ElfStores.{FailsElf, IsElfPatched}
+use Rattle.elf_commands.specs.ElfStores.{FailsElf, IsElfPatched, WritesEnd}
 use Rattle.elf_commands.specs.Meaning.{elf_command_model, elf_file_of}
 use Rattle.elf_commands.specs.Noting.{TellsWantedAt}
 use Rattle.elf_commands.proofs.ElfOutcomes.{may_fail}
-use Rattle.elf_commands.proofs.ElfStoreLaws.{read_as_asked, read_fails, words_refused}
+use Rattle.elf_commands.proofs.ElfStoreLaws.{fails_after, read_as_asked, read_fails, words_refused}
 use Rattle.elf_commands.proofs.FailureLaws.{cause_after, read_cause, refused_for_itself}
 use Rattle.elf_commands.proofs.elf.editing.edit_store.Goals as goal
 
@@ -19,7 +20,7 @@ returns-in_err-bytes-clause-err g c =
 pub returns-in_err-bytes-clause-left : goal.returns-in_err-bytes-clause-left
 returns-in_err-bytes-clause-left g c =
     let p = err_from_is_err_and c.from_residual.result c.from_residual.ensures.1 in
-    rw (p.1, p.2) (read_fails (elf_asked (elf_command_model c.args.command.now)) _ _ c.in_err-bytes.field-0.0 c.in_err-bytes.ensures.kept)
+    rw (p.1, p.2) (read_fails _ (elf_asked (elf_command_model c.args.command.now)) _ _ c.in_err-bytes.field-0.0 c.in_err-bytes.ensures.kept)
 
 pub returns-in_err-bytes-clause-cause : goal.returns-in_err-bytes-clause-cause
 returns-in_err-bytes-clause-cause g c =
@@ -34,7 +35,7 @@ returns-in_err-asked-clause-err g c =
 pub returns-in_err-asked-clause-left : goal.returns-in_err-asked-clause-left
 returns-in_err-asked-clause-left g c =
     let p = err_from_is_err_and c.from_residual-in_err-asked.result c.from_residual-in_err-asked.ensures.1 in
-    rw (p.1, p.2) (words_refused (elf_asked (elf_command_model c.args.command.now)) _ _ _ c.in_ok-bytes.ensures.kept c.in_err-asked.ensures.err)
+    rw (p.1, p.2) (words_refused _ (elf_asked (elf_command_model c.args.command.now)) _ _ _ c.in_ok-bytes.ensures.kept c.in_err-asked.ensures.err)
 
 pub returns-in_err-asked-clause-cause : goal.returns-in_err-asked-clause-cause
 returns-in_err-asked-clause-cause g c =
@@ -56,8 +57,13 @@ returns-clause-told g c =
 
 pub returns-clause-left : goal.returns-clause-left
 returns-clause-left g c =
-    let Fails : Option (List ℕ) → Type 0 = λ o. IfErr c.edit_as_asked.result (FailsElf (elf_asked (elf_command_model c.args.command.now)) o (g.S.Store.contents c.edit_as_asked.new.store)) in
-    subst Fails c.in_ok-bytes.ensures.kept c.edit_as_asked.ensures.left
+    let a : ElfAsked = elf_asked (elf_command_model c.args.command.now) in
+    let new : Option (List ℕ) = g.S.Store.contents c.edit_as_asked.new.store in
+    let ended : Error → Type 0 = WritesEnd g.S.Store.may_fail_write g.S.Store.may_take_none (g.S.Store.failed c.args.store.now) (g.S.Store.failed c.edit_as_asked.new.store) in
+    let Fails : Option (List ℕ) → Type 0 = λ o. IfErr c.edit_as_asked.result (FailsElf ended a o new) in
+    subst Fails c.in_ok-bytes.ensures.kept
+    (IfErr-weaker c.edit_as_asked.result _ (FailsElf ended a (g.S.Store.contents c.load.new.store) new) (λ e fails.
+    fails_after g.S.Store.may_fail_write g.S.Store.may_take_none _ _ _ a _ _ e c.in_ok-bytes.ensures.grows fails) c.edit_as_asked.ensures.left)
 
 pub returns-clause-cause : goal.returns-clause-cause
 returns-clause-cause g c =

@@ -17,7 +17,7 @@ returns-in_err-difference-clause-err g c =
 pub returns-in_err-difference-clause-left : goal.returns-in_err-difference-clause-left
 returns-in_err-difference-clause-left g c =
     let p = err_from_is_err_and c.from_residual.result c.from_residual.ensures.1 in
-    rw (p.1, p.2) (file_refused (elf_asked (elf_command_model c.args.command.now)) (g.S.Store.contents c.args.store.now) c.args.bytes.now _ c.requires.whole c.in_err-difference.ensures.err)
+    rw (p.1, p.2) (file_refused _ (elf_asked (elf_command_model c.args.command.now)) (g.S.Store.contents c.args.store.now) c.args.bytes.now _ c.requires.whole c.in_err-difference.ensures.err)
 
 pub returns-in_err-difference-clause-cause : goal.returns-in_err-difference-clause-cause
 returns-in_err-difference-clause-cause g c =
@@ -37,7 +37,8 @@ returns-in_err-make_opened-clause-cause g c =
 pub returns-in_err-make_opened-clause-left : goal.returns-in_err-make_opened-clause-left
 returns-in_err-make_opened-clause-left g c =
     let p = err_from_is_err_and c.from_residual-in_err-make_opened.result c.from_residual-in_err-make_opened.ensures.1 in
-    rw (p.1, p.2) (elf_failed (elf_asked (elf_command_model c.args.command.now)) g.S.Store.contents c.args.store.now c.make_opened.new.store c.args.bytes.now c.in_ok-difference.difference _ c.requires.whole c.in_ok-difference.ensures.makeable c.in_ok-difference.ensures.left c.in_err-make_opened.ensures.err)
+    rw (p.1, p.2) (elf_failed g.S.Store.may_fail_write g.S.Store.may_take_none _ _ (elf_asked (elf_command_model c.args.command.now)) g.S.Store.contents c.args.store.now c.make_opened.new.store c.args.bytes.now c.in_ok-difference.difference _ c.requires.whole c.in_ok-difference.ensures.makeable c.in_ok-difference.ensures.left c.in_err-make_opened.ensures.err
+    c.in_err-make_opened.ensures.cause)
 
 pub returns-clause-patched : goal.returns-clause-patched
 returns-clause-patched g c =

@@ -51,13 +51,13 @@ returns-in_err-make_opened-clause-cause g c =
 pub returns-in_err-shrunk-clause-left : goal.returns-in_err-shrunk-clause-left
 returns-in_err-shrunk-clause-left g c =
     let p = err_from_is_err_and c.from_residual.result c.from_residual.ensures.1 in
-    rw (p.1, p.2) (shrink_refused (g.P.Probe.may_find c.args.probe.now) (map string_bytes c.args.prefixes.now) (g.S.Store.contents c.args.store.now) c.args.bytes.now c.in_err-shrunk.field-0.0 c.requires.whole c.in_err-shrunk.ensures.err)
+    rw (p.1, p.2) (shrink_refused _ (g.P.Probe.may_find c.args.probe.now) (map string_bytes c.args.prefixes.now) (g.S.Store.contents c.args.store.now) c.args.bytes.now c.in_err-shrunk.field-0.0 c.requires.whole c.in_err-shrunk.ensures.err)
 
 pub returns-in_err-make_opened-clause-left : goal.returns-in_err-make_opened-clause-left
 returns-in_err-make_opened-clause-left g c =
     let p = err_from_is_err_and c.from_residual-in_err-make_opened.result c.from_residual-in_err-make_opened.ensures.1 in
-    rw (p.1, p.2) (shrink_failed (g.P.Probe.may_find c.args.probe.now) (map string_bytes c.args.prefixes.now) g.S.Store.contents c.args.store.now c.make_opened.new.store c.args.bytes.now c.in_ok-shrunk.shrunk.difference (string_bytes c.in_ok-shrunk.shrunk.text) _
-    c.requires.whole c.in_ok-shrunk.ensures.makeable c.in_ok-shrunk.ensures.shrunk c.in_err-make_opened.ensures.err)
+    rw (p.1, p.2) (shrink_failed g.S.Store.may_fail_write g.S.Store.may_take_none _ _ (g.P.Probe.may_find c.args.probe.now) (map string_bytes c.args.prefixes.now) g.S.Store.contents c.args.store.now c.make_opened.new.store c.args.bytes.now c.in_ok-shrunk.shrunk.difference (string_bytes c.in_ok-shrunk.shrunk.text) _
+    c.requires.whole c.in_ok-shrunk.ensures.makeable c.in_ok-shrunk.ensures.shrunk c.in_err-make_opened.ensures.err c.in_err-make_opened.ensures.cause)
 
 pub returns-clause-shrunk : goal.returns-clause-shrunk
 returns-clause-shrunk g c =
