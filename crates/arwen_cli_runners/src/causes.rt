@@ -144,7 +144,9 @@ fn overlap_at<'p, O: Opens<'p>>(
         (O.contents files.now path.entry.now) (string_bytes text)) }
 {
     let bytes = bytes_at(alloc, files, path)?;
-    let command = apply_command(alloc, plan).ok()?;
+    let Ok(command) = apply_command(alloc, plan) else {
+        return None;
+    };
     let text = overlap_text(alloc, bytes.as_slice(), &command);
     drop(command);
     text

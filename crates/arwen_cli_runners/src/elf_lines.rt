@@ -1,5 +1,5 @@
 //! Lines of patchelf, run.
-ghost use Rattle.std.specs.Prelude.{IfErr, IfOk, OnOk, map, option_map, string_bytes};
+ghost use Rattle.std.specs.Prelude.{◌≡◌, IfErr, IfOk, OnOk, map, option_map, string_bytes};
 ghost use Rattle.arwen_cli_patchelf.specs.Counted.{sink_failures, sink_inner};
 ghost use Rattle.arwen_cli_patchelf.specs.Patched.{TellsPlanPath};
 ghost use Rattle.arwen_cli_patchelf.specs.Printing.{IfCommand, PrintsAll, TellsPrints};
@@ -12,7 +12,7 @@ use crate::ending::Ending;
 use arwen_cli_patchelf::commands::ElfCommandError;
 use arwen_cli_patchelf::commands::elf::Probe;
 use arwen_cli_patchelf::commands::files::CountedWrite;
-use arwen_cli_patchelf::{PatchelfError, Print, patch_path, print_path, write_path};
+use arwen_cli_patchelf::{NotWritten, PatchelfError, Print, patch_path, print_path, write_path};
 use arwen_cli_patchelf_lines::Plan;
 use byte_store::{Creates, Opens};
 use command_words::NotDone;
@@ -150,11 +150,17 @@ fn write_file<'p, F: Opens<'p>, C: Creates<'p>, P: Probe>(
 {
     match write_path(alloc, files, path, outputs, output, plan, probe) {
         Ok(_) => Ok(()),
-        Err(NotDone { error, store }) => {
-            drop(store);
-            Err(error.error)
-        }
+        Err(refused) => Err(error_in(refused)),
     }
+}
+
+/// The error for which a plan isn't written to another file.
+fn error_in<S: Drop, W: Drop>(refused: NotDone<S, NotWritten<W>>) -> ElfCommandError
+    ensures { result ≡ refused.error.error }
+{
+    let NotDone { error, store } = refused;
+    drop(store);
+    error.error
 }
 
 /// Makes a plan in the file at a path. One that asks for nothing opens it for reading all the same.
