@@ -1,5 +1,6 @@
 //! Lines of install_name_tool, run.
 ghost use Rattle.std.specs.Prelude.{IfErr, OnOk, map};
+ghost use Rattle.macho_commands.specs.Failures.{WritesEnd};
 ghost use Rattle.arwen_cli_install_names.specs.Editing.{HasNamesCause};
 ghost use Rattle.arwen_cli_runners.specs.NameRuns.{FailsNamedBy, IsNamedBy};
 
@@ -23,8 +24,9 @@ pub fn name_words<S: Store>(
 ) -> Result<String, NamesError>
     ensures named { OnOk result (IsNamedBy (map (λ w. w.now) words.now) path.now
         (S.contents store.old) (S.contents store.new)) }
-    ensures left { IfErr result (FailsNamedBy (map (λ w. w.now) words.now) path.now
-        (S.contents store.old) (S.contents store.new)) }
+    ensures left { IfErr result (FailsNamedBy
+        (WritesEnd S.may_fail_write S.may_take_none (S.failed store.old) (S.failed store.new))
+        (map (λ w. w.now) words.now) path.now (S.contents store.old) (S.contents store.new)) }
     ensures cause { IfErr result (HasNamesCause S.may_fail_read S.may_fail_write S.may_take_none
         (S.contents store.old) (S.failed store.old) (S.failed store.new)) }
 {
