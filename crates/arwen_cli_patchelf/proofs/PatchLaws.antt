@@ -1,11 +1,14 @@
 -- What a plan that is made in memory leaves of the bytes of a store.
-use Rattle.std.proofs.Common.{◌∙◌, ℕ, List, Option, inl, inr, length, subst}
+use Rattle.std.proofs.Common.{◌≤◌, ◌∙◌, ℕ, List, Option, inl, inr, length, subst}
+use Rattle.std.specs.declared.io.Error.{Error}
+use Rattle.byte_store.proofs.CauseLaws.{ended_later}
 use Rattle.byte_store.specs.Fault.{IsLeft}
 use Rattle.byte_store.specs.Known.{IsAll, Stays}
 use Rattle.byte_store.specs.Replaced.{IsReplacedInPart}
 use Rattle.byte_store.specs.declared.writing.Left.{Left}
 use Rattle.elf_commands.specs.ElfCommandError.{ElfCommandError}
 use Rattle.elf_commands.specs.ElfCommandError.TheVariants.{Edits, Elf, ElfBatch, Io, Memory}
+use Rattle.elf_commands.specs.ElfStores.{WritesEnd}
 use Rattle.elf_commands.specs.Shrinking.{Finding}
 use Rattle.arwen_cli_patchelf_lines.specs.Plans.{PlanMeant}
 use Rattle.arwen_cli_patchelf.specs.Made.{IsMadeOf}
@@ -31,15 +34,20 @@ torn finds plan file old mid new made left kept is part = record {
   part = let P : Option (List ℕ) → Type 0 = λ o. IsLeft left part.growth part.patches o new in subst P kept part.is_left;
 }
 
-pub unwritten_fails : (finds : Finding) (plan : PlanMeant) (old mid new : Option (List ℕ)) (loaded made : List ℕ) (e : ElfCommandError) → IsAll old loaded → Stays old mid → IsMadeOf finds plan loaded made
-    → IsUnwritten loaded made mid new e → FailsPatch finds plan old new e
-unwritten_fails finds plan old mid new loaded made (Io e) all kept is left = elim left [
+-- writes that come after reads and failed
+pub unwritten_fails : (writes : Error → Type 0) (none : Type 0) (k m n : ℕ) (finds : Finding) (plan : PlanMeant) (old mid new : Option (List ℕ)) (loaded made : List ℕ) (e : ElfCommandError) → k ≤ m → IsAll old loaded → Stays old mid
+    → IsMadeOf finds plan loaded made → IsUnwritten (WritesEnd writes none m n) loaded made mid new e → FailsPatch (WritesEnd writes none k n) finds plan old new e
+unwritten_fails writes none k m n finds plan old mid new loaded made (Io e) later all kept is left = elim left [
   | inl same ↦ inl (same ∙ kept)
-  | inr (how, part) ↦ inr (λ file known.
-      let P : List ℕ → Type 0 = λ l. IsReplacedInPart l made how mid new in
-      torn finds plan file old mid new made how kept (of_file finds plan old loaded made all is file known) (subst P (all file known) part))
+  | inr (ends, replaced) ↦ inr (
+    ended_later writes none e k m n later ends,
+    λ file known.
+        let (how, part) = replaced in
+        let P : List ℕ → Type 0 = λ l. IsReplacedInPart l made how mid new in
+        torn finds plan file old mid new made how kept (of_file finds plan old loaded made all is file known) (subst P (all file known) part),
+  )
 ]
-unwritten_fails finds plan old mid new loaded made Memory all kept is same = (same ∙ kept, λ file known. tt)
-unwritten_fails finds plan old mid new loaded made (Edits e) all kept is left = absurd left
-unwritten_fails finds plan old mid new loaded made (Elf e) all kept is left = absurd left
-unwritten_fails finds plan old mid new loaded made (ElfBatch e) all kept is left = absurd left
+unwritten_fails writes none k m n finds plan old mid new loaded made Memory later all kept is same = (same ∙ kept, λ file known. tt)
+unwritten_fails writes none k m n finds plan old mid new loaded made (Edits e) later all kept is left = absurd left
+unwritten_fails writes none k m n finds plan old mid new loaded made (Elf e) later all kept is left = absurd left
+unwritten_fails writes none k m n finds plan old mid new loaded made (ElfBatch e) later all kept is left = absurd left

@@ -1,6 +1,7 @@
 -- What plans make of the bytes of stores and files, where they are known.
 use Rattle.std.specs.Prelude.{ℕ, ◌≡◌, ◌⊎◌, All, List, Option, Some, None, drop, length, ⊤}
 use Rattle.std.specs.Io.KnownBytes.{Appends}
+use Rattle.std.specs.declared.io.Error.{Error}
 use Rattle.byte_store.specs.Composed.{Stands}
 use Rattle.byte_store.specs.Fault.{IsLeft}
 use Rattle.byte_store.specs.Known.{Stays}
@@ -9,6 +10,7 @@ use Rattle.byte_store.specs.Replaced.{IsReplacedInPart}
 use Rattle.byte_store.specs.declared.writing.Left.{Left}
 use Rattle.elf_commands.specs.ElfCommandError.{ElfCommandError}
 use Rattle.elf_commands.specs.ElfCommandError.TheVariants.{Io, Memory}
+use Rattle.elf_commands.specs.ElfStores.{WritesEnd}
 use Rattle.elf_commands.specs.Shrinking.{Finding}
 use Rattle.arwen_cli_patchelf_lines.specs.Plans.{PlanMeant}
 use Rattle.arwen_cli_patchelf.specs.Made.{AsksNothing, IsMadeOf, TellsUnmade}
@@ -33,16 +35,17 @@ pub record IsPatchTorn (finds : Finding) (plan : PlanMeant) (file : List ℕ) (o
   pub left : Left
   pub part : IsLeft left growth patches old new
 
--- what an error leaves and tells: only a write that failed changes bytes, where the plan was accepted
-abbrev pub FailsPatch : Finding → PlanMeant → Option (List ℕ) → Option (List ℕ) → ElfCommandError → Type 0
-FailsPatch finds plan old new (Io e) = Stays old new ⊎ ((file : List ℕ) → old ≡ Some file → IsPatchTorn finds plan file old new)
-FailsPatch finds plan old new e = Stays old new × ((file : List ℕ) → old ≡ Some file → TellsUnmade finds plan file e)
+-- what an error leaves and tells: only writes that ended by it change bytes, where the plan was accepted
+abbrev pub FailsPatch : (Error → Type 0) → Finding → PlanMeant → Option (List ℕ) → Option (List ℕ) → ElfCommandError → Type 0
+FailsPatch ended finds plan old new (Io e) =
+    Stays old new ⊎ (ended e × ((file : List ℕ) → old ≡ Some file → IsPatchTorn finds plan file old new))
+FailsPatch ended finds plan old new e = Stays old new × ((file : List ℕ) → old ≡ Some file → TellsUnmade finds plan file e)
 
--- what an error leaves of known bytes that were to turn into others: they stay, or a run of writes failed
-abbrev pub IsUnwritten : List ℕ → List ℕ → Option (List ℕ) → Option (List ℕ) → ElfCommandError → Type 0
-IsUnwritten bytes made old new (Io e) = Stays old new ⊎ ((left : Left) × IsReplacedInPart bytes made left old new)
-IsUnwritten bytes made old new Memory = Stays old new
-IsUnwritten bytes made old new e = ⊥
+-- what an error leaves of known bytes that were to turn into others: they stay, or writes ended by it
+abbrev pub IsUnwritten : (Error → Type 0) → List ℕ → List ℕ → Option (List ℕ) → Option (List ℕ) → ElfCommandError → Type 0
+IsUnwritten ended bytes made old new (Io e) = Stays old new ⊎ (ended e × ((left : Left) × IsReplacedInPart bytes made left old new))
+IsUnwritten ended bytes made old new Memory = Stays old new
+IsUnwritten ended bytes made old new e = ⊥
 
 -- a store that was opened for a plan has what the plan makes; none is opened for a plan that asks for nothing
 abbrev pub IsPatchedAt : {S : Type 0} → (S → Option (List ℕ)) → Finding → PlanMeant → Option (List ℕ) → Option S → Type 0
@@ -50,10 +53,11 @@ IsPatchedAt contents finds plan known None = AsksNothing plan
 IsPatchedAt contents finds plan known (Some store) = IsPatched finds plan known (contents store)
 
 -- what an error at a path leaves and tells: nothing was opened, or what was opened holds what the error left of the bytes
--- there
-abbrev pub FailsPatchAt : {S : Type 0} → (S → Option (List ℕ)) → Finding → PlanMeant → Option (List ℕ) → ElfCommandError → Option S → Type 0
-FailsPatchAt contents finds plan known e None = ⊤
-FailsPatchAt contents finds plan known e (Some store) = FailsPatch finds plan known (contents store) e
+-- there; it counted no failure before
+abbrev pub FailsPatchAt : {S : Type 0} → (Error → Type 0) → Type 0 → (S → ℕ) → (S → Option (List ℕ)) → Finding → PlanMeant → Option (List ℕ) → ElfCommandError → Option S → Type 0
+FailsPatchAt writes takes_none failed contents finds plan known e None = ⊤
+FailsPatchAt writes takes_none failed contents finds plan known e (Some store) =
+    FailsPatch (WritesEnd writes takes_none 0 (failed store)) finds plan known (contents store) e
 
 -- what an error tells of the bytes at a path; one of reading or writing them tells nothing
 abbrev pub TellsPlanPath : Finding → PlanMeant → Option (List ℕ) → ElfCommandError → Type 0

@@ -1,5 +1,6 @@
 -- What the words of plans make of the bytes of stores, where they are known.
 use Rattle.std.specs.Prelude.{ℕ, ◌≡◌, List, [], ◌∷◌, Option, Some}
+use Rattle.std.specs.declared.io.Error.{Error}
 use Rattle.elf_commands.specs.ElfStores.{FailsElf}
 use Rattle.elf_commands.specs.ElfCommandError.{ElfCommandError}
 use Rattle.arwen_cli_peers.specs.Options.{Text}
@@ -11,6 +12,6 @@ IsAppliedStore words old new = (file : List ℕ) → old ≡ Some file
     → (made : List ℕ) × IsAppliedTo words file made × (new ≡ Some made)
 
 -- what an error leaves and tells; where there are no words, there is none
-abbrev pub FailsApplied : List Text → Option (List ℕ) → Option (List ℕ) → ElfCommandError → Type 0
-FailsApplied [] old new e = ⊥
-FailsApplied (word ∷ words) old new e = FailsElf (words_ask (word ∷ words)) old new e
+abbrev pub FailsApplied : (Error → Type 0) → List Text → Option (List ℕ) → Option (List ℕ) → ElfCommandError → Type 0
+FailsApplied ended [] old new e = ⊥
+FailsApplied ended (word ∷ words) old new e = FailsElf ended (words_ask (word ∷ words)) old new e

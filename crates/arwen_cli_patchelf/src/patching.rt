@@ -2,6 +2,7 @@
 ghost use Rattle.std.specs.Prelude.{◌≡◌, None, IfErr, IfOk, IsOkAnd, IsTrue, OnOk};
 ghost use Rattle.byte_store.specs.Fault.{IsOkAndSame};
 ghost use Rattle.byte_store.specs.Known.{Becomes, IsAll};
+ghost use Rattle.elf_commands.specs.ElfStores.{WritesEnd};
 ghost use Rattle.elf_commands.specs.Failures.{HasCause, HasCauseAt, HasWriteCause};
 ghost use Rattle.arwen_cli_patchelf_lines.specs.Plans.{plan_model};
 ghost use Rattle.arwen_cli_patchelf.specs.Made.{AsksNothing, IsMadeOf, TellsUnmade};
@@ -33,7 +34,8 @@ pub fn patch_path<'p, O: OpensOnce<'p> + Drop, P: Probe>(
     ensures patched { IfOk result (IsPatchedAt O.Opened.contents (P.may_find probe.now)
         (plan_model plan.now) (O.contents files path.now)) }
     ensures idle { AsksNothing (plan_model plan.now) → IsOkAnd result (λ store. store ≡ None) }
-    ensures left { IfErr result (λ refused. FailsPatchAt O.Opened.contents
+    ensures left { IfErr result (λ refused. FailsPatchAt
+        O.Opened.may_fail_write O.Opened.may_take_none O.Opened.failed O.Opened.contents
         (P.may_find probe.now) (plan_model plan.now) (O.contents files path.now)
         refused.error refused.store) }
     ensures cause { IfErr result (λ refused. HasCauseAt (O.may_fail files path.now)
@@ -68,7 +70,9 @@ pub fn patch_store<S: Store, P: Probe>(
     ensures patched { OnOk result (IsPatched (P.may_find probe.now) (plan_model plan.now)
         (S.contents store.old) (S.contents store.new)) }
     ensures idle { AsksNothing (plan_model plan.now) → IsOkAndSame result store.old store.new }
-    ensures left { IfErr result (FailsPatch (P.may_find probe.now) (plan_model plan.now)
+    ensures left { IfErr result (FailsPatch
+        (WritesEnd S.may_fail_write S.may_take_none (S.failed store.old) (S.failed store.new))
+        (P.may_find probe.now) (plan_model plan.now)
         (S.contents store.old) (S.contents store.new)) }
     ensures cause { IfErr result (HasCause S.may_fail_read S.may_fail_write S.may_take_none
         (S.contents store.old) (S.failed store.old) (S.failed store.new)) }
@@ -89,7 +93,9 @@ fn remake<S: Store, P: Probe>(
 ) -> Result<(), ElfCommandError>
     ensures patched { OnOk result (IsPatched (P.may_find probe.now) (plan_model plan.now)
         (S.contents store.old) (S.contents store.new)) }
-    ensures left { IfErr result (FailsPatch (P.may_find probe.now) (plan_model plan.now)
+    ensures left { IfErr result (FailsPatch
+        (WritesEnd S.may_fail_write S.may_take_none (S.failed store.old) (S.failed store.new))
+        (P.may_find probe.now) (plan_model plan.now)
         (S.contents store.old) (S.contents store.new)) }
     ensures cause { IfErr result (HasCause S.may_fail_read S.may_fail_write S.may_take_none
         (S.contents store.old) (S.failed store.old) (S.failed store.new)) }
@@ -124,8 +130,9 @@ fn write_made<S: Store>(
     requires { IsAll (S.contents store.old) bytes.now }
     ensures written { OnOk result
         (Becomes (λ _. made.now) (S.contents store.old) (S.contents store.new)) }
-    ensures left { IfErr result (IsUnwritten bytes.now made.now
-        (S.contents store.old) (S.contents store.new)) }
+    ensures left { IfErr result (IsUnwritten
+        (WritesEnd S.may_fail_write S.may_take_none (S.failed store.old) (S.failed store.new))
+        bytes.now made.now (S.contents store.old) (S.contents store.new)) }
     ensures cause { IfErr result (HasWriteCause S.may_fail_write S.may_take_none
         (S.failed store.old) (S.failed store.new)) }
 {

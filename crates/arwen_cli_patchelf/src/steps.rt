@@ -1,7 +1,7 @@
 //! The words of a plan, made in a store, and what both steps of a plan need.
 ghost use Rattle.std.specs.Prelude.{◌≡◌, [], IfErr, IfOk, OnOk, map, string_bytes};
 ghost use Rattle.byte_store.specs.Fault.{IsOkAndSame};
-ghost use Rattle.elf_commands.specs.ElfStores.{FailsElf, IsElfPatched};
+ghost use Rattle.elf_commands.specs.ElfStores.{FailsElf, IsElfPatched, WritesEnd};
 ghost use Rattle.elf_commands.specs.Failures.{HasCause};
 ghost use Rattle.elf_commands.specs.Meaning.{apply_moving_elf, elf_command_model};
 ghost use Rattle.arwen_cli_patchelf.specs.Made.{answer_in_memory, words_ask};
@@ -22,8 +22,9 @@ pub(crate) fn apply_if<S: Store>(
     ensures applied { OnOk result (IsAppliedStore (map string_bytes words.now)
         (S.contents store.old) (S.contents store.new)) }
     ensures idle { words.now ≡ [] → IsOkAndSame result store.old store.new }
-    ensures left { IfErr result (FailsApplied (map string_bytes words.now)
-        (S.contents store.old) (S.contents store.new)) }
+    ensures left { IfErr result (FailsApplied
+        (WritesEnd S.may_fail_write S.may_take_none (S.failed store.old) (S.failed store.new))
+        (map string_bytes words.now) (S.contents store.old) (S.contents store.new)) }
     ensures cause { IfErr result (HasCause S.may_fail_read S.may_fail_write S.may_take_none
         (S.contents store.old) (S.failed store.old) (S.failed store.new)) }
 {
@@ -41,8 +42,10 @@ fn apply_words<S: Store>(
 ) -> Result<(), ElfCommandError>
     ensures patched { OnOk result (IsElfPatched (words_ask
         (map string_bytes words.now)) (S.contents store.old) (S.contents store.new)) }
-    ensures left { IfErr result (FailsElf (words_ask
-        (map string_bytes words.now)) (S.contents store.old) (S.contents store.new)) }
+    ensures left { IfErr result (FailsElf
+        (WritesEnd S.may_fail_write S.may_take_none (S.failed store.old) (S.failed store.new))
+        (words_ask (map string_bytes words.now))
+        (S.contents store.old) (S.contents store.new)) }
     ensures cause { IfErr result (HasCause S.may_fail_read S.may_fail_write S.may_take_none
         (S.contents store.old) (S.failed store.old) (S.failed store.new)) }
 {
