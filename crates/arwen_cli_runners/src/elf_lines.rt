@@ -34,17 +34,29 @@ pub fn files_ending<'p, F: Opens<'p>, C: Creates<'p>, P: Probe, W: CountedWrite>
 ) -> Result<Ending, AllocError>
     ensures { IfOk result (EndsFiles W.contents W.failed (P.may_find probe.now) prints.now
         (plan_model plan.now) (F.contents files.now) (IsAnswered
-        (record { contents = F.contents files.now; opens = F.may_fail files.now;
-            reads = F.Opened.may_fail_read; writes = F.Opened.may_fail_write;
-            takes_none = F.Opened.may_take_none; failed = F.Opened.failed })
-        (record { creates = C.may_fail outputs.now; is_new = C.is_new;
-            written = C.Created.contents; inner = sink_inner; failed = sink_failures })
+        (record {
+          contents = F.contents files.now;
+          opens = F.may_fail files.now;
+          reads = F.Opened.may_fail_read;
+          writes = F.Opened.may_fail_write;
+          takes_none = F.Opened.may_take_none;
+          failed = F.Opened.failed;
+        })
+        (record {
+          creates = C.may_fail outputs.now;
+          is_new = C.is_new;
+          written = C.Created.contents;
+          inner = sink_inner;
+          failed = sink_failures;
+        })
         (P.may_find probe.now) (plan_model plan.now) (option_map (λ path. path.now) output.entry))
         (map string_bytes paths.now) out.old out.new) }
 {
     for path in paths {
         let path = path.as_str();
-        match run_file(alloc, files, outputs, path, prints, plan, output, probe, out) {
+        match run_file(
+            alloc, files, outputs, path, prints, plan, output, probe, out,
+        ) {
             Ok(()) => {}
             Err(error) => return fault_ending(alloc, files, plan, path, error),
         }
@@ -84,11 +96,21 @@ fn run_file<'p, F: Opens<'p>, C: Creates<'p>, P: Probe, W: CountedWrite>(
         (F.contents files.now) path.now (W.contents out.old) (W.contents out.new)) }
     ensures stopped { IfErr result (Stops W.contents W.failed (P.may_find probe.now) prints.now
         (plan_model plan.now) (F.contents files.now) (IsAnswered
-        (record { contents = F.contents files.now; opens = F.may_fail files.now;
-            reads = F.Opened.may_fail_read; writes = F.Opened.may_fail_write;
-            takes_none = F.Opened.may_take_none; failed = F.Opened.failed })
-        (record { creates = C.may_fail outputs.now; is_new = C.is_new;
-            written = C.Created.contents; inner = sink_inner; failed = sink_failures })
+        (record {
+          contents = F.contents files.now;
+          opens = F.may_fail files.now;
+          reads = F.Opened.may_fail_read;
+          writes = F.Opened.may_fail_write;
+          takes_none = F.Opened.may_take_none;
+          failed = F.Opened.failed;
+        })
+        (record {
+          creates = C.may_fail outputs.now;
+          is_new = C.is_new;
+          written = C.Created.contents;
+          inner = sink_inner;
+          failed = sink_failures;
+        })
         (P.may_find probe.now) (plan_model plan.now) (option_map (λ path. path.now) output.entry))
         path.now out.old out.new) }
 {
@@ -112,9 +134,14 @@ fn print_file<'p, O: Opens<'p>, W: CountedWrite>(
     ensures tells { IfErr result (TellsPrints W.contents W.failed prints.now
         (O.contents files.now path.now) out.old out.new) }
     ensures cause { IfErr result (IfCommand (IsPrintAnswered
-        (record { contents = O.contents files.now; opens = O.may_fail files.now;
-            reads = O.Opened.may_fail_read; writes = O.Opened.may_fail_write;
-            takes_none = O.Opened.may_take_none; failed = O.Opened.failed })
+        (record {
+          contents = O.contents files.now;
+          opens = O.may_fail files.now;
+          reads = O.Opened.may_fail_read;
+          writes = O.Opened.may_fail_write;
+          takes_none = O.Opened.may_take_none;
+          failed = O.Opened.failed;
+        })
         path.now)) }
 {
     match print_path(alloc, files, path, prints, out) {
@@ -141,11 +168,21 @@ fn write_file<'p, F: Opens<'p>, C: Creates<'p>, P: Probe>(
     ensures tells { IfErr result (TellsPlanPath (P.may_find probe.now) (plan_model plan.now)
         (F.contents files.now path.now)) }
     ensures cause { IfErr result (IsOutputAnswered
-        (record { contents = F.contents files.now; opens = F.may_fail files.now;
-            reads = F.Opened.may_fail_read; writes = F.Opened.may_fail_write;
-            takes_none = F.Opened.may_take_none; failed = F.Opened.failed })
-        (record { creates = C.may_fail outputs.now; is_new = C.is_new;
-            written = C.Created.contents; inner = sink_inner; failed = sink_failures })
+        (record {
+          contents = F.contents files.now;
+          opens = F.may_fail files.now;
+          reads = F.Opened.may_fail_read;
+          writes = F.Opened.may_fail_write;
+          takes_none = F.Opened.may_take_none;
+          failed = F.Opened.failed;
+        })
+        (record {
+          creates = C.may_fail outputs.now;
+          is_new = C.is_new;
+          written = C.Created.contents;
+          inner = sink_inner;
+          failed = sink_failures;
+        })
         (P.may_find probe.now) (plan_model plan.now) output.now path.now) }
 {
     match write_path(alloc, files, path, outputs, output, plan, probe) {
@@ -176,9 +213,14 @@ fn edit_file<'p, O: Opens<'p>, P: Probe>(
     ensures tells { IfErr result (TellsPlanPath (P.may_find probe.now) (plan_model plan.now)
         (O.contents files.now path.now)) }
     ensures cause { IfErr result (IsEditAnswered
-        (record { contents = O.contents files.now; opens = O.may_fail files.now;
-            reads = O.Opened.may_fail_read; writes = O.Opened.may_fail_write;
-            takes_none = O.Opened.may_take_none; failed = O.Opened.failed })
+        (record {
+          contents = O.contents files.now;
+          opens = O.may_fail files.now;
+          reads = O.Opened.may_fail_read;
+          writes = O.Opened.may_fail_write;
+          takes_none = O.Opened.may_take_none;
+          failed = O.Opened.failed;
+        })
         path.now) }
 {
     match patch_path(alloc, files, path, plan, probe) {
