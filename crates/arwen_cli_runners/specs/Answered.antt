@@ -26,6 +26,14 @@ pub record Creating (W X : Type 0) : Type 1 where
   pub inner : X → W
   pub failed : X → ℕ
 
+abbrev pub known_files : {S : Type 0} → (Text → Option (List ℕ)) → (Text → Error → Type 0) → (Error → Type 0) → (Error → Type 0) → Type 0 → (S → ℕ) → Opening S
+known_files contents opens reads writes takes_none failed =
+    record { contents = contents; opens = opens; reads = reads; writes = writes; takes_none = takes_none; failed = failed }
+
+abbrev pub known_outputs : {W X : Type 0} → (Text → Error → Type 0) → (Option (List ℕ) → Type 0) → (W → Option (List ℕ)) → (X → W) → (X → ℕ) → Creating W X
+known_outputs creates is_new written inner failed =
+    record { creates = creates; is_new = is_new; written = written; inner = inner; failed = failed }
+
 -- an error of printing a file has its cause: the opening answered it, or a read of what was opened
 abbrev pub IsPrintAnswered : {S : Type 0} → Opening S → Text → ElfCommandError → Type 0
 IsPrintAnswered {S} files path e = (store : Option S) × HasReadCauseAt (files.opens path) files.reads files.failed (files.contents path) e store

@@ -4,7 +4,7 @@ ghost use Rattle.arwen_cli_patchelf.specs.Counted.{sink_failures, sink_inner};
 ghost use Rattle.arwen_cli_patchelf.specs.Patched.{TellsPlanPath};
 ghost use Rattle.arwen_cli_patchelf.specs.Printing.{IfCommand, PrintsAll, TellsPrints};
 ghost use Rattle.arwen_cli_patchelf_lines.specs.Plans.{plan_model};
-ghost use Rattle.arwen_cli_runners.specs.Answered.{IsAnswered, IsEditAnswered, IsOutputAnswered, IsPrintAnswered};
+ghost use Rattle.arwen_cli_runners.specs.Answered.{IsAnswered, IsEditAnswered, IsOutputAnswered, IsPrintAnswered, known_files, known_outputs};
 ghost use Rattle.arwen_cli_runners.specs.Runs.{CanBeMade, EndsFiles, IsDone, IsFaultEnding, Stops};
 
 use crate::causes::elf_fault_line;
@@ -34,21 +34,10 @@ pub fn files_ending<'p, F: Opens<'p>, C: Creates<'p>, P: Probe, W: CountedWrite>
 ) -> Result<Ending, AllocError>
     ensures { IfOk result (EndsFiles W.contents W.failed (P.may_find probe.now) prints.now
         (plan_model plan.now) (F.contents files.now) (IsAnswered
-        (record {
-          contents = F.contents files.now;
-          opens = F.may_fail files.now;
-          reads = F.Opened.may_fail_read;
-          writes = F.Opened.may_fail_write;
-          takes_none = F.Opened.may_take_none;
-          failed = F.Opened.failed;
-        })
-        (record {
-          creates = C.may_fail outputs.now;
-          is_new = C.is_new;
-          written = C.Created.contents;
-          inner = sink_inner;
-          failed = sink_failures;
-        })
+        (known_files (F.contents files.now) (F.may_fail files.now) F.Opened.may_fail_read
+        F.Opened.may_fail_write F.Opened.may_take_none F.Opened.failed)
+        (known_outputs (C.may_fail outputs.now) C.is_new C.Created.contents
+        sink_inner sink_failures)
         (P.may_find probe.now) (plan_model plan.now) (option_map (λ path. path.now) output.entry))
         (map string_bytes paths.now) out.old out.new) }
 {
@@ -96,21 +85,10 @@ fn run_file<'p, F: Opens<'p>, C: Creates<'p>, P: Probe, W: CountedWrite>(
         (F.contents files.now) path.now (W.contents out.old) (W.contents out.new)) }
     ensures stopped { IfErr result (Stops W.contents W.failed (P.may_find probe.now) prints.now
         (plan_model plan.now) (F.contents files.now) (IsAnswered
-        (record {
-          contents = F.contents files.now;
-          opens = F.may_fail files.now;
-          reads = F.Opened.may_fail_read;
-          writes = F.Opened.may_fail_write;
-          takes_none = F.Opened.may_take_none;
-          failed = F.Opened.failed;
-        })
-        (record {
-          creates = C.may_fail outputs.now;
-          is_new = C.is_new;
-          written = C.Created.contents;
-          inner = sink_inner;
-          failed = sink_failures;
-        })
+        (known_files (F.contents files.now) (F.may_fail files.now) F.Opened.may_fail_read
+        F.Opened.may_fail_write F.Opened.may_take_none F.Opened.failed)
+        (known_outputs (C.may_fail outputs.now) C.is_new C.Created.contents
+        sink_inner sink_failures)
         (P.may_find probe.now) (plan_model plan.now) (option_map (λ path. path.now) output.entry))
         path.now out.old out.new) }
 {
@@ -134,14 +112,8 @@ fn print_file<'p, O: Opens<'p>, W: CountedWrite>(
     ensures tells { IfErr result (TellsPrints W.contents W.failed prints.now
         (O.contents files.now path.now) out.old out.new) }
     ensures cause { IfErr result (IfCommand (IsPrintAnswered
-        (record {
-          contents = O.contents files.now;
-          opens = O.may_fail files.now;
-          reads = O.Opened.may_fail_read;
-          writes = O.Opened.may_fail_write;
-          takes_none = O.Opened.may_take_none;
-          failed = O.Opened.failed;
-        })
+        (known_files (O.contents files.now) (O.may_fail files.now) O.Opened.may_fail_read
+        O.Opened.may_fail_write O.Opened.may_take_none O.Opened.failed)
         path.now)) }
 {
     match print_path(alloc, files, path, prints, out) {
@@ -168,21 +140,10 @@ fn write_file<'p, F: Opens<'p>, C: Creates<'p>, P: Probe>(
     ensures tells { IfErr result (TellsPlanPath (P.may_find probe.now) (plan_model plan.now)
         (F.contents files.now path.now)) }
     ensures cause { IfErr result (IsOutputAnswered
-        (record {
-          contents = F.contents files.now;
-          opens = F.may_fail files.now;
-          reads = F.Opened.may_fail_read;
-          writes = F.Opened.may_fail_write;
-          takes_none = F.Opened.may_take_none;
-          failed = F.Opened.failed;
-        })
-        (record {
-          creates = C.may_fail outputs.now;
-          is_new = C.is_new;
-          written = C.Created.contents;
-          inner = sink_inner;
-          failed = sink_failures;
-        })
+        (known_files (F.contents files.now) (F.may_fail files.now) F.Opened.may_fail_read
+        F.Opened.may_fail_write F.Opened.may_take_none F.Opened.failed)
+        (known_outputs (C.may_fail outputs.now) C.is_new C.Created.contents
+        sink_inner sink_failures)
         (P.may_find probe.now) (plan_model plan.now) output.now path.now) }
 {
     match write_path(alloc, files, path, outputs, output, plan, probe) {
@@ -213,14 +174,8 @@ fn edit_file<'p, O: Opens<'p>, P: Probe>(
     ensures tells { IfErr result (TellsPlanPath (P.may_find probe.now) (plan_model plan.now)
         (O.contents files.now path.now)) }
     ensures cause { IfErr result (IsEditAnswered
-        (record {
-          contents = O.contents files.now;
-          opens = O.may_fail files.now;
-          reads = O.Opened.may_fail_read;
-          writes = O.Opened.may_fail_write;
-          takes_none = O.Opened.may_take_none;
-          failed = O.Opened.failed;
-        })
+        (known_files (O.contents files.now) (O.may_fail files.now) O.Opened.may_fail_read
+        O.Opened.may_fail_write O.Opened.may_take_none O.Opened.failed)
         path.now) }
 {
     match patch_path(alloc, files, path, plan, probe) {
