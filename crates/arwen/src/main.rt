@@ -4,7 +4,7 @@
 
 use arwen_cli::cli::{ArwenError, execute, fault_line};
 pub use arwen_cli::{cli, commands, elf, macho, patcher, utils};
-use arwen_cli_runners::{peer_of, run_line};
+use arwen_cli_runners::{helped_peer, peer_of, run_line};
 use std::alloc::{AllocError, Global};
 use std::process::ExitCode;
 use std::{env, io};
@@ -26,15 +26,16 @@ fn texts_of<'w>(alloc: Global, words: &'w [String]) -> Result<Vec<&'w str>, Allo
     Ok(texts)
 }
 
-/// The same of their texts. Lines of other tools are run as theirs.
+/// The same of their texts. Lines of other tools are run as theirs, and `help` behind which one stands as its help.
 fn answer(rt: &HostRuntime, words: &[&str]) -> ExitCode {
     let (name, words) = match words.split_first() {
         Some((name, words)) => (*name, words),
         None => ("", words),
     };
-    match peer_of(name, words) {
-        Some((peer, behind)) => ExitCode::from(run_line(rt, peer, behind)),
-        None => own_answer(rt, words),
+    match (peer_of(name, words), helped_peer(words)) {
+        (Some((peer, behind)), _) => ExitCode::from(run_line(rt, peer, behind)),
+        (None, Some(peer)) => ExitCode::from(run_line(rt, peer, &["--help"])),
+        (None, None) => own_answer(rt, words),
     }
 }
 

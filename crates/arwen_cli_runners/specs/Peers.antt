@@ -1,5 +1,5 @@
 -- Whose line the program's name and words are.
-use Rattle.std.specs.Prelude.{List, [], ◌∷◌, map, Option, Some, None, codes, if◌then◌else◌}
+use Rattle.std.specs.Prelude.{List, [], ◌∷◌, map, Option, Some, None, codes, option_map, if◌then◌else◌}
 use Rattle.std.specs.Borrow.{Bor}
 use Rattle.std.specs.Path.{path_file_name}
 use Rattle.std.specs.Str.{bytes_eq}
@@ -35,3 +35,8 @@ by_name (Some peer) words = Some (peer, words)
 
 abbrev pub peer_told : Text → List Text → Option (Peer × List Text)
 peer_told name words = by_name (named_by name) words
+
+-- the tool whose help words ask for: `help`, and behind it the tool's name
+abbrev pub helped : List Text → Option Peer
+helped [] = None
+helped (first ∷ behind) = if bytes_eq first (codes "help") then option_map (λ line. line.0) (worded_by behind) else None

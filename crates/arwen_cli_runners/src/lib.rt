@@ -14,5 +14,5 @@ pub use crate::elf_lines::files_ending;
 pub use crate::ending::Ending;
 pub use crate::files::LineFiles;
 pub use crate::name_lines::name_words;
-pub use crate::peers::{Peer, peer_of};
+pub use crate::peers::{Peer, helped_peer, peer_of};
 pub use crate::running::run_line;

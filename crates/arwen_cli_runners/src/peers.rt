@@ -1,6 +1,6 @@
 //! Whose line the program's name and words are.
 ghost use Rattle.std.specs.Prelude.{◌≡◌, map, option_map};
-ghost use Rattle.arwen_cli_runners.specs.Peers.{line_shown, named_by, peer_told, worded_by};
+ghost use Rattle.arwen_cli_runners.specs.Peers.{helped, line_shown, named_by, peer_told, worded_by};
 
 use std::path::Path;
 
@@ -21,6 +21,17 @@ pub fn peer_of<'w, 'a>(name: &str, words: &'w [&'a str]) -> Option<(Peer, &'w [&
     match peer_named(name) {
         Some(peer) => Some((peer, words)),
         None => peer_worded(words),
+    }
+}
+
+/// The tool whose help these words ask for: `help`, and behind it the tool's name. `None` where they don't. Takes no memory.
+pub fn helped_peer(words: &[&str]) -> Option<Peer>
+    ensures { result ≡ helped (map (λ w. w.now) words.now) }
+{
+    let (first, behind) = words.split_first()?;
+    match *first {
+        "help" => Some(peer_worded(behind)?.0),
+        _ => None,
     }
 }
 
