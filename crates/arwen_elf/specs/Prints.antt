@@ -1,10 +1,13 @@
--- What is printed: each text lossily, with a line feed. And the run path, cut into directories.
-use Rattle.std.specs.Prelude.{ℕ, List, [], ◌∷◌, ◌++◌, Option, Some, None, ◌==◌, if◌then◌else◌, bit_and, encode_utf8_all}
+-- What is printed: each text lossily, with a line feed; and what a writer got where that fails. And the run path, cut into directories.
+use Rattle.std.specs.Prelude.{ℕ, ◌≡◌, ◌<◌, List, [], ◌∷◌, ◌++◌, Option, Some, None, ◌==◌, if◌then◌else◌, bit_and, encode_utf8_all, length, take}
 use Rattle.std.specs.List.{flat_map, slice_split}
 use Rattle.std.specs.Fmt.{decimal}
+use Rattle.std.specs.Io.KnownBytes.{Appends}
 use Rattle.bstr.specs.Utf8.{lossy_chars}
 use Rattle.elf_image.specs.Views.{View}
 use Rattle.arwen_elf_writer.specs.Reads.{needed_shown, runpath_shown, searched_shown, soname_shown}
+use Rattle.arwen_elf_writer.specs.ElfError.{ElfError}
+use Rattle.arwen_elf_writer.specs.ElfError.TheVariants.{Io, Memory}
 
 -- the UTF-8 text of bytes, with U+FFFD for what is no character
 abbrev pub lossily : List ℕ → List ℕ
@@ -62,3 +65,20 @@ stack_line (Some flags) = (if bit_and flags 1 == 0 then 45 else 88) ∷ 10 ∷ [
 
 abbrev pub printed_exec_stack : View → List ℕ
 printed_exec_stack view = stack_line view.stack_flags
+
+-- ---- what a writer got where printing fails
+
+-- the first bytes of a text were appended, but not all
+abbrev pub IsCutShort : List ℕ → Option (List ℕ) → Option (List ℕ) → Type 0
+IsCutShort text old new = (n : ℕ) × (n < length text) × Appends old new (take n text)
+
+-- an error of printing a text: there was no memory, and the writer is as it was; or the writer failed, and got the first bytes
+abbrev pub FailsPrint : {W : Type 0} → (W → Option (List ℕ)) → List ℕ → W → W → ElfError → Type 0
+FailsPrint contents text old new Memory = new ≡ old
+FailsPrint contents text old new (Io e) = IsCutShort text (contents old) (contents new)
+FailsPrint contents text old new e = ⊥
+
+-- an error of printing a text without memory: the writer failed, and got the first bytes
+abbrev pub FailsWrite : {W : Type 0} → (W → Option (List ℕ)) → List ℕ → W → W → ElfError → Type 0
+FailsWrite contents text old new (Io e) = IsCutShort text (contents old) (contents new)
+FailsWrite contents text old new e = ⊥

@@ -3,7 +3,9 @@
 #![tactic(auto)]
 
 pub mod elf;
+mod writing;
 
+pub use crate::writing::write_whole;
 pub use arwen_elf_writer::{
     CountedWrite, LayoutFault, Plan, Sink, image_bytes, image_pieces, image_pieces_from_read,
     lay_out, write_all_counted,

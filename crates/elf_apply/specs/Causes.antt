@@ -4,7 +4,7 @@ use Rattle.elf_image.specs.Image.{Image}
 use Rattle.elf_format.specs.declared.fault.ElfFault.{ElfFault}
 use Rattle.elf_format.specs.declared.fault.ElfFault.TheVariants.{Memory as fault_memory}
 use Rattle.elf_apply.specs.declared.error.ElfError.{ElfError}
-use Rattle.elf_apply.specs.declared.error.ElfError.TheVariants.{Io, Memory, Parse}
+use Rattle.elf_apply.specs.declared.error.ElfError.TheVariants.{Memory, Parse}
 
 abbrev pub of_fault : ElfFault → ElfError
 of_fault fault_memory = Memory
@@ -15,14 +15,3 @@ abbrev pub RefusesRead : ElfError → Result Image ElfFault → Type 0
 RefusesRead Memory answer = Unit {0}
 RefusesRead (Parse fault) answer = answer ≡ Err fault
 RefusesRead other answer = ⊥
-
--- an error of printing: there was no memory, and the writer is as it was, or the writer failed
-abbrev pub FailsPrint : {W : Type 0} → W → W → ElfError → Type 0
-FailsPrint old new Memory = new ≡ old
-FailsPrint old new (Io fault) = Unit {0}
-FailsPrint old new other = ⊥
-
--- an error of printing that takes no memory: the writer failed
-abbrev pub FailsWrite : ElfError → Type 0
-FailsWrite (Io fault) = Unit {0}
-FailsWrite other = ⊥

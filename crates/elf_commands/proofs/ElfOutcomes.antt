@@ -11,7 +11,7 @@ use Rattle.elf_edits.specs.Cause.{Cause}
 use Rattle.elf_edits.specs.Edit.{Edit}
 use Rattle.elf_edits.specs.Edited.{step}
 use Rattle.elf_edits.specs.Laws.{BatchesAreTheirEdits, EditsShow, viewed}
-use Rattle.elf_commands_steps.specs.Causes.{FailsPrint}
+use Rattle.elf_commands_steps.specs.Prints.{FailsPrint}
 use Rattle.elf_commands_steps.specs.Told.{RefusesAt, RefusesBatch}
 use Rattle.elf_commands_steps.specs.WriterModel.{ShowsBothViews}
 use Rattle.elf_commands_steps.specs.Written.{IsImageWritten, IsNoImage}
@@ -27,7 +27,8 @@ use Rattle.command_words.specs.Rows.{Text}
 use Rattle.elf_commands_steps.specs.Images.{AreChanged, TellsNoImage}
 use Rattle.elf_commands.specs.ElfEngine.{AreEditsAsked, IsBatchEdited, IsElfEdited, LeavesBatch, LeavesElf, Makes, MayFailAs, ShowsEdits, TellsEachFile, TellsEdit, TellsElfOf, TellsRefusedAt, TellsRun, bytes_left, elf_refusal}
 use Rattle.elf_commands_steps.specs.ElfErrors.{answer_to_elf, answer_to_elf_fault}
-use Rattle.elf_commands.specs.Prints.{PrintMayFail, TellsElf}
+use Rattle.elf_commands.specs.Meaning.{ElfMeaning}
+use Rattle.elf_commands.specs.Prints.{PrintMayFail, TellsElf, printed}
 use Rattle.elf_commands_steps.specs.declared.error.ElfCommandError.{ElfCommandError}
 use Rattle.elf_commands_steps.specs.declared.error.ElfCommandError.TheVariants.{Edits, Elf, ElfBatch, Io, Memory}
 
@@ -241,13 +242,14 @@ tells_no_bytes a edits file made e are makes told =
 -- ## A run
 
 -- an accepted file isn't printed
-pub tells_unprinted : {W : Type 0} (file : List ℕ) (read : Image) (old new : W) (e : ElfError) → image_of file ≡ Ok read → FailsPrint old new e → TellsElf (image_of file) old new (answer_to_elf e)
-tells_unprinted file read old new elf.Memory is fails = fails
-tells_unprinted file read old new (elf.Io e) is fails = (read, is)
-tells_unprinted file read old new (elf.Parse fault) is fails = absurd fails
-tells_unprinted file read old new (elf.Write fault) is fails = absurd fails
-tells_unprinted file read old new (elf.Modify cause) is fails = absurd fails
-tells_unprinted file read old new elf.InvalidDtNeededEncoding is fails = absurd fails
+module _ {W : Type 0} (contents : W → Option (List ℕ)) (meaning : ElfMeaning) (file : List ℕ) where
+  pub tells_unprinted : (read : Image) (old new : W) (e : ElfError) → image_of file ≡ Ok read → FailsPrint contents (printed meaning (shown read)) old new e → TellsElf contents meaning (image_of file) old new (answer_to_elf e)
+  tells_unprinted read old new elf.Memory is fails = fails
+  tells_unprinted read old new (elf.Io e) is fails = (read, is, fails)
+  tells_unprinted read old new (elf.Parse fault) is fails = absurd fails
+  tells_unprinted read old new (elf.Write fault) is fails = absurd fails
+  tells_unprinted read old new (elf.Modify cause) is fails = absurd fails
+  tells_unprinted read old new elf.InvalidDtNeededEncoding is fails = absurd fails
 
 -- a command that prints has no edit that could fail
 no_fault : (file : List ℕ) (e : ElfError) → TellsElfOf printing file e → ⊥
@@ -275,22 +277,23 @@ only_memory prefixes file (Elf e) tells = absurd (no_fault_yet prefixes file e t
 only_memory prefixes file (ElfBatch e) tells = absurd tells
 only_memory prefixes file (Io e) tells = absurd tells
 
-prints_tell : {W : Type 0} (file : List ℕ) (old new : W) (e : ElfCommandError) → new ≡ old → TellsEdit printing file e → TellsElf (image_of file) old new e
-prints_tell file old new Memory same tells = same
-prints_tell file old new (Edits wrong) same tells = absurd (cc)
-prints_tell file old new (Elf e) same tells = absurd (no_fault file e tells)
-prints_tell file old new (ElfBatch e) same tells = absurd tells
-prints_tell file old new (Io e) same tells = absurd tells
+module _ {W : Type 0} (contents : W → Option (List ℕ)) (meaning : ElfMeaning) (file : List ℕ) where
+  prints_tell : (old new : W) (e : ElfCommandError) → new ≡ old → TellsEdit printing file e → TellsElf contents meaning (image_of file) old new e
+  prints_tell old new Memory same tells = same
+  prints_tell old new (Edits wrong) same tells = absurd (cc)
+  prints_tell old new (Elf e) same tells = absurd (no_fault file e tells)
+  prints_tell old new (ElfBatch e) same tells = absurd tells
+  prints_tell old new (Io e) same tells = absurd tells
 
--- an error of reading edits
-pub tells_words : {W : Type 0} (a : ElfAsked) (file : List ℕ) (old new : W) (e : ElfCommandError) → new ≡ old → TellsEachFile a e → TellsRun a file old new e
-tells_words (one edit) file old new e same tells = (same, tells file)
-tells_words (several read) file old new e same tells = (same, tells file)
-tells_words (shrinking prefixes) file old new e same tells =
-    let P : ElfCommandError → Type 0 = λ x. TellsElf (image_of file) old new x in subst P (sym (only_memory prefixes file e (tells file))) same
-tells_words (of_symbols edit) file old new e same tells = (same, tells file)
-tells_words (in_turn edits) file old new e same tells = (same, tells file)
-tells_words printing file old new e same tells = prints_tell file old new e same (tells file)
+  -- an error of reading edits
+  pub tells_words : (a : ElfAsked) (old new : W) (e : ElfCommandError) → new ≡ old → TellsEachFile a e → TellsRun contents meaning a file old new e
+  tells_words (one edit) old new e same tells = (same, tells file)
+  tells_words (several read) old new e same tells = (same, tells file)
+  tells_words (shrinking prefixes) old new e same tells =
+      let P : ElfCommandError → Type 0 = λ x. TellsElf contents meaning (image_of file) old new x in subst P (sym (only_memory prefixes file e (tells file))) same
+  tells_words (of_symbols edit) old new e same tells = (same, tells file)
+  tells_words (in_turn edits) old new e same tells = (same, tells file)
+  tells_words printing old new e same tells = prints_tell old new e same (tells file)
 
 -- ## Why a command may fail
 

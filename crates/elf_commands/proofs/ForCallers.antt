@@ -55,11 +55,12 @@ pub runs_words : (meaning : ElfMeaning) (read : Result (List GroupEdit) EditFaul
 runs_words meaning (Ok edits) file answer old new runs = runs_edits meaning (has_symbols edits) edits file answer old new runs
 runs_words meaning (Err fault) file answer old new runs = runs.0
 
-tells_edits : {W : Type 0} (mixed : Bool) (edits : List GroupEdit) (file : List ℕ) (old new : W) (e : ElfCommandError) → TellsRun (asked_of_edits mixed edits) file old new e → TellsEdit (asked_of_edits mixed edits) file e
-tells_edits true edits file old new e tells = tells.1
-tells_edits false edits file old new e tells = tells.1
+module _ {W : Type 0} (contents : W → Option (List ℕ)) (meaning : ElfMeaning) where
+  tells_edits : (mixed : Bool) (edits : List GroupEdit) (file : List ℕ) (old new : W) (e : ElfCommandError) → TellsRun contents meaning (asked_of_edits mixed edits) file old new e → TellsEdit (asked_of_edits mixed edits) file e
+  tells_edits true edits file old new e tells = tells.1
+  tells_edits false edits file old new e tells = tells.1
 
--- an error tells why they make none
-pub words_tell : {W : Type 0} (read : Result (List GroupEdit) EditFault) (file : List ℕ) (old new : W) (e : ElfCommandError) → TellsRun (asked_of_words read) file old new e → TellsEdit (asked_of_words read) file e
-words_tell (Ok edits) file old new e tells = tells_edits (has_symbols edits) edits file old new e tells
-words_tell (Err fault) file old new e tells = tells.1
+  -- an error tells why they make none
+  pub words_tell : (read : Result (List GroupEdit) EditFault) (file : List ℕ) (old new : W) (e : ElfCommandError) → TellsRun contents meaning (asked_of_words read) file old new e → TellsEdit (asked_of_words read) file e
+  words_tell (Ok edits) file old new e tells = tells_edits (has_symbols edits) edits file old new e tells
+  words_tell (Err fault) file old new e tells = tells.1

@@ -78,13 +78,13 @@ tells_unmade edit file read made e is makes none =
 
 -- ## Over bytes
 
-pub quiet_shrink : {W : Type 0} (edit : Edit) (file : List ℕ) (w : W) (e : ElfError) → TellsEdit (one edit) file (answer_to_elf e) → TellsShrink edit file w w (answer_to_elf e)
-quiet_shrink edit file w elf.Memory tells = (refl, tells)
-quiet_shrink edit file w (elf.Parse fault) tells = (refl, tells)
-quiet_shrink edit file w (elf.Modify cause) tells = (refl, tells)
-quiet_shrink edit file w (elf.Io e) tells = (refl, tells)
-quiet_shrink edit file w (elf.Write fault) tells = (refl, tells)
-quiet_shrink edit file w elf.InvalidDtNeededEncoding tells = (refl, tells)
+pub quiet_shrink : {W : Type 0} (contents : W → Option (List ℕ)) (edit : Edit) (file : List ℕ) (w : W) (e : ElfError) → TellsEdit (one edit) file (answer_to_elf e) → TellsShrink contents edit file w w (answer_to_elf e)
+quiet_shrink contents edit file w elf.Memory tells = (refl, tells)
+quiet_shrink contents edit file w (elf.Parse fault) tells = (refl, tells)
+quiet_shrink contents edit file w (elf.Modify cause) tells = (refl, tells)
+quiet_shrink contents edit file w (elf.Io e) tells = (refl, tells)
+quiet_shrink contents edit file w (elf.Write fault) tells = (refl, tells)
+quiet_shrink contents edit file w elf.InvalidDtNeededEncoding tells = (refl, tells)
 
 -- the answer for an image with shrunk run paths is that for its file
 pub shrunk_bytes : EditsShow → BatchesAreTheirEdits → (edit : Edit) (file : List ℕ) (read made : Image) (answer : Option (Vec ℕ Global)) → image_of file ≡ Ok read → ShowsBothViews file read
@@ -104,13 +104,16 @@ unmade : {W : Type 0} (edit : Edit) (file : List ℕ) (read made : Image) (old n
 unmade edit file read made old new e is makes none =
     let P : ElfCommandError → Type 0 = λ x. TellsEdit (one edit) file x in subst P (sym none.2) (tells_unmade edit file read made none.0 is makes none.1)
 
-pub tells_shrink : {W : Type 0} → EditsShow → BatchesAreTheirEdits → (edit : Edit) (file : List ℕ) (read made : Image) (old new : W) (e : ElfCommandError) → image_of file ≡ Ok read → ShowsBothViews file read
-    → step edit read ≡ Ok made → TellsUntold made old new e → TellsShrink edit file old new e
-tells_shrink edits_show batches edit file read made old new (Io e) is views makes told = (told.0, shrunk_bytes edits_show batches edit file read made told.0 is views makes told.1)
-tells_shrink edits_show batches edit file read made old new Memory is views makes told = (told.0, tt)
-tells_shrink edits_show batches edit file read made old new (Elf e) is views makes told = (told.0, unmade edit file read made old new (Elf e) is makes told.1)
-tells_shrink edits_show batches edit file read made old new (ElfBatch e) is views makes told = (told.0, unmade edit file read made old new (ElfBatch e) is makes told.1)
-tells_shrink edits_show batches edit file read made old new (Edits e) is views makes told = (told.0, unmade edit file read made old new (Edits e) is makes told.1)
+pub tells_shrink : {W : Type 0} (contents : W → Option (List ℕ)) → EditsShow → BatchesAreTheirEdits → (edit : Edit) (file : List ℕ) (read made : Image) (removed : Vec Removed Global) (old new : W) (e : ElfCommandError) → image_of file ≡ Ok read → ShowsBothViews file read
+    → Steps edit read made removed → TellsUntold contents made (map removal_model removed.items) old new e → TellsShrink contents edit file old new e
+tells_shrink contents edits_show batches edit file read made removed old new (Io e) is views steps told = (
+  (told.0.0, shrunk_bytes edits_show batches edit file read made told.0.0 is views steps.makes told.0.1),
+  (removal_lines (map removal_model removed.items), (read, is, ap removal_lines steps.are), told.1),
+)
+tells_shrink contents edits_show batches edit file read made removed old new Memory is views steps told = (told.0, tt)
+tells_shrink contents edits_show batches edit file read made removed old new (Elf e) is views steps told = (told.0, unmade edit file read made old new (Elf e) is steps.makes told.1)
+tells_shrink contents edits_show batches edit file read made removed old new (ElfBatch e) is views steps told = (told.0, unmade edit file read made old new (ElfBatch e) is steps.makes told.1)
+tells_shrink contents edits_show batches edit file read made removed old new (Edits e) is views steps told = (told.0, unmade edit file read made old new (Edits e) is steps.makes told.1)
 
 -- ## Over a store
 

@@ -232,10 +232,10 @@ abbrev pub TellsEachFile : ElfAsked → ElfCommandError → Type 0
 TellsEachFile a e = (file : List ℕ) → TellsEdit a file e
 
 -- an error of a run; only a writer that fails may have got something
-abbrev pub TellsRun : {W : Type 0} → ElfAsked → List ℕ → W → W → ElfCommandError → Type 0
-TellsRun printing file old new e = TellsElf (image_of file) old new e
-TellsRun (shrinking prefixes) file old new e = TellsElf (image_of file) old new e
-TellsRun a file old new e = (new ≡ old) × TellsEdit a file e
+abbrev pub TellsRun : {W : Type 0} → (W → Option (List ℕ)) → ElfMeaning → ElfAsked → List ℕ → W → W → ElfCommandError → Type 0
+TellsRun contents meaning printing file old new e = TellsElf contents meaning (image_of file) old new e
+TellsRun contents meaning (shrinking prefixes) file old new e = TellsElf contents meaning (image_of file) old new e
+TellsRun contents meaning a file old new e = (new ≡ old) × TellsEdit a file e
 
 -- a refused edit as it is answered to a command: of several it is told which one is refused
 abbrev pub elf_refusal : ElfAsked → ElfBatchError → ElfCommandError

@@ -1,7 +1,7 @@
 -- What a command prints of an ELF file.
 use Rattle.std.specs.Prelude.{◌≡◌, ℕ, List, [], Option, Some, Ok, Err, Result, ⊤}
 use Rattle.std.specs.Io.KnownBytes.{Appends}
-use Rattle.elf_commands_steps.specs.Prints.{printed_exec_stack, printed_interpreter, printed_needed}
+use Rattle.elf_commands_steps.specs.Prints.{IsCutShort, printed_exec_stack, printed_interpreter, printed_needed}
 use Rattle.elf_commands_steps.specs.Prints.{printed_os_abi, printed_runpath, printed_soname}
 use Rattle.elf_commands_steps.specs.ElfError.{ElfError}
 use Rattle.elf_commands_steps.specs.ElfError.TheVariants as elf
@@ -34,17 +34,18 @@ Prints meaning read old new =
     (image : Image) × (read ≡ Ok image) × Appends old new (printed meaning (shown image))
 
 -- ---- which answer tells what; want of memory may be answered in any case, and only a writer that
--- fails may have got something
+-- fails may have got something: the first bytes of what the command prints
 
-abbrev pub TellsElfFault : {W : Type 0} → Result Image ElfFault → W → W → ElfError → Type 0
-TellsElfFault read old new (elf.Parse fault) = (read ≡ Err fault) × (new ≡ old)
-TellsElfFault read old new (elf.Io e) = (image : Image) × (read ≡ Ok image)
-TellsElfFault read old new _ = ⊥
+abbrev pub TellsElfFault : {W : Type 0} → (W → Option (List ℕ)) → ElfMeaning → Result Image ElfFault → W → W → ElfError → Type 0
+TellsElfFault contents meaning read old new (elf.Parse fault) = (read ≡ Err fault) × (new ≡ old)
+TellsElfFault contents meaning read old new (elf.Io e) =
+    (image : Image) × (read ≡ Ok image) × IsCutShort (printed meaning (shown image)) (contents old) (contents new)
+TellsElfFault contents meaning read old new _ = ⊥
 
-abbrev pub TellsElf : {W : Type 0} → Result Image ElfFault → W → W → ElfCommandError → Type 0
-TellsElf read old new Memory = new ≡ old
-TellsElf read old new (Elf e) = TellsElfFault read old new e
-TellsElf read old new _ = ⊥
+abbrev pub TellsElf : {W : Type 0} → (W → Option (List ℕ)) → ElfMeaning → Result Image ElfFault → W → W → ElfCommandError → Type 0
+TellsElf contents meaning read old new Memory = new ≡ old
+TellsElf contents meaning read old new (Elf e) = TellsElfFault contents meaning read old new e
+TellsElf contents meaning read old new _ = ⊥
 
 -- the error of a command that prints: a file's or the output's, want of memory, or the first rule that some
 -- file breaks

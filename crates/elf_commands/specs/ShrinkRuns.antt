@@ -18,6 +18,7 @@ use Rattle.elf_commands.specs.ElfEngine.{IsElfEdited, LeavesElf, RunsElf, TellsE
 use Rattle.elf_commands.specs.ElfStores.{WritesEnd}
 use Rattle.elf_commands.specs.Meaning.{ElfMeaning, shrink_elf}
 use Rattle.command_words.specs.Rows.{Text}
+use Rattle.elf_commands_steps.specs.Prints.{IsCutShort}
 use Rattle.elf_commands_steps.specs.Shrinking.{AreFound, Finding, removal_lines}
 use Rattle.elf_commands_steps.specs.declared.error.ElfCommandError.{ElfCommandError}
 use Rattle.elf_commands_steps.specs.declared.error.ElfCommandError.TheVariants.{Io, Memory}
@@ -36,10 +37,16 @@ GetsRemoved edit read old new = (text : Text) × TellsRemoved edit read text × 
 abbrev pub RunsShrink : Edit → List ℕ → Option (Vec ℕ Global) → Option (List ℕ) → Option (List ℕ) → Type 0
 RunsShrink edit file answer old new = IsElfEdited (one edit) file answer × GetsRemoved edit (image_of file) old new
 
--- an error: the writer failed once the new bytes were there; or the edit is refused, and the writer got nothing
-abbrev pub TellsShrink : {W : Type 0} → Edit → List ℕ → W → W → ElfCommandError → Type 0
-TellsShrink edit file old new (Io e) = (answer : Option (Vec ℕ Global)) × IsElfEdited (one edit) file answer
-TellsShrink edit file old new e = (new ≡ old) × TellsEdit (one edit) file e
+-- a writer gets the first bytes of these lines, but not all
+abbrev pub GetsSomeRemoved : Edit → Result Image ElfFault → Option (List ℕ) → Option (List ℕ) → Type 0
+GetsSomeRemoved edit read old new = (text : Text) × TellsRemoved edit read text × IsCutShort text old new
+
+-- an error: the writer failed once the new bytes were there, and got the first bytes of the lines; or the edit is refused, and the
+-- writer got nothing
+abbrev pub TellsShrink : {W : Type 0} → (W → Option (List ℕ)) → Edit → List ℕ → W → W → ElfCommandError → Type 0
+TellsShrink contents edit file old new (Io e) = ((answer : Option (Vec ℕ Global)) × IsElfEdited (one edit) file answer)
+    × GetsSomeRemoved edit (image_of file) (contents old) (contents new)
+TellsShrink contents edit file old new e = (new ≡ old) × TellsEdit (one edit) file e
 
 -- ---- over a store
 
@@ -121,6 +128,7 @@ RunsCommand (shrink_elf path prefixes) found file answer old new = RunsShrink (S
 RunsCommand meaning found file answer old new = RunsElf meaning (elf_asked meaning) file answer old new
 
 -- an error of a run
-abbrev pub TellsCommand : {W : Type 0} → ElfMeaning → List Answer → List ℕ → W → W → ElfCommandError → Type 0
-TellsCommand (shrink_elf path prefixes) found file old new e = TellsShrink (ShrinkRunPath prefixes found) file old new e
-TellsCommand meaning found file old new e = TellsRun (elf_asked meaning) file old new e
+abbrev pub TellsCommand : {W : Type 0} → (W → Option (List ℕ)) → ElfMeaning → List Answer → List ℕ → W → W → ElfCommandError → Type 0
+TellsCommand contents (shrink_elf path prefixes) found file old new e =
+    TellsShrink contents (ShrinkRunPath prefixes found) file old new e
+TellsCommand contents meaning found file old new e = TellsRun contents meaning (elf_asked meaning) file old new e

@@ -6,6 +6,7 @@ use Rattle.std.specs.declared.vec.Vec.{Vec}
 use Rattle.byte_store.specs.Composed.{IsDifference, made_of}
 use Rattle.byte_store.specs.declared.composed.Difference.{Difference}
 use Rattle.command_words.specs.Rows.{Text}
+use Rattle.arwen_elf.specs.Prints.{IsCutShort}
 use Rattle.arwen_elf.specs.Told.{Refuses}
 use Rattle.arwen_elf.specs.ElfError.{ElfError}
 use Rattle.elf_edits.specs.Edit.{Edit}
@@ -31,10 +32,12 @@ pub record Steps (edit : Edit) (old new : Image) (removed : Vec Removed Global) 
 abbrev pub IsRemovalTold : Image → List Removal → Option (Vec ℕ Global) → Option (List ℕ) → Option (List ℕ) → Type 0
 IsRemovalTold made removed answer old new = AreChanged made answer × Appends old new (removal_lines removed)
 
--- an error of that: the writer failed once the answer was there; or there is none, and the writer got nothing
-abbrev pub TellsUntold : {W : Type 0} → Image → W → W → ElfCommandError → Type 0
-TellsUntold made old new (Io e) = (answer : Option (Vec ℕ Global)) × AreChanged made answer
-TellsUntold made old new e = (new ≡ old) × TellsNoImage made e
+-- an error of that: the writer failed once the answer was there, and got the first bytes of the lines; or there is no answer, and
+-- the writer got nothing
+abbrev pub TellsUntold : {W : Type 0} → (W → Option (List ℕ)) → Image → List Removal → W → W → ElfCommandError → Type 0
+TellsUntold contents made removed old new (Io e) = ((answer : Option (Vec ℕ Global)) × AreChanged made answer)
+    × IsCutShort (removal_lines removed) (contents old) (contents new)
+TellsUntold contents made removed old new e = (new ≡ old) × TellsNoImage made e
 
 -- what differs from the bytes of a file once an edit of its image took directories out of run paths, and their lines
 pub record IsShrunkImage (edit : Edit) (read : Image) (d : Difference) (text : Text) : Type 0 where

@@ -11,7 +11,7 @@ ghost use Rattle.elf_commands_steps.specs.ShrunkImages.{IsRemovalTold, IsShrunkI
 ghost use Rattle.elf_commands_steps.specs.Written.{IsImageWritten};
 
 use crate::error::ElfCommandError;
-use crate::files::{ElfContainer, ElfError, ProbeAnswer, Removed};
+use crate::files::{ElfContainer, ElfError, ProbeAnswer, Removed, write_whole};
 use crate::images::{changed_bytes, pieces_of};
 use crate::probing::removal_text;
 use crate::texts::texts_of;
@@ -54,11 +54,12 @@ pub fn tell_removed<W: Write>(
 ) -> Result<Option<Vec<u8>>, ElfCommandError>
     ensures told { IfOk result (λ new. IsRemovalTold elf.entry.inner
         (map removal_model removed.items) new (W.contents out.old) (W.contents out.new)) }
-    ensures err { IfErr result (TellsUntold elf.entry.inner out.old out.new) }
+    ensures err { IfErr result (TellsUntold W.contents elf.entry.inner
+        (map removal_model removed.items) out.old out.new) }
 {
     let new = changed_bytes(alloc, elf)?;
     let text = removal_text(alloc, removed)?;
-    out.write_all(text.as_bytes())?;
+    write_whole(text.as_bytes(), out)?;
     Ok(new)
 }
 

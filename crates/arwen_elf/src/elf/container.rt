@@ -4,15 +4,16 @@ ghost use Rattle.std.specs.List.{flat_map, slice_split};
 ghost use Rattle.std.specs.Io.KnownBytes.{Appends};
 ghost use Rattle.elf_image.specs.Image.{image_of, shown};
 ghost use Rattle.elf_image.specs.Answers.{borrowed};
-ghost use Rattle.arwen_elf_writer.specs.Causes.{FailsPrint, FailsWrite, RefusesRead};
+ghost use Rattle.arwen_elf_writer.specs.Causes.{RefusesRead};
 ghost use Rattle.arwen_elf_writer.specs.PageSizes.{page_size_for};
-ghost use Rattle.arwen_elf.specs.Prints.{before_nul as bytes_before_nul, cut_at_colons as parts_between_colons, directories_shown, line_if, line_of, lossily, printed_exec_stack, printed_interpreter, printed_needed, printed_os_abi, printed_runpath, printed_soname, stack_line};
+ghost use Rattle.arwen_elf.specs.Prints.{FailsPrint, FailsWrite, before_nul as bytes_before_nul, cut_at_colons as parts_between_colons, directories_shown, line_if, line_of, lossily, printed_exec_stack, printed_interpreter, printed_needed, printed_os_abi, printed_runpath, printed_soname, stack_line};
 ghost use Rattle.arwen_elf_writer.specs.WriterModel.{ShowsBothViews, needed_left};
 ghost use Rattle.arwen_elf_writer.specs.NewFile.{HoldsImage, IsNotStored};
 ghost use Rattle.arwen_elf_writer.specs.Written.{AnswersBytes, AnswersPieces, AnswersWrite, IsIo, MayNotWrite};
 
 use crate::elf::rewriter::new_file::NotWritten;
 use crate::elf::rewriter::writer::{Needed, Writer};
+use crate::writing::write_whole;
 use arwen_elf_writer::CountedWrite;
 use arwen_elf_writer::error::{ElfError, Result};
 use bstr::ByteSlice;
@@ -62,9 +63,9 @@ fn lines_of(alloc: Global, texts: Needed<'_>) -> std::result::Result<String, All
 fn write_text<W: Write>(out: &mut W, text: String) -> Result<()>
     ensures prints { OnOk result (Appends (W.contents out.old) (W.contents out.new)
         (string_bytes text)) }
-    ensures fails { IfErr result FailsWrite }
+    ensures fails { IfErr result (FailsWrite W.contents (string_bytes text) out.old out.new) }
 {
-    let answer = out.write_all(text.as_bytes());
+    let answer = write_whole(text.as_bytes(), out);
     drop(text);
     Ok(answer?)
 }
@@ -73,7 +74,7 @@ fn write_text<W: Write>(out: &mut W, text: String) -> Result<()>
 fn write_line<W: Write>(alloc: Global, out: &mut W, text: &[u8]) -> Result<()>
     ensures prints { OnOk result (Appends (W.contents out.old) (W.contents out.new)
         (line_of text.now)) }
-    ensures fails { IfErr result (FailsPrint out.old out.new) }
+    ensures fails { IfErr result (FailsPrint W.contents (line_of text.now) out.old out.new) }
 {
     write_text(out, line(alloc, text)?)
 }
@@ -82,7 +83,8 @@ fn write_line<W: Write>(alloc: Global, out: &mut W, text: &[u8]) -> Result<()>
 fn write_line_if<W: Write>(alloc: Global, out: &mut W, text: Option<&[u8]>) -> Result<()>
     ensures prints { OnOk result (Appends (W.contents out.old) (W.contents out.new)
         (line_if (option_map borrowed text.entry))) }
-    ensures fails { IfErr result (FailsPrint out.old out.new) }
+    ensures fails { IfErr result (FailsPrint W.contents (line_if (option_map borrowed text.entry))
+        out.old out.new) }
 {
     match text {
         None => Ok(()),
@@ -202,7 +204,8 @@ impl<'a> ElfContainer<'a> {
     pub fn print_runpath<W: Write>(&self, alloc: Global, out: &mut W) -> Result<()>
         ensures prints { OnOk result (Appends (W.contents out.old) (W.contents out.new)
             (printed_runpath (shown self.now.inner))) }
-        ensures fails { IfErr result (FailsPrint out.old out.new) }
+        ensures fails { IfErr result (FailsPrint W.contents (printed_runpath (shown self.now.inner))
+            out.old out.new) }
     {
         write_line_if(alloc, out, self.inner.elf_runpath())
     }
@@ -212,7 +215,8 @@ impl<'a> ElfContainer<'a> {
     pub fn print_soname<W: Write>(&self, alloc: Global, out: &mut W) -> Result<()>
         ensures prints { OnOk result (Appends (W.contents out.old) (W.contents out.new)
             (printed_soname (shown self.now.inner))) }
-        ensures fails { IfErr result (FailsPrint out.old out.new) }
+        ensures fails { IfErr result (FailsPrint W.contents (printed_soname (shown self.now.inner))
+            out.old out.new) }
     {
         write_line_if(alloc, out, self.inner.elf_soname())
     }
@@ -222,7 +226,8 @@ impl<'a> ElfContainer<'a> {
     pub fn print_needed<W: Write>(&self, alloc: Global, out: &mut W) -> Result<()>
         ensures prints { OnOk result (Appends (W.contents out.old) (W.contents out.new)
             (printed_needed (shown self.now.inner))) }
-        ensures fails { IfErr result (FailsPrint out.old out.new) }
+        ensures fails { IfErr result (FailsPrint W.contents (printed_needed (shown self.now.inner))
+            out.old out.new) }
     {
         write_text(out, lines_of(alloc, self.inner.elf_needed())?)
     }
@@ -232,7 +237,8 @@ impl<'a> ElfContainer<'a> {
     pub fn print_interpreter<W: Write>(&self, alloc: Global, out: &mut W) -> Result<()>
         ensures prints { OnOk result (Appends (W.contents out.old) (W.contents out.new)
             (printed_interpreter (shown self.now.inner))) }
-        ensures fails { IfErr result (FailsPrint out.old out.new) }
+        ensures fails { IfErr result (FailsPrint W.contents (printed_interpreter (shown self.now.inner))
+            out.old out.new) }
     {
         match self.inner.elf_interpreter() {
             None => Ok(()),
@@ -245,7 +251,8 @@ impl<'a> ElfContainer<'a> {
     pub fn print_os_abi<W: Write>(&self, alloc: Global, out: &mut W) -> Result<()>
         ensures prints { OnOk result (Appends (W.contents out.old) (W.contents out.new)
             (printed_os_abi (shown self.now.inner))) }
-        ensures fails { IfErr result (FailsPrint out.old out.new) }
+        ensures fails { IfErr result (FailsPrint W.contents (printed_os_abi (shown self.now.inner))
+            out.old out.new) }
     {
         let text = number_line(alloc, self.inner.header().os_abi)?;
         write_text(out, text)
@@ -256,11 +263,12 @@ impl<'a> ElfContainer<'a> {
     pub fn print_exec_stack<W: Write>(&self, out: &mut W) -> Result<()>
         ensures prints { OnOk result (Appends (W.contents out.old) (W.contents out.new)
             (printed_exec_stack (shown self.now.inner))) }
-        ensures fails { IfErr result FailsWrite }
+        ensures fails { IfErr result (FailsWrite W.contents (printed_exec_stack (shown self.now.inner))
+            out.old out.new) }
     {
         match self.inner.elf_gnu_exec_stack() {
             None => Ok(()),
-            Some(flags) => Ok(out.write_all(stack_text(flags))?),
+            Some(flags) => Ok(write_whole(stack_text(flags), out)?),
         }
     }
 

@@ -6,7 +6,7 @@ ghost use Rattle.std.specs.Io.KnownBytes.{Appends};
 ghost use Rattle.byte_store.specs.Composed.{IsDifference, made_of};
 ghost use Rattle.elf_commands_steps.specs.Written.{IsNoDifference};
 ghost use Rattle.elf_commands.specs.ElfStores.{ChangesNothing};
-ghost use Rattle.elf_commands_steps.specs.Causes.{FailsPrint};
+ghost use Rattle.elf_commands_steps.specs.Prints.{FailsPrint};
 ghost use Rattle.elf_image.specs.Image.{image_of, shown};
 ghost use Rattle.elf_commands.specs.ElfAsked.{elf_asked};
 ghost use Rattle.elf_commands.specs.ElfEngine.{AreEditsAsked, IsElfEdited, LeavesElf, RunsElf, TellsEdit, TellsRun, bytes_left, elf_refusal};
@@ -45,7 +45,7 @@ pub fn run_elf<W: Write>(
 ) -> Result<Option<Vec<u8>>, ElfCommandError>
     ensures ran { IfOk result (λ new. RunsCommand (elf_command_model command.now)
         (map answer_model probe.now) bytes.now new (W.contents out.old) (W.contents out.new)) }
-    ensures err { IfErr result (TellsCommand (elf_command_model command.now)
+    ensures err { IfErr result (TellsCommand W.contents (elf_command_model command.now)
         (map answer_model probe.now) bytes.now out.old out.new) }
 {
     match command {
@@ -64,8 +64,8 @@ fn run_unprobed<W: Write>(
     ensures ran { IfOk result (λ new. RunsElf (elf_command_model command.now)
         (elf_asked (elf_command_model command.now)) bytes.now new
         (W.contents out.old) (W.contents out.new)) }
-    ensures err { IfErr result
-        (TellsRun (elf_asked (elf_command_model command.now)) bytes.now out.old out.new) }
+    ensures err { IfErr result (TellsRun W.contents (elf_command_model command.now)
+        (elf_asked (elf_command_model command.now)) bytes.now out.old out.new) }
 {
     match asked_by(alloc, command)? {
         AskedEdits::Batch(edits) => edited(alloc, bytes, command, edits.as_slice()),
@@ -155,7 +155,8 @@ fn print_bytes<W: Write>(
 ) -> Result<(), ElfCommandError>
     ensures printed { IfOk result (λ _. Prints (elf_command_model command.now) (image_of bytes.now)
         (W.contents out.old) (W.contents out.new)) }
-    ensures err { IfErr result (λ e. TellsElf (image_of bytes.now) out.old out.new e) }
+    ensures err { IfErr result (TellsElf W.contents (elf_command_model command.now)
+        (image_of bytes.now) out.old out.new) }
 {
     let elf = ElfContainer::parse(alloc, bytes)?;
     let answer = print_asked(alloc, &elf, command, out);
@@ -172,7 +173,8 @@ pub(crate) fn print_asked<W: Write>(
 ) -> Result<(), ElfError>
     ensures printed { IfOk result (λ _. Appends (W.contents out.old) (W.contents out.new)
         (printed (elf_command_model command.now) (shown elf.now.inner))) }
-    ensures err { IfErr result (λ e. FailsPrint out.old out.new e) }
+    ensures err { IfErr result (FailsPrint W.contents
+        (printed (elf_command_model command.now) (shown elf.now.inner)) out.old out.new) }
 {
     match command {
         ElfCommand::PrintRpath(_) => elf.print_runpath(alloc, out),

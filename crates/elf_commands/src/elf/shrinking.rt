@@ -38,7 +38,7 @@ pub(crate) fn run_shrink<W: Write>(
     ensures ran { IfOk result (λ new. RunsShrink (ShrinkRunPath
         (map string_bytes args.now.allowed_rpath_prefixes.items) (map answer_model probe.now))
         bytes.now new (W.contents out.old) (W.contents out.new)) }
-    ensures err { IfErr result (TellsShrink (ShrinkRunPath
+    ensures err { IfErr result (TellsShrink W.contents (ShrinkRunPath
         (map string_bytes args.now.allowed_rpath_prefixes.items) (map answer_model probe.now))
         bytes.now out.old out.new) }
 {

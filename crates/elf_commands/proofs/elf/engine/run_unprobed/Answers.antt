@@ -8,4 +8,4 @@ use Rattle.elf_commands.proofs.elf.engine.run_unprobed.Goals as goal
 pub returns-in_err-edits-clause-err : goal.returns-in_err-edits-clause-err
 returns-in_err-edits-clause-err g c =
     let p = err_from_is_err_and c.from_residual.result c.from_residual.ensures.1 in
-    rw (p.1, p.2) (tells_words (elf_asked (elf_command_model c.args.command.now)) c.args.bytes.now c.args.out.now c.args.out.now _ refl c.in_err-edits.ensures.err)
+    rw (p.1, p.2) (tells_words g.W.Write.contents (elf_command_model c.args.command.now) c.args.bytes.now (elf_asked (elf_command_model c.args.command.now)) c.args.out.now c.args.out.now _ refl c.in_err-edits.ensures.err)
