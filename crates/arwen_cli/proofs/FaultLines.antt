@@ -4,7 +4,7 @@ use Rattle.std.specs.Prelude.{IfOk, String, if◌then◌else◌, string_bytes}
 use Rattle.std.specs.declared.alloc.Global.{Global}
 use Rattle.command_words.specs.Rows.{Text}
 use Rattle.arwen_cli.specs.Meaning.{Meaning}
-use Rattle.arwen_cli.specs.Telling.{IsCausesText, IsLineWith, is_of_line, path_for, path_in, path_of}
+use Rattle.arwen_cli.specs.Telling.{IsCausesText, IsLineWith, is_of_line, path_for, path_in}
 use Rattle.arwen_cli.specs.declared.cli.error.ArwenError.{ArwenError}
 
 -- a line without a path
@@ -29,13 +29,6 @@ path_is error meaning isnt = ap (λ (b : Bool). if b then None else path_in mean
 pub of_no_command : (error : ArwenError) (meaning : Option Meaning) (line : Text) → is_of_line error ≡ false → ((m : Meaning) → meaning ≡ Some m → ⊥) → IsCausesText error line → IsLineWith (path_for error meaning) meaning error line
 of_no_command error meaning line isnt none are =
     plain_line (path_for error meaning) meaning error line (path_is error meaning isnt ∙ ap path_in (no_meaning meaning none)) are
-
--- those of a command name its path
-pub of_command : (error : ArwenError) (meaning : Option Meaning) (m : Meaning) (line : Text) → is_of_line error ≡ false → meaning ≡ Some m → IsLineWith (path_of m) (Some m) error line → IsLineWith (path_for error meaning) meaning error line
-of_command error meaning m line isnt is line_is =
-    let P : Option Text → Type 0 = λ p. IsLineWith p meaning error line in
-    let Q : Option Meaning → Type 0 = λ asked. IsLineWith (path_of m) asked error line in
-    subst P (sym (path_is error meaning isnt ∙ ap path_in is)) (subst Q (sym is) line_is)
 
 -- the line of words that were not read, unless there was no memory for it
 pub of_unread : {E Plain Unread : Type 0} (r : Result (String Global) E) (error : ArwenError) (meaning : Option Meaning) → is_of_line error ≡ false → (Plain → (m : Meaning) → meaning ≡ Some m → Unread) → IfOk r (λ line. Unread → ⊥)

@@ -2,21 +2,15 @@
 use Rattle.std.proofs.Common.{◌≡◌, ◌≤◌, [], ◌∷◌, ◌==◌, arith, false, ℕ, List, Option, Some, inl, inr, length, refl, subst}
 use Rattle.std.specs.declared.io.Error.{Error}
 use Rattle.elf_commands.specs.ElfCommandError.{ElfCommandError}
-use Rattle.elf_commands.specs.ElfCommandError.TheVariants.{Edits, Elf, ElfBatch, Io, Memory}
+use Rattle.elf_commands.specs.ElfCommandError.TheVariants.{Io}
 use Rattle.byte_store.specs.declared.reading.ReadError.TheVariants as read
 use Rattle.command_words.specs.Loading.{IsNotLoaded}
 use Rattle.elf_commands.specs.Failures.{HasReadCause, HasReadCauseAt}
 use Rattle.arwen_cli_patchelf.specs.declared.error.PatchelfError.{PatchelfError}
 use Rattle.arwen_cli_patchelf.specs.declared.error.PatchelfError.TheVariants.{Absent, Command}
 use Rattle.arwen_cli_patchelf.specs.declared.printing.Print.{Print}
-use Rattle.arwen_cli_patchelf.specs.PrintTexts.{line_or_empty}
 use Rattle.arwen_cli_patchelf.specs.Printing.{IfCommand, TellsPrints}
 use Rattle.arwen_cli_patchelf.proofs.OutputLaws.{opened_cause}
-
--- a line that isn't empty stays
-pub line_stays : (line : List ℕ) → (length line == 0) ≡ false → line ≡ line_or_empty line
-line_stays [] some = absurd (cc)
-line_stays (b ∷ bs) some = refl
 
 -- a read that fails later
 of_read_later : (reads : Error → Type 0) (known mid : Option (List ℕ)) (a b c : ℕ) (e : ElfCommandError) → mid ≡ known → a ≤ b → HasReadCause reads mid b c e → HasReadCause reads known a c e

@@ -1,4 +1,3 @@
-pub mod AnsweredLaws
 pub mod BracketLaws
 pub mod EndLaws
 pub mod RunLaws

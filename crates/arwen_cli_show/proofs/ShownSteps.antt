@@ -17,9 +17,6 @@ appends_none : (known : Option (List ℕ)) → Appends known known []
 appends_none None = tt
 appends_none (Some xs) = sym (append-nil xs)
 
-same_appends : (old new : Option (List ℕ)) → new ≡ old → Appends old new []
-same_appends old new same = let P : Option (List ℕ) → Type 0 = λ k. Appends old k [] in subst P (sym same) (appends_none old)
-
 appends_one : (old new : Option (List ℕ)) (text : List ℕ) → Appends old new text → Appends old new (text ++ [])
 appends_one old new text h = let P : List ℕ → Type 0 = Appends old new in subst P (sym (append-nil text)) h
 

@@ -1,6 +1,5 @@
 pub mod DraftLaws
 pub mod NeedLaws
-pub mod NeedSteps
 pub mod StackLaws
 pub mod HeldLaws
 pub mod TakenLaws

@@ -1,11 +1,10 @@
 -- What edits of both kinds, one after the other, make of files and stores.
-use Rattle.std.proofs.Common.{◌≡◌, ◌∙◌, [], ◌∷◌, ℕ, Bool, List, Option, Some, Result, Ok, Err, true, false, ap, subst, sym, inl, inr, refl}
+use Rattle.std.proofs.Common.{◌≡◌, ◌∙◌, [], ◌∷◌, ℕ, List, Option, Some, Ok, ap, subst, sym, inl, inr, refl}
 use Rattle.std.specs.declared.alloc.Global.{Global}
 use Rattle.std.specs.declared.vec.Vec.{Vec}
 use Rattle.byte_store.specs.Composed.{made_of}
 use Rattle.byte_store.specs.Known.{Becomes, IsAll}
 use Rattle.byte_store.specs.declared.composed.Difference.{Difference}
-use Rattle.command_words.specs.declared.edits.EditFault.{EditFault}
 use Rattle.elf_edits.specs.Laws.{EditsShow}
 use Rattle.elf_image.specs.Image.{Image, image_of, shown}
 use Rattle.elf_image.specs.ReadImage.{ReadImagesHoldParts}
@@ -17,11 +16,11 @@ use Rattle.elf_commands_steps.specs.Written.{IsImageWritten, IsNoImage}
 use Rattle.elf_commands_steps.specs.WrittenFile.{IsWrittenOf}
 use Rattle.elf_symbol_edits.specs.Laws.{SymbolEditsKeep}
 use Rattle.elf_symbol_edits.specs.SymbolEdit.{SymbolEdit}
-use Rattle.elf_commands_steps.specs.Groups.{GroupEdit, MakeInTurn, MakesNext, RefuseInTurn, TellsInTurn, has_symbols, plain, symbols}
-use Rattle.elf_commands.specs.ElfAsked.{ElfAsked, asked_of_edits, asked_of_words, asks_edits, asks_in_turn, in_turn, of_symbols, one, printing, several, shrinking}
+use Rattle.elf_commands_steps.specs.Groups.{GroupEdit, MakeInTurn, MakesNext, RefuseInTurn, TellsInTurn, plain, symbols}
+use Rattle.elf_commands.specs.ElfAsked.{ElfAsked, in_turn, of_symbols, one, printing, several, shrinking}
 use Rattle.elf_commands_steps.specs.Images.{AreChanged, TellsNoImage}
 use Rattle.elf_commands.specs.ElfEngine.{AreAskedInTurn, AreEditedInTurn, IsElfEdited, LeaveInTurn, LeavesElf, MakesInTurn, ShowInTurn, TellsEdit, TellsRefusedInTurn, elf_refusal}
-use Rattle.elf_commands_steps.specs.ElfErrors.{answer_to_elf, answer_to_elf_batch, answer_to_elf_fault}
+use Rattle.elf_commands_steps.specs.ElfErrors.{answer_to_elf, answer_to_elf_fault}
 use Rattle.elf_commands.specs.ElfStores.{IsElfPatched}
 use Rattle.elf_commands_steps.specs.declared.error.ElfCommandError.{ElfCommandError}
 use Rattle.elf_commands.proofs.ElfOutcomes.{run_keeps}
@@ -177,34 +176,7 @@ tells_turn_unwritten a edits file made e are makes told =
 
 -- ## A command
 
--- a refused edit of `apply` is told with its number, whichever kinds its edits are of
-refusal_of_edits : (mixed : Bool) (edits : List GroupEdit) (e : ElfBatchError) → elf_refusal (asked_of_edits mixed edits) e ≡ answer_to_elf_batch e
-refusal_of_edits true edits e = refl
-refusal_of_edits false edits e = refl
-
-pub refusal_of_words : (read : Result (List GroupEdit) EditFault) (e : ElfBatchError) → elf_refusal (asked_of_words read) e ≡ answer_to_elf_batch e
-refusal_of_words (Ok edits) e = refusal_of_edits (has_symbols edits) edits e
-refusal_of_words (Err fault) e = refl
-
--- edits in turn are no batch
-pub no_batch : (a : ElfAsked) (edits : List GroupEdit) → AreAskedInTurn a edits → asks_edits a ≡ false
-no_batch (of_symbols edit) edits are = refl
-no_batch (in_turn asked) edits are = refl
-no_batch (one edit) edits are = absurd are
-no_batch (several read) edits are = absurd are
-no_batch (shrinking prefixes) edits are = absurd are
-no_batch printing edits are = absurd are
-
 -- ## Over a store
-
--- a command that asks for no edits leaves the bytes
-pub unpatched : (a : ElfAsked) (old : Option (List ℕ)) → asks_edits a ≡ false → asks_in_turn a ≡ false → IsElfPatched a old old
-unpatched printing old none none_in_turn = refl
-unpatched (shrinking prefixes) old none none_in_turn = refl
-unpatched (one edit) old none none_in_turn = absurd (cc)
-unpatched (several read) old none none_in_turn = absurd (cc)
-unpatched (of_symbols edit) old none none_in_turn = absurd (cc)
-unpatched (in_turn edits) old none none_in_turn = absurd (cc)
 
 -- the difference was made
 pub patched_in_turn : (a : ElfAsked) (edits : List GroupEdit) (old new : Option (List ℕ)) (loaded : List ℕ) (d : Difference) → AreAskedInTurn a edits → IsAll old loaded → LeavesElf a loaded (made_of loaded d)

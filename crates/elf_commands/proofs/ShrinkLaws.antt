@@ -61,14 +61,6 @@ refused_once edit image elf.InvalidDtNeededEncoding refuses = refuses
 
 -- ## What errors tell
 
-pub tells_unread : (edit : Edit) (file : List ℕ) (e : ElfError) → RefusesRead e (image_of file) → TellsEdit (one edit) file (answer_to_elf e)
-tells_unread edit file elf.Memory refuses = tt
-tells_unread edit file (elf.Parse fault) refuses = inl refuses
-tells_unread edit file (elf.Modify cause) refuses = absurd refuses
-tells_unread edit file (elf.Io e) refuses = absurd refuses
-tells_unread edit file (elf.Write fault) refuses = absurd refuses
-tells_unread edit file elf.InvalidDtNeededEncoding refuses = absurd refuses
-
 pub tells_unshrunk : (edit : Edit) (file : List ℕ) (read : Image) (e : ElfError) → image_of file ≡ Ok read → Refuses e (step edit read) → TellsEdit (one edit) file (answer_to_elf e)
 tells_unshrunk edit file read e is refuses = one_refused edit file read 0 e is (refused_once edit read e refuses)
 
@@ -141,15 +133,6 @@ none_found finds file (elf.Modify cause) refuses other image is = absurd refuses
 none_found finds file (elf.Io e) refuses other image is = absurd refuses
 none_found finds file (elf.Write fault) refuses other image is = absurd refuses
 none_found finds file elf.InvalidDtNeededEncoding refuses other image is = absurd refuses
-
-pub unread_shrunk : (finds : Finding) (prefixes : List Text) (file : List ℕ) (e : ElfError) → RefusesRead e (image_of file) → TellsShrunk finds prefixes file (answer_to_elf e)
-unread_shrunk finds prefixes file elf.Memory refuses = tt
-unread_shrunk finds prefixes file (elf.Parse fault) refuses =
-    ([], none_found finds file (elf.Parse fault) refuses (λ same. absurd (cc)), tells_unread (ShrinkRunPath prefixes []) file (elf.Parse fault) refuses)
-unread_shrunk finds prefixes file (elf.Modify cause) refuses = absurd refuses
-unread_shrunk finds prefixes file (elf.Io e) refuses = absurd refuses
-unread_shrunk finds prefixes file (elf.Write fault) refuses = absurd refuses
-unread_shrunk finds prefixes file elf.InvalidDtNeededEncoding refuses = absurd refuses
 
 -- an error of the edit by the answers that were found
 pub told_shrunk : (finds : Finding) (prefixes : List Text) (file : List ℕ) (answers : List Answer) (e : ElfError) → AreFoundIn finds file answers

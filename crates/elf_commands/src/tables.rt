@@ -38,15 +38,15 @@ const ELF_EDITS: &str = "Edits:
   rename-sections [OLD=NEW]...
   delete-sections [NAME]...
 
-With --move-dynamic, the dynamic section moves where it has no room for a further entry.
+With --move-dynamic, the dynamic section may move, to make room for entries and program headers.
 
 Example:
   arwen elf apply libgreet.so set-soname libgreet.so.1 + add-rpath /opt/lib
 ";
 
-/// What help says of an edit that may need a further entry below its values.
+/// What help says of an edit below its values.
 const MOVED: &str =
-    "With --move-dynamic, the dynamic section moves where it has no room for a further entry.
+    "With --move-dynamic, the dynamic section may move, to make room for entries and program headers.
 ";
 
 /// The commands for ELF files.
@@ -63,14 +63,14 @@ static ELF_ROWS: [Row; 30] = [
         about: "Take the permission to run from the stack",
         form: ValueForm::Path,
         is_edit: true,
-        more: "",
+        more: MOVED,
     },
     Row {
         name: force_rpath::NAME,
         about: "Make every DT_RUNPATH a DT_RPATH",
         form: ValueForm::Path,
         is_edit: true,
-        more: "",
+        more: MOVED,
     },
     Row {
         name: no_default_lib::NAME,
@@ -84,14 +84,14 @@ static ELF_ROWS: [Row; 30] = [
         about: "Remove the run path",
         form: ValueForm::Path,
         is_edit: true,
-        more: "",
+        more: MOVED,
     },
     Row {
         name: set_execstack::NAME,
         about: "Give the stack the permission to run",
         form: ValueForm::Path,
         is_edit: true,
-        more: "",
+        more: MOVED,
     },
     Row {
         name: add_rpath::NAME,
@@ -121,7 +121,7 @@ static ELF_ROWS: [Row; 30] = [
             help: "Path of the interpreter",
         }),
         is_edit: true,
-        more: "",
+        more: MOVED,
     },
     Row {
         name: set_os_abi::NAME,
@@ -131,7 +131,7 @@ static ELF_ROWS: [Row; 30] = [
             help: "Name of the ABI",
         }),
         is_edit: true,
-        more: "",
+        more: MOVED,
     },
     Row {
         name: set_soname::NAME,
@@ -151,7 +151,7 @@ static ELF_ROWS: [Row; 30] = [
             help: "Bytes, a power of two from 1024 on",
         }),
         is_edit: true,
-        more: "",
+        more: MOVED,
     },
     Row {
         name: clear_version_symbol::NAME,
@@ -161,7 +161,7 @@ static ELF_ROWS: [Row; 30] = [
             help: "Name of the symbols",
         }),
         is_edit: true,
-        more: "",
+        more: MOVED,
     },
     Row {
         name: add_needed::NAME,
@@ -181,7 +181,7 @@ static ELF_ROWS: [Row; 30] = [
             help: "Names of the libraries",
         }),
         is_edit: true,
-        more: "",
+        more: MOVED,
     },
     Row {
         name: replace_needed::NAME,
@@ -191,7 +191,7 @@ static ELF_ROWS: [Row; 30] = [
             help: "Pairs of an old and a new name",
         }),
         is_edit: true,
-        more: "",
+        more: MOVED,
     },
     Row {
         name: replace_library::NAME,
@@ -201,7 +201,7 @@ static ELF_ROWS: [Row; 30] = [
             help: "Pairs of an old and a new name",
         }),
         is_edit: true,
-        more: "",
+        more: MOVED,
     },
     Row {
         name: rename_dynamic_symbols::NAME,
@@ -211,7 +211,7 @@ static ELF_ROWS: [Row; 30] = [
             help: "Pairs of an old and a new name",
         }),
         is_edit: true,
-        more: "",
+        more: MOVED,
     },
     Row {
         name: apply::NAME,
@@ -245,7 +245,7 @@ static ELF_ROWS: [Row; 30] = [
             help: "Pairs of an old and a new name",
         }),
         is_edit: true,
-        more: "",
+        more: MOVED,
     },
     Row {
         name: delete_symbols::NAME,
@@ -255,7 +255,7 @@ static ELF_ROWS: [Row; 30] = [
             help: "Names of the symbols",
         }),
         is_edit: true,
-        more: "",
+        more: MOVED,
     },
     Row {
         name: rename_sections::NAME,
@@ -265,7 +265,7 @@ static ELF_ROWS: [Row; 30] = [
             help: "Pairs of an old and a new name",
         }),
         is_edit: true,
-        more: "",
+        more: MOVED,
     },
     Row {
         name: delete_sections::NAME,
@@ -275,7 +275,7 @@ static ELF_ROWS: [Row; 30] = [
             help: "Names of the sections",
         }),
         is_edit: true,
-        more: "",
+        more: MOVED,
     },
     Row {
         name: print_rpath::NAME,
