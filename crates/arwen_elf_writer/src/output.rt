@@ -250,7 +250,8 @@ impl<'data> Writer<'data> {
             HoldsImage C.is_new self.now (C.Created.contents file)) }
         ensures err { IfErr result (IsNotStored C.is_new C.Created.contents
             (C.may_fail files.now path.now) self.now) }
-        ensures unchanged { self.now.changed ≡ false → IfErr result (λ refused. IsIo refused.error) }
+        ensures unchanged { self.now.changed ≡ false
+            → IfErr result (λ refused. IsIo refused.error) }
     {
         match self.output_bytes(alloc) {
             Ok(bytes) => write_new(files, path, bytes.as_slice()),

@@ -2,23 +2,11 @@
 use Rattle.std.proofs.Common.{◌≡◌, ◌≤◌, ◌<◌, ◌+◌, ◌-◌, ℕ, zero, suc, List, Option, Some, ap, arith, inl, inr, length, refl, subst, take}
 use Rattle.std.proofs.lemmas.List.{length-take}
 use Rattle.std.specs.declared.io.Error.{Error}
-use Rattle.byte_store.specs.Causes.{EndsBy, FailsBy, FailsRead, HasFailed, IsNotRead, IsNotWhole}
-use Rattle.byte_store.specs.Counts.{CountsOne, RisesBy}
+use Rattle.byte_store.specs.Causes.{EndsBy, FailsRead, HasFailed, IsNotRead}
+use Rattle.byte_store.specs.Counts.{RisesBy}
 use Rattle.byte_store.specs.Known.{IsFirst, IsFront}
 use Rattle.byte_store.specs.declared.reading.ReadError.{ReadError}
 use Rattle.byte_store.specs.declared.reading.ReadError.TheVariants.{Io, Memory}
-
--- one failure
-pub one_grows : (a b : ℕ) → CountsOne a b → a ≤ b
-one_grows a b one = grind arith
-
-one_rises : (a b : ℕ) → CountsOne a b → RisesBy 1 a b
-one_rises a b one = (grind arith, λ below. grind arith)
-
-pub fails_by : (f : Error → Type 0) (e : Error) (a b c : ℕ) → a ≤ b → f e → CountsOne b c → FailsBy f e a c
-fails_by f e a b c grows may one =
-    let rises : RisesBy 1 b c = one_rises b c one in
-    (may, (omega arith, λ below. omega arith))
 
 -- failures in a row
 rises_on : (m n k a b c : ℕ) → k ≤ m + n → RisesBy m a b → RisesBy n b c → RisesBy k a c
@@ -37,11 +25,6 @@ failed_on f (suc m) n k a b c bound first second = (
 pub failed_none : (f : Error → Type 0) (n a b : ℕ) → n ≡ 0 → a ≡ b → HasFailed f n a b
 failed_none f n a b none same = ((omega arith, λ below. omega arith), λ some. absurd (omega arith))
 
-pub failed_one : (f : Error → Type 0) (e : Error) (n a b : ℕ) → n ≤ 1 → f e → CountsOne a b → HasFailed f n a b
-failed_one f e n a b few may one =
-    let rises : RisesBy 1 a b = one_rises a b one in
-    ((omega arith, λ below. omega arith), λ some. (e, may))
-
 -- reads
 pub read_ended : (f : Error → Type 0) (known : Option (List ℕ)) (e : ReadError) (a b c : ℕ) → a ≤ b → FailsRead f b c e → IsNotRead f known a c e
 read_ended f known Memory a b c grows is = tt
@@ -59,11 +42,6 @@ endless f known bytes n m len a b few is front failed all knows =
     let long : length bytes ≡ length (take (length bytes) all) = ap length (front all knows) in
     failed_on f (m - len) 0 (n - length all) a b b (omega (arith, length-take (length bytes) all)) failed (failed_none f 0 b b refl refl)
 
-pub not_whole : (f : Error → Type 0) (most : ℕ) (known : Option (List ℕ)) (a b : ℕ) (e : ReadError) → IsNotRead f known a b e → IsNotWhole f most known a b e
-not_whole f most known a b Memory is = tt
-not_whole f most known a b (Io e) (inl is) = inl is
-not_whole f most known a b (Io e) (inr is) = inr (inl is)
-
 pub too_many : (most : ℕ) (known : Option (List ℕ)) (bytes : List ℕ) → most < length bytes → IsFirst (most + 1) known bytes → (all : List ℕ) → known ≡ Some all → most < length all
 too_many most known bytes more first all knows =
     let long : length bytes ≡ length (take (most + 1) all) = ap length (first all knows) in
@@ -74,10 +52,4 @@ pub ended_later : (f : Error → Type 0) (none : Type 0) (e : Error) (a b c : �
 ended_later f none e a b c grows (inl is) = inl (is.0, (omega arith, λ below. omega arith))
 ended_later f none e a b c grows (inr (inl is)) = inr (inl (is.0, is.1, (omega arith, λ below. omega arith)))
 ended_later f none e a b c grows (inr (inr is)) =
-    inr (inr (is.0, ((omega arith, λ below. omega arith), is.1.1)))
-
-pub ended_before : (f : Error → Type 0) (none : Type 0) (e : Error) (a b c : ℕ) → EndsBy f none e a b → b ≤ c → EndsBy f none e a c
-ended_before f none e a b c (inl is) grows = inl (is.0, (omega arith, λ below. omega arith))
-ended_before f none e a b c (inr (inl is)) grows = inr (inl (is.0, is.1, (omega arith, λ below. omega arith)))
-ended_before f none e a b c (inr (inr is)) grows =
     inr (inr (is.0, ((omega arith, λ below. omega arith), is.1.1)))

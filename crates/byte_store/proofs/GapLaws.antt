@@ -15,10 +15,6 @@ or_none : (b : Bool) → (b || false) ≡ b
 or_none true = refl
 or_none false = refl
 
-and_all : (b : Bool) → (b && true) ≡ b
-and_all true = refl
-and_all false = refl
-
 and_no : (b : Bool) → (b && false) ≡ false
 and_no true = refl
 and_no false = refl

@@ -1,6 +1,6 @@
 -- Lists that get one more element at each step of a loop.
 use Rattle.std.proofs.Common.{◌≡◌, ◌≤◌, ◌<◌, ◌+◌, ℕ, List, [], ◌∷◌, ◌++◌, length, take, map, get_or, refl, sym, ap, ◌∙◌}
-use Rattle.std.proofs.lemmas.List.{append_assoc, length-map, map_more, map_push, take_all}
+use Rattle.std.proofs.lemmas.List.{append_assoc, length-map, map_more, take_all}
 use Rattle.byte_store.specs.Known.{put_at}
 use Rattle.byte_store.specs.Laid.{Patch, laid, patch_of, patches_of}
 use Rattle.byte_store.specs.Composed.{owned_patch, owned_patches}
@@ -26,9 +26,6 @@ map-map g f (x ∷ xs) = ap (λ zs. g (f x) ∷ zs) (map-map g f xs)
 abbrev pub piece_span : Piece → Span
 piece_span piece = span_of (patch_of piece)
 
-pub spans_more : (pieces : List Piece) (i : ℕ) (d : Piece) (base before after : List Span) → i < length pieces → before ≡ base ++ map piece_span (take i pieces) → after ≡ before ++ piece_span (get_or pieces i d) ∷ [] → after ≡ base ++ map piece_span (take (i + 1) pieces)
-spans_more = more piece_span
-
 pub spans_all : (pieces : List Piece) (i : ℕ) (base after : List Span) → length pieces ≤ i → after ≡ base ++ map piece_span (take i pieces) → after ≡ base ++ spans_of (patches_of pieces)
 spans_all pieces i base after all is =
     is
@@ -39,25 +36,11 @@ spans_all pieces i base after all is =
 abbrev pub moved_piece : ℕ → Piece → Patch
 moved_piece offset piece = shifted offset (patch_of piece)
 
-pub owned_more : (offset : ℕ) (pieces : List Piece) (i : ℕ) (d : Piece) (base : List Patch) (before after : List OwnedPiece) (x : OwnedPiece) → i < length pieces → owned_patches before ≡ base ++ map (moved_piece offset) (take i pieces) → after ≡ before ++ x ∷ [] → owned_patch x ≡ moved_piece offset (get_or pieces i d) → owned_patches after ≡ base ++ map (moved_piece offset) (take (i + 1) pieces)
-owned_more offset pieces i d base before after x below was is same =
-    more (moved_piece offset) pieces i d base (owned_patches before) (owned_patches after) below was
-    (ap owned_patches is ∙ map_push owned_patch before x ∙ ap (λ (p : Patch). owned_patches before ++ p ∷ []) same)
-
 pub owned_all : (offset : ℕ) (pieces : List Piece) (i : ℕ) (base after : List Patch) → length pieces ≤ i → after ≡ base ++ map (moved_piece offset) (take i pieces) → after ≡ base ++ map (shifted offset) (patches_of pieces)
 owned_all offset pieces i base after all is =
     is
     ∙ ap (λ (ps : List Piece). base ++ map (moved_piece offset) ps) (take_all i pieces all)
     ∙ ap (λ (ps : List Patch). base ++ ps) (sym (map-map (shifted offset) patch_of pieces))
-
--- pieces that lend the bytes of others
-pub lent_more : (pieces : List OwnedPiece) (i : ℕ) (d : OwnedPiece) (before after : List Piece) (x : Piece) → i < length pieces → patches_of before ≡ owned_patches (take i pieces) → after ≡ before ++ x ∷ [] → patch_of x ≡ owned_patch (get_or pieces i d) → patches_of after ≡ owned_patches (take (i + 1) pieces)
-lent_more pieces i d before after x below was is same =
-    more owned_patch pieces i d [] (patches_of before) (patches_of after) below was
-    (ap patches_of is ∙ map_push patch_of before x ∙ ap (λ (p : Patch). patches_of before ++ p ∷ []) same)
-
-pub lent_all : (pieces : List OwnedPiece) (i : ℕ) (after : List Patch) → length pieces ≤ i → after ≡ owned_patches (take i pieces) → after ≡ owned_patches pieces
-lent_all pieces i after all is = is ∙ ap owned_patches (take_all i pieces all)
 
 pub lent_length : (lent : List Piece) (pieces : List OwnedPiece) → patches_of lent ≡ owned_patches pieces → length lent ≡ length pieces
 lent_length lent pieces is = sym (length-map lent patch_of) ∙ ap (length {A = Patch}) is ∙ length-map pieces owned_patch

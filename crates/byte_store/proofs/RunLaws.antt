@@ -1,22 +1,15 @@
 -- Runs of writes.
-use Rattle.std.proofs.Common.{◌≡◌, ◌≤◌, ◌<◌, ◌+◌, ◌-◌, ℕ, List, [], ◌∷◌, ◌++◌, length, take, drop, get_or, replicate, refl, sym, ap, ◌∙◌, subst, arith, Option, Some, Result, Ok, All}
+use Rattle.std.proofs.Common.{◌≡◌, ◌≤◌, ◌<◌, ◌+◌, ◌-◌, ℕ, List, [], ◌∷◌, ◌++◌, length, take, drop, get_or, replicate, refl, sym, ap, ◌∙◌, subst, arith, Option, Some, All}
 use Rattle.std.proofs.lemmas.List.Elements.{All-take}
 use Rattle.std.proofs.lemmas.List.{append-nil, get_or-map, length-append, length-map, length-take-le, take-append-drop, take_all, take_at, take_more, drop_more}
-use Rattle.byte_store.specs.Known.{Becomes, HasLength, KeepsKnown, Puts, PutsFirst, Stays, WritesAt, put_at, resized}
+use Rattle.byte_store.specs.Known.{Becomes, HasLength, KeepsKnown, Puts, PutsFirst, Stays, put_at, resized}
 use Rattle.byte_store.specs.Laid.{Lays, LaysAndCuts, LaysFirst, LaysOf, LiesIn, Patch, changed, first_bytes, laid, patch_of, patches_of, total}
-use Rattle.byte_store.specs.Fault.{BecomesLaid, BecomesLonger, BecomesTorn, IsLeft}
+use Rattle.byte_store.specs.Fault.{BecomesLonger, BecomesTorn, IsLeft}
 use Rattle.byte_store.specs.declared.pieces.Piece.{Piece}
 use Rattle.byte_store.specs.declared.writing.Left.{Left}
 use Rattle.byte_store.specs.declared.writing.Left.TheVariants.{Longer, Old, Torn}
 use Rattle.byte_store.proofs.PutLaws.{put_at-behind, put_at-more, put_at-nil, reaches}
 use Rattle.byte_store.proofs.LaidLaws.{first_all, first_none, first_some, laid-append, length-laid}
-
--- one write of a part: no byte was taken, or it failed
-pub none_taken : {E : Type 0} (at : ℕ) (part : List ℕ) (r : Result ℕ E) (old mid new : Option (List ℕ)) → r ≡ Ok 0 → Stays old mid → WritesAt at part r mid new → Puts at [] old new
-none_taken {E} at part r old mid new is kept wrote bytes known inside =
-    let P : Result ℕ E → Type 0 = λ r. WritesAt at part r mid new in
-    let puts : Puts at [] mid new = subst P is wrote in
-    puts bytes (kept ∙ known) inside
 
 pub failed : (at : ℕ) (old mid new : Option (List ℕ)) → Stays old mid → Stays mid new → Puts at [] old new
 failed at old mid new kept last bytes known inside = last ∙ kept ∙ known ∙ ap Some (sym (put_at-nil at bytes))
@@ -43,9 +36,6 @@ first_put at done part old mid new within before last = (
       last (put_at at (take done part) bytes) (before bytes known inside) far
       ∙ ap Some (put_at-nil (at + done) (put_at at (take done part) bytes)),
 )
-
-pub whole_put : (at done : ℕ) (part : List ℕ) (old new : Option (List ℕ)) → length part ≤ done → Puts at (take done part) old new → Puts at part old new
-whole_put at done part old new all before = let P : List ℕ → Type 0 = λ xs. Puts at xs old new in subst P (take_all done part all) before
 
 -- growth
 pub grown : (at : ℕ) (growth : List ℕ) (old new : Option (List ℕ)) → HasLength old at → Puts at growth old new → Becomes (λ bytes. bytes ++ growth) old new
@@ -118,19 +108,6 @@ torn_laid pieces i d old mid new below before first =
           ∙ ap Some (sym (first_some (take i patches) next (drop (i + 1) patches) first.0 bytes first.1)
           ∙ ap (λ (ps : List Patch). laid (first_bytes n ps) bytes) (patch_split pieces i d below)),
     )
-
-pub all_laid : (patches : List Patch) (i : ℕ) (old new : Option (List ℕ)) → length patches ≤ i → LaysOf patches (take i patches) old new → Lays patches old new
-all_laid patches i old new all before = let P : List Patch → Type 0 = λ ps. LaysOf patches ps old new in subst P (take_all i patches all) before
-
--- pieces within a length
-lies_long : (patches : List Patch) (len : ℕ) (old : Option (List ℕ)) → HasLength old len → All (LiesIn len) patches → (bytes : List ℕ) → old ≡ Some bytes → All (LiesIn (length bytes)) patches
-lies_long patches len old long inside bytes known = let P : ℕ → Type 0 = λ n. All (LiesIn n) patches in subst P (sym (long bytes known)) inside
-
-pub laid_within : (patches these : List Patch) (len : ℕ) (old new : Option (List ℕ)) → HasLength old len → All (LiesIn len) patches → LaysOf patches these old new → Becomes (laid these) old new
-laid_within patches these len old new long inside lays bytes known = lays bytes known (lies_long patches len old long inside bytes known)
-
-pub torn_within : (patches : List Patch) (len : ℕ) (old new : Option (List ℕ)) → HasLength old len → All (LiesIn len) patches → LaysFirst patches old new → BecomesLaid patches old new
-torn_within patches len old new long inside first = (first.0, laid_within patches (first_bytes first.0 patches) len old new long inside first.1)
 
 -- pieces, and a cut
 module _ (len most : ℕ) (patches : List Patch) (old mid : Option (List ℕ)) (inside : All (LiesIn len) patches) (lays : Lays patches old mid) where

@@ -1,6 +1,6 @@
 -- Patches that are what others change of bytes.
 use Rattle.std.proofs.Common.{◌≡◌, ◌≤◌, ◌<◌, ◌+◌, ◌-◌, ℕ, inl, inr, List, [], ◌∷◌, ◌++◌, length, take, drop, map, min, get_or, sym, ap, ◌∙◌, subst, arith, All, true, false, leb, ltb, replicate}
-use Rattle.std.proofs.lemmas.List.{append-nil, append_assoc, length-drop, get_or-replicate, get_or-take, length-replicate, length-take-le, map_more, take_all}
+use Rattle.std.proofs.lemmas.List.{append-nil, append_assoc, length-drop, get_or-replicate, get_or-take, length-replicate, length-take-le, map_more}
 use Rattle.std.proofs.lemmas.List.Elements.{All-append, All-cons, All-head, All-map, All-nil, All-same, All-weaker}
 use Rattle.std.proofs.lemmas.List.Folds.{list_any-append}
 use Rattle.std.proofs.lemmas.Bool.{and_from, cases_lt, le-leb, lt-ltb, or_cases, or_left, or_parts, or_right}
@@ -40,11 +40,6 @@ pub adds_next : {X : Type 0} (f : X → Patch) (front : List ℕ) (xs : List X) 
 adds_next f front xs i d a b c below first second =
     let P : List Patch → Type 0 = λ rs. Adds front rs a c in
     subst P (sym (map_more f xs i d below)) (adds_more front (map f (take i xs)) (f (get_or xs i d) ∷ []) a b c first second)
-
-pub adds_all : {X : Type 0} (f : X → Patch) (front : List ℕ) (xs : List X) (i : ℕ) (a b : List OwnedPiece) → length xs ≤ i → Adds front (map f (take i xs)) a b → Adds front (map f xs) a b
-adds_all {X} f front xs i a b all adds =
-    let P : List X → Type 0 = λ ys. Adds front (map f ys) a b in
-    subst P (take_all i xs all) adds
 
 -- patches that stand where others do, and have their positions
 pub adds_as : (front : List ℕ) (ps qs : List Patch) (a b : List OwnedPiece) → ((target : List ℕ) → All (Stands target) qs → All (Stands target) ps) → ((k : ℕ) → k < length front → is_patched qs k ≡ true → is_patched ps k ≡ true) → Adds front ps a b → Adds front qs a b

@@ -109,7 +109,8 @@ fn lay_and_cut<S: Store>(
         (S.contents store.old) (S.contents store.new)) }
     ensures err { OnErr result
         (LaysFirst (patches_of pieces.now) (S.contents store.old) (S.contents store.new)) }
-    ensures idle { length pieces.now ≡ 0 → len ≤ new_length → IsOkAndSame result store.old store.new }
+    ensures idle { length pieces.now ≡ 0 → len ≤ new_length
+        → IsOkAndSame result store.old store.new }
     ensures grows { S.failed store.old ≤ S.failed store.new }
     ensures cause { IfErr result (λ e.
         EndsBy S.may_fail_write S.may_take_none e (S.failed store.old) (S.failed store.new)) }

@@ -18,10 +18,6 @@ abbrev pub pairs_before : Pairs → Result Pairs Wrong → Result Pairs Wrong
 pairs_before done (Ok pairs) = Ok (done ++ pairs)
 pairs_before done (Err wrong) = Err wrong
 
-pairs_before-nil : (r : Result Pairs Wrong) → pairs_before [] r ≡ r
-pairs_before-nil (Ok pairs) = refl
-pairs_before-nil (Err wrong) = refl
-
 pairs_before-then : (at : ℕ) (done : Pairs) (pair : Text × Text) (r : Result Pairs Wrong) → pairs_before done (then_pairs at (Some pair) r) ≡ pairs_before (done ++ pair ∷ []) r
 pairs_before-then at done pair (Ok pairs) = ap Ok (sym (append_assoc done (pair ∷ []) pairs))
 pairs_before-then at done pair (Err wrong) = refl
@@ -29,9 +25,6 @@ pairs_before-then at done pair (Err wrong) = refl
 -- the state of the loop: the pairs that were read stand before what is left
 abbrev pub IsPairedTo : List Text → ℕ → Pairs → Type 0
 IsPairedTo words i done = pairs_before done (pairs_from (i + 1) (drop i words)) ≡ pairs_from 1 words
-
-pub none_paired : (words : List Text) → IsPairedTo words 0 []
-none_paired words = pairs_before-nil (pairs_from 1 words)
 
 -- words by what holds them
 module _ {S : Type 0} (bytes : S → Text) (ws : List S) where

@@ -114,10 +114,6 @@ module _ (f g : List ℕ) where
   swapped_for : List ℕ → Option (List ℕ)
   swapped_for name = first_there (if bytes_eq name g then Some f else None) (if bytes_eq name f then Some g else None)
 
-  value_of-swap : (name : List ℕ) → value_of (swap_of f g) name ≡ swapped_for name
-  unfolding swapped_for
-  value_of-swap name = refl
-
   of_second : (name : List ℕ) → bytes_eq name g ≡ true → swapped_for name ≡ Some f
   unfolding swapped_for
   of_second name h = ap (λ o. first_there o (if bytes_eq name f then Some g else None)) (if_some (bytes_eq name g) f h)

@@ -1,8 +1,8 @@
 -- Steps of making a list: entries that stay, libraries that come, and which edit a list is made by.
-use Rattle.std.proofs.Common.{◌≡◌, ℕ, ◌+◌, ◌<◌, Bool, true, false, cond, not, ◌||◌, List, [], ◌∷◌, ◌++◌, length, take, get_or, map, filter, refl, sym, ap, ◌∙◌, Option, Some, None, Result, Ok, Err, is_some, Bor, arith}
-use Rattle.std.specs.Prelude.{if◌then◌else◌, ◌==◌, IfOk, unwrap_or}
+use Rattle.std.proofs.Common.{◌≡◌, ℕ, ◌+◌, ◌<◌, Bool, true, false, cond, not, ◌||◌, List, [], ◌∷◌, ◌++◌, length, take, get_or, map, filter, refl, sym, ap, ◌∙◌, Option, Some, None, Result, Ok, Err, is_some, Bor}
+use Rattle.std.specs.Prelude.{if◌then◌else◌, IfOk, unwrap_or}
 use Rattle.std.specs.List.{list_any}
-use Rattle.std.proofs.lemmas.Bool.{cond-true, cond-false, ne_eqb}
+use Rattle.std.proofs.lemmas.Bool.{cond-true, cond-false}
 use Rattle.std.proofs.lemmas.List.{append-nil, map-append}
 use Rattle.std.proofs.lemmas.List.Elements.{filter-append}
 use Rattle.std.proofs.Math.Path.{fun_ext}
@@ -19,7 +19,7 @@ use Rattle.elf_edits.specs.declared.edit.ElfEdit.TheVariants as edits
 use Rattle.elf_edits.specs.TextModel.{Bytes, texts_model}
 use Rattle.elf_edits.specs.Edit.{edit_model, edited_entries, touches_entries}
 use Rattle.elf_edits.specs.Entries.{changed_where, has_tag, is_replaced, needed_names, needs_one_of, not_needed_yet, text_if, with_needed_replaced, with_text_changed, without_needed}
-use Rattle.elf_edits.specs.Texts.{has_some, is_among, value_of}
+use Rattle.elf_edits.specs.Texts.{is_among, value_of}
 use Rattle.elf_edits.proofs.ListLaws.{by_test, changed_where_none}
 use Rattle.elf_edits.proofs.LookupSteps.{one_more}
 
@@ -74,13 +74,6 @@ pub new_by_set : {E : Type 0} (r : Result (Vec Dynamic Global) E) (set : List (B
     → IfOk r (λ made. map entry_model made.items ≡ map (Text DT_NEEDED) (filter (λ name. not (has_name set name)) names)) → IfOk r (λ made. map entry_model made.items ≡ map (Text DT_NEEDED) (not_needed_yet names es))
 new_by_set (Ok made) set names es same is = is ∙ ap (λ (f : List ℕ → Bool). map (Text DT_NEEDED) (filter (λ name. not (f name)) names)) (fun_ext same)
 new_by_set (Err x) set names es same is = tt
-
--- entries were made exactly where libraries were added
-pub some_added : (made : List Dynamic) (names : List (List ℕ)) → map entry_model made ≡ map (Text DT_NEEDED) names → not (length made == 0) ≡ has_some names
-some_added [] [] e = refl
-some_added [] (name ∷ names) e = cc
-some_added (x ∷ made) [] e = cc
-some_added (x ∷ made) (name ∷ names) e = ap not (ne_eqb (length (x ∷ made)) 0 (λ (h : length (x ∷ made) ≡ 0). omega arith))
 
 -- ## Which list it is
 

@@ -202,7 +202,8 @@ pub(crate) fn use_rpath<'d>(
     alloc: Global,
     entries: &[Dynamic<'d>],
 ) -> Result<NewList<'d>, AllocError>
-    ensures { IfOk result (IsNewList (with_tags_changed DT_RUNPATH DT_RPATH (map entry_model entries.now))
+    ensures { IfOk result (IsNewList
+        (with_tags_changed DT_RUNPATH DT_RPATH (map entry_model entries.now))
         (lists_tag DT_RUNPATH (map entry_model entries.now))) }
 {
     let test = EntryTest::Tag(DT_RUNPATH);

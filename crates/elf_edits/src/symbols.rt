@@ -273,7 +273,8 @@ pub fn renamed<'d>(
     symbols: &EditedSymbols<'d>,
 ) -> Result<Option<EditedSymbols<'d>>, AllocError>
     // the caller knows that no name has a NUL in it
-    requires { list_any holds_nul (texts_of (RenameDynamicSymbols (pairs_model pairs.now))) ≡ false }
+    requires { list_any holds_nul
+        (texts_of (RenameDynamicSymbols (pairs_model pairs.now))) ≡ false }
     ensures { IfOk result
         (AreSymbolsAfter (RenameDynamicSymbols (pairs_model pairs.now)) symbols.now) }
 {

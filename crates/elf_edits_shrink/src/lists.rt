@@ -101,11 +101,11 @@ pub fn shrink_list<'d>(
     answers: &[ProbeAnswer<'_>],
     entries: &[Dynamic<'d>],
 ) -> Result<ShrunkList<'d>, AllocError>
-    ensures list { IfOk result (λ made. let es = map entry_model entries.now in map entry_model made.entries.items
-        ≡ with_run_paths_shrunk (search_of machine (texts_model prefixes.now)
+    ensures list { IfOk result (λ made. let es = map entry_model entries.now in
+        map entry_model made.entries.items ≡ with_run_paths_shrunk (search_of machine (texts_model prefixes.now)
         (map answer_model answers.now) es) es) }
-    ensures gone { IfOk result (λ made. let es = map entry_model entries.now in map removal_model made.removed.items
-        ≡ directories_removed (search_of machine (texts_model prefixes.now)
+    ensures gone { IfOk result (λ made. let es = map entry_model entries.now in
+        map removal_model made.removed.items ≡ directories_removed (search_of machine (texts_model prefixes.now)
         (map answer_model answers.now) es) es) }
 {
     let needed = needed_names(alloc, entries)?;

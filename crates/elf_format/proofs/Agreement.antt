@@ -9,7 +9,7 @@ use Rattle.patch_bytes.proofs.MemoryLaws.{Agrees-refl, bind_agrees, bind_some, b
 use Rattle.elf_format.specs.declared.version_id.VersionId.{VersionId}
 use Rattle.elf_format.specs.Dynamic.{Auto, Entry, Integer, Text, entries_at, shown_entry, table_tags, text_tags}
 use Rattle.elf_format.specs.Form.{Form, fixed_field, records}
-use Rattle.elf_format.specs.Options.{each, is_one_of, when_wanted}
+use Rattle.elf_format.specs.Options.{each, is_one_of}
 use Rattle.elf_format.specs.Records.{EntryNumbers, SymbolNumbers, entry_numbers, entry_size, symbol_numbers, symbol_size}
 use Rattle.elf_format.specs.Versions.{DefinitionNumbers, NeedNameNumbers, NeedNumbers, Step, VersionDefinition, VersionName, VersionNeeds, definition_at, definition_name_at, is_whole_walk, need_at, need_name_at, shown_definition, shown_need, shown_need_name, values_of, version_id, chain_steps}
 use Rattle.elf_format.specs.Views.{defined_versions, dynamic_symbols, named_symbols, names_of, needed_versions, symbol_versions, whole_chain}
@@ -26,10 +26,6 @@ each-agrees f g h [] = Agrees-refl (Some [])
 each-agrees f g h (x ∷ xs) =
     bind_agrees (f x) (g x) (λ y. each f xs >>= (λ ys. Some (y ∷ ys))) (λ y. each g xs >>= (λ ys. Some (y ∷ ys))) (h x)
     (λ y. bind_agrees (each f xs) (each g xs) (λ ys. Some (y ∷ ys)) (λ ys. Some (y ∷ ys)) (each-agrees f g h xs) (λ ys. Agrees-refl (Some (y ∷ ys))))
-
-pub when_wanted-agrees : {A : Type 0} → (b : Bool) (o p : Option A) → (b ≡ true → Agrees o p) → Agrees (when_wanted b o) (when_wanted b p)
-when_wanted-agrees false o p h = Agrees-refl (Some None)
-when_wanted-agrees true o p h = bind_agrees o p (λ x. Some (Some x)) (λ x. Some (Some x)) (h refl) (λ x. Agrees-refl (Some (Some x)))
 
 -- ## Dynamic entries
 

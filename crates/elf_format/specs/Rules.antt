@@ -381,9 +381,6 @@ accepted_parts file = do
 unfoldable pub fault_of : List ℕ → Option ElfFault
 fault_of file = elim (accepted_parts file) [ Ok _ ↦ None | Err fault ↦ Some fault ]
 
-abbrev pub is_accepted : List ℕ → Bool
-is_accepted file = is_none (fault_of file)
-
 -- ## What is known of an accepted file
 
 -- the parts are those of the file

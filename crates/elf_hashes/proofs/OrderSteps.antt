@@ -3,7 +3,7 @@ use Rattle.std.proofs.Common.{◌≡◌, ◌≢◌, ℕ, zero, suc, ◌+◌, ◌
 use Rattle.std.specs.Prelude.{◌&&◌, ◌==◌, if◌then◌else◌, option_map, slice_get, slice_index}
 use Rattle.std.specs.List.{All, flat_map}
 use Rattle.std.proofs.lemmas.Bool.{eqb-true, ne_eqb}
-use Rattle.std.proofs.lemmas.List.{append_assoc, append-nil, drop_all, drop_more}
+use Rattle.std.proofs.lemmas.List.{append_assoc, append-nil, drop_more}
 use Rattle.std.proofs.lemmas.List.Elements.{All-cons, All-nil, All-same}
 use Rattle.std.proofs.lemmas.Option.{get_or_from_slice_get, slice_get-get_or, slice_get_within}
 use Rattle.elf_format.specs.Hashes.{gnu_hash}
@@ -173,10 +173,6 @@ places-yes test ys was now all i y at is step before =
 pub places-no : (test : NamedSymbol → Bool) (ys : List NamedSymbol) (was all : List ℕ) (i : ℕ) (y : NamedSymbol) → slice_get ys i ≡ Some y → test y ≡ false
     → was ++ places_where test i (drop i ys) ≡ all → was ++ places_where test (i + 1) (drop (i + 1) ys) ≡ all
 places-no test ys was all i y at is before = ap (λ l. was ++ l) (sym (places-at test ys i y false at is)) ∙ before
-
-pub places-end : (test : NamedSymbol → Bool) (ys : List NamedSymbol) (was all : List ℕ) (i : ℕ) → length ys ≤ i → was ++ places_where test i (drop i ys) ≡ all → was ≡ all
-places-end test ys was all i past before =
-    sym (append-nil was) ∙ ap (λ l. was ++ places_where test i l) (sym (drop_all i ys past)) ∙ before
 
 pub order-none : (buckets : ℕ) (ys : List NamedSymbol) → length ys ≡ 0 → [] ≡ places_by_bucket buckets ys
 unfolding places_by_bucket

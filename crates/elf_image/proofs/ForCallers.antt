@@ -13,8 +13,6 @@ pub use Rattle.elf_image.proofs.ReadImageLaws
 pub use Rattle.elf_image.proofs.ReadComplete
 -- lists of a file's symbols, and whether they are as they were read
 pub use Rattle.elf_image.proofs.SymbolLists
--- each symbol of an edited image, by the one that was read
-pub use Rattle.elf_image.proofs.SymbolsAtRead
 -- each change of symbols leaves an image that was read and edited: also edited symbols that are put in place of those that are there
 pub use Rattle.elf_image.proofs.SymbolsKept
 -- symbols that are deleted, and whether relocations name them

@@ -22,7 +22,6 @@ pub mod SymbolsDeleted
 pub mod TablesLeft
 pub mod SectionNamed
 pub mod SectionsDeleted
-pub mod SymbolsAtRead
 pub mod CopySteps
 pub mod SymbolLists
 pub mod ForCallers

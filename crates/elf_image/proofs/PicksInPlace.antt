@@ -11,9 +11,6 @@ pub record PicksInPlace {X : Type 0} (bs : List Bool) (xs ys : List X) (k i : �
   pub behind : k ≤ i
   pub long : length ys ≡ length xs
 
-pub picks_none : {X : Type 0} (bs : List Bool) (xs : List X) → PicksInPlace bs xs xs 0 0
-picks_none bs xs = record { front = refl; rest = refl; behind = omega arith; long = refl }
-
 module _ {X : Type 0} (bs : List Bool) (xs ys : List X) (k i : ℕ) (h : PicksInPlace bs xs ys k i) (few : i < length bs) (same : length bs ≡ length xs) (d : X) where
   on : get_or ys i d ∷ drop (i + 1) ys ≡ get_or xs i d ∷ drop (i + 1) xs
   on = sym (drop_more ys i d (omega (arith, few, same, h.long))) ∙ h.rest ∙ drop_more xs i d (omega (arith, few, same))

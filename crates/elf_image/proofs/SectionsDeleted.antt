@@ -118,10 +118,6 @@ module _ (image : Image) (h : IsEdited image) where
   lasting_type : (from : Image) (type : ℕ) → is_one_of lasting_types type ≡ true → (s : KeptSection) → (s.section.sh_type == type) ≡ true → is_lasting from s ≡ true
   lasting_type from type one s typed = or_right _ (is_one_of lasting_types s.section.sh_type) (ap (is_one_of lasting_types) (eqb-true s.section.sh_type type typed) ∙ one)
 
-  link_unnamed : (o : Option KeptSection) → (o >>= λ s. Some s.section.sh_link) ≡ (option_map unnamed o >>= λ x. Some x.1.sh_link)
-  link_unnamed None = refl
-  link_unnamed (Some k) = refl
-
   link_same : (type : ℕ) → is_one_of lasting_types type ≡ true → link_of_type type image ≡ link_of_type type h.read
   link_same type one = by_found (kept_of_type type h.read) refl
     where

@@ -98,9 +98,6 @@ module _ (there : ℕ → Bool) where
         → place_told there (flat_map f (drop (i + 1) xs)) ≡ whole
     place_goes whole less none so_far = sym (places_first less ∙ ap (λ o. first_there o (place_told there (flat_map f (drop (i + 1) xs)))) none) ∙ so_far
 
-  pub place_done : {A : Type 0} → (f : A → List ℕ) (xs : List A) (i : ℕ) (whole : Option Flaw) → length xs ≤ i → place_told there (flat_map f (drop i xs)) ≡ whole → None ≡ whole
-  place_done f xs i whole past so_far = sym (ap (λ l. place_told there (flat_map f l)) (drop_all i xs past)) ∙ so_far
-
 -- ## Versions
 
 module _ {A : Type 0} (xs : List A) (i : ℕ) (d : A) (made init new : List ℕ) where

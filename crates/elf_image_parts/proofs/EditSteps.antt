@@ -11,7 +11,6 @@ use Rattle.elf_format.specs.declared.constants.TheConstants.{PT_GNU_STACK}
 use Rattle.elf_format.specs.declared.records.SegmentHeader.{SegmentHeader}
 use Rattle.elf_format.specs.File.{segment_of_type}
 use Rattle.elf_format.specs.Dynamic.{Entry}
-use Rattle.elf_format.specs.Image.{entry_tag}
 use Rattle.elf_image_parts.specs.declared.dynamic.Dynamic.{Dynamic}
 use Rattle.elf_image_parts.specs.declared.dynamic.Dynamic.TheVariants as kinds
 use Rattle.elf_image_parts.specs.DynamicList.{with_tag, with_tag_at, without_tag}
@@ -168,12 +167,6 @@ without_kept (z ∷ zs) tag = by_tag z zs tag (without_kept zs tag)
     by_tag (kinds.Auto t) zs tag h = split (not (t == tag)) (kinds.Auto t) _ _ h
     by_tag (kinds.Integer t v) zs tag h = split (not (t == tag)) (kinds.Integer t v) _ _ h
     by_tag (kinds.Text t v) zs tag h = split (not (t == tag)) (kinds.Text t v) _ _ h
-
--- the tag of an entry as it is kept
-pub tag_kept : (z : Dynamic) → entry_tag (entry_model z) ≡ tag_of z
-tag_kept (kinds.Auto t) = refl
-tag_kept (kinds.Integer t v) = refl
-tag_kept (kinds.Text t v) = refl
 
 -- ## Loops over all
 

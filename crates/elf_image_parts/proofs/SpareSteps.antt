@@ -46,19 +46,6 @@ memory_end p = end_of (memory_part p)
 
 -- ## Sums
 
-pub next_sum : {A X : Type 0} (f : X → ℕ) (view : A → X) (zs : List A) (i n m : ℕ) (d : A) → i < length zs → m ≡ n + f (view (get_or zs i d))
-    → m + sum_by f (map view (drop (i + 1) zs)) ≡ n + sum_by f (map view (drop i zs))
-next_sum {A} f view zs i n m d within is =
-    let more : sum_by f (map view (drop i zs)) ≡ sum_by f (map view (get_or zs i d ∷ drop (i + 1) zs)) = at_drop_more (λ (l : List A). sum_by f (map view l)) zs i d within in
-    let cons : sum_by f (map view (get_or zs i d ∷ drop (i + 1) zs)) ≡ f (view (get_or zs i d)) + sum_by f (map view (drop (i + 1) zs)) =
-    sum_by-cons f (view (get_or zs i d)) (map view (drop (i + 1) zs)) in
-    omega (arith, is, more, cons)
-
-pub sum_done : {A X : Type 0} (f : X → ℕ) (view : A → X) (zs : List A) (i n : ℕ) → length zs ≤ i → n + sum_by f (map view (drop i zs)) ≡ n
-sum_done {A} f view zs i n past =
-    let none : sum_by f (map view (drop i zs)) ≡ 0 = ap (λ (l : List A). sum_by f (map view l)) (drop_all i zs past) in
-    omega (arith, none)
-
 -- ## Sections with their numbers
 
 module _ (strings : Option ℕ) (interpreter : Option SegmentHeader) where

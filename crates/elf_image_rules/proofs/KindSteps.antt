@@ -282,16 +282,6 @@ module _ {A : Type 0} (test : A → Bool) (decode : List ℕ → A) where
         all = ne_eqb count (length bytes / size) (omega arith) ∙ all_ends test decode size rest head answer (all_pass test decode size bytes) pos fits front is fails so_far.all;
       }
 
-  pub counting_done : (size : ℕ) (bytes rest : List ℕ) (count : ℕ) → length rest < size → Counting size bytes rest count → Counted size bytes count
-  counting_done size bytes rest count short so_far =
-      let none : length rest / size ≡ 0 = none_whole size rest short in
-      let e : count ≡ length bytes / size = omega (arith, so_far.left) in
-      record {
-        within = omega arith;
-        good = so_far.good;
-        all = ap (λ n. n == length bytes / size) e ∙ same_number (length bytes / size) ∙ all_done test decode size rest (all_pass test decode size bytes) short so_far.all;
-      }
-
 -- A section whose first records are known to pass, and so many behind them: all pass where these are all.
 module _ {A : Type 0} (test : A → Bool) (decode : List ℕ → A) (size : ℕ) (file : List ℕ) (s : SectionHeader) where
   less_front : (a b n : ℕ) → a ≤ n → ((a + b) == n) ≡ (b == (n - a))

@@ -88,7 +88,8 @@ fn no_extended_numbers(
     form: Form,
     header: FileHeader,
 ) -> Result<bool, AllocError>
-    ensures { IfOk result (λ answer. answer ≡ none_extended (opened_model file.now (form, header))) }
+    ensures { IfOk result (λ answer.
+        answer ≡ none_extended (opened_model file.now (form, header))) }
 {
     let size = form.symbol_size();
     let sections = sections_there(alloc, file, form, header)?;

@@ -3,7 +3,6 @@ use Rattle.std.proofs.Common.{◌≡◌, ◌≢◌, ◌↔◌, ℕ, ◌<◌, Lis
 use Rattle.std.specs.Prelude.{insert, option_map, remove, slice_get}
 use Rattle.std.specs.List.{All}
 use Rattle.std.proofs.lemmas.List.{get_or-map, length-map}
-use Rattle.std.proofs.lemmas.List.Edits.{get_or-insert_at, get_or-insert_below, length-insert}
 use Rattle.std.proofs.lemmas.Option.{get_or_from_slice_get, slice_get-map, slice_get_within}
 use Rattle.elf_image_symbols.specs.Image.{counted}
 use Rattle.elf_image_symbols.specs.Views.{NamedSymbol}
@@ -26,13 +25,6 @@ pub are_inserted : (read : List NamedSymbol) (cs : List Change) (c : Change) (k 
 are_inserted read cs c k below gap named are = record {
   rising = rising_insert 0 (length read) cs c k are.rising (omega arith) below gap.within gap.before gap.behind;
   named = All-insert (HasName read) cs k c (inl named) are.named;
-}
-
-pub place_inserted : (cs : List Change) (c : Change) (k : ℕ) → IsGapFor cs c.number k → IsPlaceOf (insert cs k c) c.number k
-place_inserted cs c k gap = record {
-  within = omega (arith, length-insert cs k c gap.within, gap.within);
-  before = λ j d low. subst (λ (b : Change). number_of b < c.number) (sym (get_or-insert_below cs k c d j low gap.within)) (gap.before j d low);
-  here = λ d. ap number_of (get_or-insert_at cs k c d gap.within);
 }
 
 -- a change is changed, and keeps its number

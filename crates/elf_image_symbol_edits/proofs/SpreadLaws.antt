@@ -1,8 +1,8 @@
 -- A change of each symbol: what is left at each, and that nothing is made of symbols.
-use Rattle.std.proofs.Common.{◌≡◌, ◌≢◌, ℕ, ◌+◌, ◌<◌, ◌≤◌, true, false, List, [], ◌∷◌, ◌++◌, length, map, get_or, drop, refl, sym, ap, ◌∙◌, subst, inl, inr, Option, Some, None, arith}
+use Rattle.std.proofs.Common.{◌≡◌, ◌≢◌, ℕ, ◌+◌, ◌<◌, ◌≤◌, true, false, List, [], ◌∷◌, ◌++◌, length, map, get_or, refl, sym, ap, ◌∙◌, subst, inl, inr, Option, Some, None, arith}
 use Rattle.std.specs.Prelude.{◌==◌, unwrap_or}
 use Rattle.std.specs.List.{All}
-use Rattle.std.proofs.lemmas.Bool.{cases_lt, cond-false, cond-true, eqb-false, eqb-true, ne_eqb}
+use Rattle.std.proofs.lemmas.Bool.{cases_lt, cond-false, ne_eqb}
 use Rattle.std.proofs.lemmas.List.{get_or-map, length-map, map-append}
 use Rattle.std.proofs.lemmas.List.Elements.{All-cons, All-nil}
 use Rattle.elf_image_symbols.specs.Image.{counted}
@@ -15,7 +15,7 @@ use Rattle.elf_image_symbol_edits.specs.EditedList.{EditedList}
 use Rattle.elf_image_symbol_edits.specs.EditedModel.{AreInOrder, edited_list, numbers_of}
 use Rattle.elf_image_symbol_edits.specs.Rising.{AreRising, numbers_there}
 use Rattle.elf_image_symbol_edits.proofs.ChangeLaws.{change_of-none, change_of-place, change_of-some, changes_below}
-use Rattle.elf_image_symbol_edits.proofs.RisingLaws.{counted-more, rising_counted, rising_from}
+use Rattle.elf_image_symbol_edits.proofs.RisingLaws.{counted-more, rising_counted}
 use Rattle.elf_image_symbol_edits.proofs.SymbolLaws.{makes-nothing, now-none, now-some}
 use Rattle.elf_image_symbol_edits.proofs.EditedLaws.{list_of}
 
@@ -40,11 +40,6 @@ none_below low high n (c ∷ cs) rising below =
     cond-false (c.number == n) (Some c) (change_of cs n) (ne_eqb c.number n (λ (e : c.number ≡ n). omega (arith, rising.0, below, e)))
     ∙ none_below (c.number + 1) high n cs rising.2 (omega (arith, rising.0, below))
 
-pub change_at-first : (read : List NamedSymbol) (n : ℕ) (cs : List Change) (c : Change) → starts_at n cs ≡ true → c ≡ get_or cs 0 c → c ≡ change_at read cs n
-change_at-first read n [] c starts is = absurd (cc)
-change_at-first read n (b ∷ cs) c starts is =
-    is ∙ ap (λ (o : Option Change). unwrap_or o (idle_change read n)) (sym (cond-true (b.number == n) (Some b) (change_of cs n) starts))
-
 pub change_at-idle : (read : List NamedSymbol) (n high : ℕ) (cs : List Change) → AreRising n high (map number_of cs) → starts_at n cs ≡ false → idle_change read n ≡ change_at read cs n
 change_at-idle read n high [] rising other = refl
 change_at-idle read n high (c ∷ cs) rising other =
@@ -52,20 +47,6 @@ change_at-idle read n high (c ∷ cs) rising other =
     (sym (cond-false (c.number == n) (Some c) (change_of cs n) other ∙ none_below (c.number + 1) high n cs rising.2 (omega (arith, rising.0))))
 
 -- ## Those behind a symbol
-
-pub rising-drop : (n high : ℕ) (cs : List Change) → starts_at n cs ≡ true → AreRising n high (map number_of cs) → AreRising (n + 1) high (map number_of (drop 1 cs))
-rising-drop n high [] starts rising = tt
-rising-drop n high (c ∷ cs) starts rising =
-    rising_from (c.number + 1) (n + 1) high (map number_of cs) (omega (arith, eqb-true c.number n starts)) rising.2
-
-pub rising-stay : (n high : ℕ) (cs : List Change) → starts_at n cs ≡ false → AreRising n high (map number_of cs) → AreRising (n + 1) high (map number_of cs)
-rising-stay n high [] other rising = tt
-rising-stay n high (c ∷ cs) other rising = (omega (arith, rising.0, eqb-false c.number n other), rising.1, rising.2)
-
-pub change_of-drop : (n m : ℕ) (cs : List Change) → starts_at n cs ≡ true → n < m → change_of (drop 1 cs) m ≡ change_of cs m
-change_of-drop n m [] starts behind = refl
-change_of-drop n m (c ∷ cs) starts behind =
-    sym (cond-false (c.number == m) (Some c) (change_of cs m) (ne_eqb c.number m (λ (e : c.number ≡ m). omega (arith, eqb-true c.number n starts, behind, e))))
 
 -- what is told of a symbol by those that are left
 pub change_at-same : (read : List NamedSymbol) (cs ds : List Change) (n : ℕ) → change_of ds n ≡ change_of cs n → change_at read ds n ≡ change_at read cs n

@@ -1,6 +1,6 @@
 -- Symbols with their changes.
 use Rattle.std.proofs.Common.{◌≡◌, ◌≢◌, ℕ, ◌<◌, Bool, true, false, List, [], length, map, get_or, refl, sym, ap, ◌∙◌, subst, inl, inr, Option, Some, None, arith}
-use Rattle.std.specs.Prelude.{◌↔◌, ◌⊎◌, bytes_eq, insert, slice_get, option_map}
+use Rattle.std.specs.Prelude.{◌⊎◌, bytes_eq, insert, slice_get, option_map}
 use Rattle.std.specs.List.{All}
 use Rattle.std.proofs.lemmas.Bool.{both_ways, cases_eq}
 use Rattle.std.proofs.lemmas.List.{ext_get_or, get_or-map, length-map}
@@ -13,7 +13,7 @@ use Rattle.elf_image_symbols.proofs.ForCallers.Lengths.{length-counted, slice_in
 use Rattle.elf_image_symbols.specs.TableSymbols.{symbol_with}
 use Rattle.elf_image_symbol_edits.specs.declared.change.Change.{Change}
 use Rattle.elf_image_symbol_edits.specs.Changes.{HasName, IsGapFor, IsPlaceOf, Leaves, change_of, changed, changed_by, no_symbol, number_of, read_at, symbol_now, version_by}
-use Rattle.elf_image_symbol_edits.specs.EditedList.{IsEditedSymbol, IsName, as_global, changed_at, global_version}
+use Rattle.elf_image_symbol_edits.specs.EditedList.{IsEditedSymbol, IsName, as_global, changed_at}
 use Rattle.elf_image_symbol_edits.specs.Rising.{AreRising}
 use Rattle.elf_image_symbol_edits.proofs.ChangeLaws.{change_of-changed_here, change_of-changed_other, change_of-each, change_of-gap, change_of-insert_here, change_of-insert_other, change_of-place, change_of-some, changes_below}
 
@@ -155,9 +155,6 @@ module _ {A : Type 0} (part : NamedSymbol → A) (read : List NamedSymbol) (cs :
 -- ## Whether a change leaves its symbol
 
 module _ (read : List NamedSymbol) (c : Change) (y : NamedSymbol) (is : read_at read c.number ≡ y) where
-  pub leaves_name : bytes_eq c.name.bytes y.name ≡ true → Leaves (λ (z : NamedSymbol). z.name) read c
-  leaves_name same = (bytes_eq-Decides c.name.bytes y.name).0 same ∙ ap (λ (z : NamedSymbol). z.name) (sym is)
-
   pub leaves_no_name : bytes_eq c.name.bytes y.name ≡ false → Leaves (λ (z : NamedSymbol). z.name) read c → ⊥
   leaves_no_name other leaves =
       both_ways (bytes_eq c.name.bytes y.name) other ((bytes_eq-Decides c.name.bytes y.name).1 (leaves ∙ ap (λ (z : NamedSymbol). z.name) is))
@@ -171,13 +168,3 @@ module _ (read : List NamedSymbol) (c : Change) (y : NamedSymbol) (is : read_at 
 
   pub leaves_version : Leaves (λ (z : NamedSymbol). z) read c → version_by c.is_cleared y.version ≡ y.version
   leaves_version leaves = ap (λ (z : NamedSymbol). z.version) (sym (ap (changed_by c) is) ∙ leaves ∙ is)
-
--- the version of a global symbol without one of its own
-pub is_global_version : (id : VersionId) → (Some global_version ≡ Some id) ↔ ((id.index ≡ 1) × (id.hidden ≡ false))
-is_global_version id = (
-  (λ (e : Some global_version ≡ Some id).
-      let same : global_version ≡ id = same_Some global_version id e in
-      (sym (ap (λ (v : VersionId). v.index) same), sym (ap (λ (v : VersionId). v.hidden) same))),
-  (λ (p : (id.index ≡ 1) × (id.hidden ≡ false)).
-      ap (λ (n : ℕ). Some (record id { index = n; hidden = false })) (sym p.0) ∙ ap (λ (b : Bool). Some (record id { hidden = b })) (sym p.1)),
-)

@@ -234,7 +234,8 @@ pub fn remaining_segments<'data>(
     gone: &[usize],
 ) -> Result<Vec<Segment<'data>>, AllocError>
     requires { IsNonDecreasing gone.now }
-    ensures { IfOk result (λ left. map segment_model left.items ≡ segments_left gone.now image.now) }
+    ensures { IfOk result (λ left.
+        map segment_model left.items ≡ segments_left gone.now image.now) }
 {
     let going = sorted_begins(alloc, image, gone, true)?;
     let staying = sorted_begins(alloc, image, gone, false)?;

@@ -44,11 +44,6 @@ unfolding does_plan_fit layout_for
 past_sections r moved far rounds looked =
     and_left _ _ (and_left _ _ (and_right _ _ (no_field r.image.form (sections_offset r moved) far)))
 
-pub past_table : (r : Resized) (moved : List ℕ) → 2 ^ 64 ≤ table_offset r moved → IsPastField r moved
-unfolding does_plan_fit layout_for
-past_table r moved far rounds looked =
-    and_left _ _ (and_left _ _ (and_left _ _ (and_right _ _ (no_field r.image.form (table_offset r moved) far))))
-
 pub past_place : (r : Resized) (moved : List ℕ) (i : ℕ) (s : Place) → slice_get (places r moved) i ≡ Some s → 2 ^ 64 ≤ s.sh_addr
     → IsPastField r moved
 unfolding does_plan_fit layout_for

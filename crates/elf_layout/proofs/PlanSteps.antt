@@ -4,8 +4,6 @@ use Rattle.std.specs.Prelude.{All}
 use Rattle.std.proofs.lemmas.Bool.{not_from_false}
 use Rattle.elf_format.specs.declared.records.SegmentHeader.{SegmentHeader}
 use Rattle.elf_format.specs.Places.{Place}
-use Rattle.elf_layout_plan.specs.declared.fault.LayoutFault.{LayoutFault}
-use Rattle.elf_layout_plan.specs.declared.fault.LayoutFault.TheVariants as faults
 use Rattle.elf_layout_plan.specs.Memory.{Resized}
 use Rattle.elf_layout_plan.specs.Plan.{IsPlan, IsTooLarge, Layout, does_plan_fit, layout_for}
 use Rattle.elf_layout_plan.specs.PlanModel.{place_model}
@@ -15,7 +13,7 @@ use Rattle.elf_layout_plan.specs.Written.{written_segments}
 use Rattle.elf_layout_segments.specs.declared.rounds.Rounds.{Rounds}
 use Rattle.elf_layout.specs.declared.standing.Standing.{Standing}
 use Rattle.elf_layout_segments.specs.AnchorPositions.{IsEnded}
-use Rattle.elf_layout.specs.Inner.{AreParts, AreWritten, HasNoPlan, IsStanding, StandsTooFar}
+use Rattle.elf_layout.specs.Inner.{AreParts, AreWritten, IsStanding}
 use Rattle.elf_layout_segments.proofs.ForCallers.{moved_within}
 
 abbrev pub made : List Place → List SegmentHeader → ℕ → ℕ → ℕ → ℕ → Layout
@@ -69,8 +67,3 @@ not_planned r rounds parts ended found no_fit =
     let moved : List ℕ = rounds.moved.items in
     let P : Layout → Type 0 = λ plan. does_plan_fit r.image.form plan ≡ false in
     too_large_for r rounds.count rounds.looked moved ended.0 ended.1 ended.2 (subst P found.are no_fit)
-
-pub stands_nowhere : (r : Resized) (rounds : Rounds) (fault : LayoutFault) → IsEnded r rounds → StandsTooFar r rounds.moved.items fault → HasNoPlan r fault
-stands_nowhere r rounds faults.Overlap ended never = absurd never
-stands_nowhere r rounds faults.NumberTooLarge ended past = too_large_for r rounds.count rounds.looked rounds.moved.items ended.0 ended.1 ended.2 (past rounds.count rounds.looked)
-stands_nowhere r rounds faults.Memory ended any = tt

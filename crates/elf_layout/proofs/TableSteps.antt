@@ -116,9 +116,6 @@ unloaded_all start all made end i past placed =
 abbrev pub ArePlacedAll : (SizedSection → Place) → List SizedSection → List Place → ℕ → Type 0
 ArePlacedAll by all made i = made ++ map by (drop i all) ≡ map by all
 
-pub places_start : (by : SizedSection → Place) (all : List SizedSection) → ArePlacedAll by all [] 0
-places_start by all = refl
-
 pub places_more : (by : SizedSection → Place) (all : List SizedSection) (made : List Place) (i : ℕ) (s : SizedSection) (place : Place)
     (more : List Place)
     → slice_get all i ≡ Some s → ArePlacedAll by all made i → place ≡ by s → more ≡ made ++ place ∷ [] → ArePlacedAll by all more (i + 1)

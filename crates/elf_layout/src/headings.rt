@@ -180,7 +180,8 @@ fn at_targets(
 ) -> Option<Headings>
     ensures { let well = list_all (is_well_at form p) (targets_found targets) in
         MatchOption result (well ≡ false)
-        (λ h. (headings_model h ≡ headings_found form p alone (targets_found targets)) × (well ≡ true)) }
+        (λ h. (headings_model h ≡ headings_found form p alone (targets_found targets))
+        × (well ≡ true)) }
 {
     let Targets { first, second } = targets;
     match first {
@@ -248,7 +249,8 @@ pub(crate) fn push_written(
     ensures { let all = map place_model places.now in let begins = begins_model notes.now in
         let anchor_position = anchor_model anchor.now in
         MatchResult result
-        (λ _. (made.new.items ≡ made.old.items ++ headings_for form all begins size p anchor_position)
+        (λ _. (made.new.items
+            ≡ made.old.items ++ headings_for form all begins size p anchor_position)
         × (do_headings_fit form all begins size p anchor_position ≡ true))
         (IsMisfit (do_headings_fit form all begins size p anchor_position)) }
 {

@@ -143,7 +143,8 @@ pub(crate) fn place_sections(
 ) -> Option<At>
     requires address { start.address < 2 ^ 65 }
     requires offset { start.offset < 2 ^ 64 }
-    ensures end { IfSome result (λ end. end ≡ behind_slots start (with_flags r.now flags moved.now)) }
+    ensures end { IfSome result (λ end.
+        end ≡ behind_slots start (with_flags r.now flags moved.now)) }
     ensures slots { OnSome result (slots.new ≡ with_slots slots.old
         (slots_from start.offset start.address (with_flags r.now flags moved.now))) }
     ensures fits { IfSome result (λ end. end.offset < 2 ^ 64) }

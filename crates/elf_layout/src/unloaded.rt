@@ -67,7 +67,8 @@ pub(crate) fn place_all_unloaded(
 ) -> Result<Unloaded, LayoutFault>
     ensures offsets { IfOk result (λ unloaded.
         unloaded.offsets.items ≡ unloaded_offsets start (sized_sections r.now)) }
-    ensures end { IfOk result (λ unloaded. unloaded.end ≡ unloaded_end start (sized_sections r.now)) }
+    ensures end { IfOk result (λ unloaded.
+        unloaded.end ≡ unloaded_end start (sized_sections r.now)) }
     ensures fault { IfErr result (IsUnloadedFault (unloaded_end start (sized_sections r.now))) }
 {
     let mut offsets = Vec::new(alloc);

@@ -33,7 +33,8 @@ fn displaced_blocks(
     blocks: &[MemoryBlock],
     loaded: bool,
 ) -> Result<Vec<MemoryBlock>, AllocError>
-    ensures { IfOk result (λ found. found.items ≡ filter (λ b. moves_as_displaced loaded b) blocks.now) }
+    ensures { IfOk result (λ found.
+        found.items ≡ filter (λ b. moves_as_displaced loaded b) blocks.now) }
 {
     blocks
         .iter()
@@ -48,7 +49,8 @@ fn inside_blocks(
     blocks: &[MemoryBlock],
     loaded: bool,
 ) -> Result<Vec<MemoryBlock>, AllocError>
-    ensures { IfOk result (λ found. found.items ≡ filter (λ b. not (moves_as_displaced loaded b)) blocks.now) }
+    ensures { IfOk result (λ found.
+        found.items ≡ filter (λ b. not (moves_as_displaced loaded b)) blocks.now) }
 {
     blocks
         .iter()

@@ -35,10 +35,6 @@ pub greatest-each : (n : ℕ) (ns : List ℕ) → Each (λ m. m ≤ greatest n n
 greatest-each n [] = tt
 greatest-each n (m ∷ ns) = (omega (arith, greatest-start (max n m) ns), greatest-each (max n m) ns)
 
-pub greatest-within : (n : ℕ) (ns : List ℕ) (limit : ℕ) → n ≤ limit → Each (λ m. m ≤ limit) ns → greatest n ns ≤ limit
-greatest-within n [] limit h each = h
-greatest-within n (m ∷ ns) limit h each = greatest-within (max n m) ns limit (let here : m ≤ limit = each.0 in omega arith) each.1
-
 -- ## Two blocks
 
 pub or-false : (b c : Bool) → (b || c) ≡ false → (b ≡ false) × (c ≡ false)

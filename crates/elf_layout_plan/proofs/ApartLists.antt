@@ -299,15 +299,6 @@ push-at (z ∷ xs) y (suc j) x at = elim (push-at xs y j x at) [
   | inr last ↦ inr (ap suc last.0, last.1)
 ]
 
-pub front-at : {A : Type 0} (xs : List A) (y : A) (j : ℕ) (x : A) → slice_get xs j ≡ Some x → slice_get (xs ++ y ∷ []) j ≡ Some x
-front-at [] y j x at = absurd (none-some x at)
-front-at (z ∷ xs) y zero x at = at
-front-at (z ∷ xs) y (suc j) x at = front-at xs y j x at
-
-pub push-last : {A : Type 0} (xs : List A) (y : A) → slice_get (xs ++ y ∷ []) (length xs) ≡ Some y
-push-last [] y = refl
-push-last (z ∷ xs) y = push-last xs y
-
 -- an element of the one list, or of the other, is one of both
 pub append-front_at : {A : Type 0} (xs ys : List A) (i : ℕ) (x : A) → slice_get xs i ≡ Some x → (j : ℕ) × (slice_get (xs ++ ys) j ≡ Some x)
 append-front_at [] ys i x at = absurd (none-some x at)

@@ -1,9 +1,9 @@
 -- A section without bytes in the file keeps its size.
-use Rattle.std.proofs.Common.{◌≡◌, ◌⊎◌, ℕ, zero, suc, ◌*◌, Bool, true, false, List, ◌∷◌, ◌++◌, map, length, refl, sym, ap, ◌∙◌, subst, inl, inr, Option, Some, None, arith, []}
+use Rattle.std.proofs.Common.{◌≡◌, ℕ, ◌*◌, Bool, true, false, List, ◌∷◌, map, length, refl, sym, ap, ◌∙◌, subst, inl, inr, Option, Some, None, arith, []}
 use Rattle.std.specs.Prelude.{◌&&◌, ◌==◌, find, if◌then◌else◌}
 use Rattle.std.specs.List.{slice_get}
 use Rattle.std.proofs.lemmas.Bool.{cond-false, eqb-true, false_from_ne_true, false≢true}
-use Rattle.std.proofs.lemmas.Option.{none-some, same_Some}
+use Rattle.std.proofs.lemmas.Option.{same_Some}
 use Rattle.patch_bytes.specs.Memory.{◌>>=◌}
 use Rattle.patch_bytes.proofs.MemoryLaws.{bind_some}
 use Rattle.elf_format.specs.declared.constants.TheConstants.{PT_INTERP, SHT_DYNAMIC, SHT_DYNSYM, SHT_GNU_HASH, SHT_GNU_VERDEF, SHT_GNU_VERNEED, SHT_GNU_VERSYM, SHT_HASH, SHT_NOBITS, SHT_PROGBITS, SHT_STRTAB, SHT_SYMTAB}
@@ -23,12 +23,6 @@ use Rattle.elf_layout_plan.proofs.PlacedSections.{is_kept}
 use Rattle.elf_format.proofs.ForCallers.Lengths.{counted_at}
 
 -- ## Numbers at read
-
-last_or : (xs : List ℕ) (y j m : ℕ) → slice_get (xs ++ y ∷ []) j ≡ Some m → (slice_get xs j ≡ Some m) ⊎ ((j ≡ length xs) × (y ≡ m))
-last_or [] y zero m h = inr (refl, same_Some y m h)
-last_or [] y (suc j) m h = absurd (none-some m h)
-last_or (x ∷ xs) y zero m h = inl h
-last_or (x ∷ xs) y (suc j) m h = elim (last_or xs y j m h) [ inl there ↦ inl there | inr last ↦ inr (ap suc last.0, last.1) ]
 
 -- ## The interpreter's section
 

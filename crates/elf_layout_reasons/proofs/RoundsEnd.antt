@@ -1,5 +1,5 @@
 -- A pair that is found in a round stands against every plan, and what is known of an image with its sizes is known of the image.
-use Rattle.std.proofs.Common.{◌≡◌, ◌+◌, ◌-◌, ◌<◌, ◌≤◌, ℕ, List, true, false, Option, None, Some, sym, ap, ◌∙◌, subst, inl, inr, length}
+use Rattle.std.proofs.Common.{◌≡◌, ◌+◌, ◌-◌, ◌<◌, ℕ, List, true, false, Option, None, Some, sym, ap, ◌∙◌, subst, inl, inr, length}
 use Rattle.std.specs.Prelude.{IfNone}
 use Rattle.elf_layout_plan.specs.Blocks.{Block}
 use Rattle.elf_layout_plan.specs.Memory.{Resized, blocks_with}
@@ -10,7 +10,7 @@ use Rattle.elf_layout_moves.specs.Limits.{Covers, end_with}
 use Rattle.elf_layout_moves.proofs.ForCallers.{resized_is}
 use Rattle.elf_layout_segments.specs.declared.forecasts.Forecast.{Forecast}
 use Rattle.elf_layout_segments.specs.Forecasts.{IsForecast, needed_at}
-use Rattle.elf_layout_segments.proofs.RoundSteps.{AreSoFar, ended, nearer, none_so_far, one_more}
+use Rattle.elf_layout_segments.proofs.RoundSteps.{AreSoFar, nearer, none_so_far, one_more}
 use Rattle.elf_layout_reasons.specs.declared.stuck.StuckPair.{StuckPair}
 use Rattle.elf_layout_reasons.specs.Pair.{IsFirstPair, IsStuckPair}
 use Rattle.elf_layout_reasons.specs.Stuck.{DoRoundsEnd, HasManyBlocks, HasNoStuckPair, IsRound, IsStuckInRound, first_pair}
@@ -72,11 +72,6 @@ none_before r = record { count = 1; so_far = none_so_far r }
 
 pub stuck_now : (r : Resized) (looked : ℕ) → AreBefore r looked → is_stuck_with r looked ≡ true → IsStuckInRound r looked
 stuck_now r looked b stuck = record { before = b.so_far.before; lead = b.so_far.lead; stuck = stuck }
-
-pub end_now : (r : Resized) (looked needed : ℕ) → AreBefore r looked → IsRound r looked needed → needed ≤ looked → DoRoundsEnd r
-end_now r looked needed b round enough =
-    let (before, rounds, _) = ended r looked b.count needed round.moved b.so_far round.move round.chosen round.need enough in
-    record { before = before; looked = looked; moved = round.moved; ended = rounds }
 
 pub one_before : (r : Resized) (looked needed : ℕ) → AreBefore r looked → IsRound r looked needed → looked < needed → AreBefore r needed
 one_before r looked needed b round more =

@@ -1,6 +1,6 @@
 -- Limits of sections tell how many sets of flags are needed.
 use Rattle.std.proofs.Common.{◌≡◌, ◌≢◌, ℕ, zero, suc, ◌+◌, ◌<◌, ◌≤◌, List, [], ◌∷◌, Bool, true, false, not, ◌&&◌, ◌||◌, cond, Some, None, Option, length, map, min, refl, sym, ap, ◌∙◌, subst, inl, inr, arith}
-use Rattle.std.specs.Prelude.{count_by, filter, if◌then◌else◌, nat_le, nat_lt, slice_get, ◌==◌}
+use Rattle.std.specs.Prelude.{count_by, filter, if◌then◌else◌, nat_le, slice_get, ◌==◌}
 use Rattle.std.specs.List.{cons_option, list_any}
 use Rattle.std.proofs.lemmas.Bool.{and_from, and_parts, cases_eq, cases_lt, eq-eqb, eqb-true, false≢true, lt-leb, ne_eqb, le-leb}
 use Rattle.std.proofs.lemmas.List.Folds.{list_any-append}
@@ -15,10 +15,9 @@ use Rattle.elf_layout_plan.specs.Rounds.{added_flags, each_once, flags_for, sect
 use Rattle.elf_layout_plan.proofs.ForCallers.ApartLists.{Each, any-at, any-from, each-filter, each-more}
 use Rattle.elf_layout_moves.specs.Limits.{limit_at}
 use Rattle.elf_layout_moves.specs.declared.limits.TheConstants.{NEVER}
-use Rattle.elf_layout_segments.specs.Forecasts.{AreFlagsLimits, IsFlagsLimit, does_flagged_move, needs_flags}
+use Rattle.elf_layout_segments.specs.Forecasts.{IsFlagsLimit, does_flagged_move, needs_flags}
 use Rattle.elf_layout_segments.specs.Sections.{AreSized}
 use Rattle.elf_layout_segments.proofs.CountLaws.{count-cons}
-use Rattle.elf_layout_segments.proofs.ForecastSteps.{up_to}
 use Rattle.elf_layout_segments.proofs.SplitSteps.{length-sized, sized-there}
 
 same_if_both : (a b : Bool) → (a ≡ true → b ≡ true) → (b ≡ true → a ≡ true) → a ≡ b
@@ -217,25 +216,6 @@ module _ (r : Resized) (are : AreSized r) (limits moved : List ℕ) (end : ℕ)
       omega (arith, all, a, b, c, e, w, x, y, z, none)
 
 -- ## The limits of flags
-
-pub flags_limits_are : (leave : Bool) (limits : List ℕ) (sections : List ImageSection) (a b c e : ℕ) → IsFlagsLimit leave limits sections 4 a → IsFlagsLimit leave limits sections 5 b → IsFlagsLimit leave limits sections 6 c → IsFlagsLimit leave limits sections 7 e
-    → AreFlagsLimits leave limits sections (a ∷ b ∷ c ∷ e ∷ [])
-flags_limits_are leave limits sections a b c e p q s t = record {
-  tells = λ end near.
-      let d : ℕ → Bool = does_flagged_move leave limits sections end in
-      let test : ℕ → Bool = λ n. nat_lt n (end + 1) in
-      let i = count-cons test a (b ∷ c ∷ e ∷ []) ∙ ap (λ (x : Bool). cond x 1 0 + count_by test (b ∷ c ∷ e ∷ [])) (up_to a end ∙ p.tells end near) in
-      let j = count-cons test b (c ∷ e ∷ []) ∙ ap (λ (x : Bool). cond x 1 0 + count_by test (c ∷ e ∷ [])) (up_to b end ∙ q.tells end near) in
-      let k = count-cons test c (e ∷ []) ∙ ap (λ (x : Bool). cond x 1 0 + count_by test (e ∷ [])) (up_to c end ∙ s.tells end near) in
-      let l = count-cons test e [] ∙ ap (λ (x : Bool). cond x 1 0 + count_by test []) (up_to e end ∙ t.tells end near) in
-      let w = count-cons d 4 (5 ∷ 6 ∷ 7 ∷ []) in
-      let x = count-cons d 5 (6 ∷ 7 ∷ []) in
-      let y = count-cons d 6 (7 ∷ []) in
-      let z = count-cons d 7 [] in
-      let none : count_by d [] ≡ 0 = refl in
-      let nil : count_by test [] ≡ 0 = refl in
-      omega (arith, i, j, k, l, w, x, y, z, none, nil);
-}
 
 -- ## One section after the other
 

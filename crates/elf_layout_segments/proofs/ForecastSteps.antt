@@ -335,23 +335,6 @@ pub record AreJoinsBelow (firsts mirrored : List ℕ) (place : ℕ) (joins : Lis
   pub many : length joins ≡ place
   pub each : (j first mirror join : ℕ) → slice_get firsts j ≡ Some first → slice_get mirrored j ≡ Some mirror → slice_get joins j ≡ Some join → join ≡ max first (NEVER - mirror)
 
-pub join_next : (firsts mirrored joins after : List ℕ) (place value : ℕ) → place < length firsts → place < length mirrored → value ≡ max (get_or firsts place 0) (NEVER - get_or mirrored place 0) → after ≡ joins ++ value ∷ []
-    → AreJoinsBelow firsts mirrored place joins → AreJoinsBelow firsts mirrored (place + 1) after
-join_next firsts mirrored joins after place value within also is made are = subst (λ (l : List ℕ). AreJoinsBelow firsts mirrored (place + 1) l) (sym made) (record {
-  many = omega (arith, length-append joins (value ∷ []), are.many);
-  each = λ j first mirror join at_first at_mirror at_join. elim (push-at joins value j join at_join) [
-    | inl before ↦ are.each j first mirror join at_first at_mirror before
-    | inr (last, same) ↦
-        let here : j ≡ place = last ∙ are.many in
-        let a : get_or firsts place 0 ≡ first = ap (λ (n : ℕ). get_or firsts n 0) (sym here) ∙ get_or_from_slice_get firsts j first 0 at_first in
-        let b : get_or mirrored place 0 ≡ mirror = ap (λ (n : ℕ). get_or mirrored n 0) (sym here) ∙ get_or_from_slice_get mirrored j mirror 0 at_mirror in
-        same ∙ is ∙ ap (λ (n : ℕ). max n (NEVER - get_or mirrored place 0)) a ∙ ap (λ (n : ℕ). max first (NEVER - n)) b
-  ];
-})
-
-pub joins_all : (firsts mirrored joins : List ℕ) (place : ℕ) → place ≡ length firsts → AreJoinsBelow firsts mirrored place joins → AreJoins firsts mirrored joins
-joins_all firsts mirrored joins place all are = record { many = are.many ∙ all; each = are.each }
-
 -- one program header more
 pub stretch_next : (begins : List Limited) (parts all : List Range) (part : Range) (asked after : List Stretch) (s : Stretch) → all ≡ parts ++ part ∷ [] → after ≡ asked ++ s ∷ [] → IsStretchIn begins part s → AreStretchesIn begins parts asked
     → AreStretchesIn begins all after

@@ -77,12 +77,6 @@ pub record AreDoubled (numbers : List ℕ) (width place : ℕ) (made : List ℕ)
   pub many : length made ≡ place
   pub each : (i least : ℕ) → slice_get made i ≡ Some least → IsLeast (numbers_at numbers i (width + width)) least
 
-pub none_doubled : (numbers : List ℕ) (width : ℕ) (made : List ℕ) → made ≡ [] → AreDoubled numbers width 0 made
-none_doubled numbers width made none = record {
-  many = ap length none;
-  each = λ i least at. let there : slice_get [] i ≡ Some least = subst (λ (l : List ℕ). slice_get l i ≡ Some least) none at in absurd (omega (arith, slice_get_within [] i least there));
-}
-
 pub next_doubled : (numbers : List ℕ) (width place : ℕ) (made after : List ℕ) (least : ℕ) → after ≡ made ++ least ∷ [] → IsLeast (numbers_at numbers place (width + width)) least → AreDoubled numbers width place made
     → AreDoubled numbers width (place + 1) after
 next_doubled numbers width place made after least is here are = subst (λ (l : List ℕ). AreDoubled numbers width (place + 1) l) (sym is) (record {
@@ -92,10 +86,6 @@ next_doubled numbers width place made after least is here are = subst (λ (l : L
     | inr (last, same) ↦ subst (λ (m : ℕ). IsLeast (numbers_at numbers i (width + width)) m) (sym same) (subst (λ (k : ℕ). IsLeast (numbers_at numbers k (width + width)) least) (sym (last ∙ are.many)) here)
   ];
 })
-
-pub all_doubled : (numbers row : List ℕ) (width place : ℕ) (made : List ℕ) → length row ≤ place → place ≤ length row → AreLeastOf numbers width row → AreDoubled numbers width place made
-    → AreLeastOf numbers (width + width) made
-all_doubled numbers row width place made past within are doubled = record { many = omega (arith, doubled.many, past, within, are.many); each = doubled.each }
 
 -- ## Answers
 

@@ -109,7 +109,8 @@ pub(crate) fn lists_of(alloc: Global, r: &Resizing<'_, '_>) -> Result<Lists, All
 
 // Where the section stands that has just the bytes of a program header, of several one that is loaded.
 fn find_under(lists: &Lists, p: SegmentHeader) -> Option<usize>
-    ensures { (looked : SearchedLists) → AreLists looked lists.now → result ≡ under_at p looked.kept }
+    ensures { (looked : SearchedLists) → AreLists looked lists.now
+        → result ≡ under_at p looked.kept }
 {
     match first_just(&lists.loaded, p.file_part()) {
         Some(position) => Some(position),
@@ -183,7 +184,8 @@ pub(crate) fn anchors_by_lists(
     lists: &Lists,
 ) -> Result<Vec<AnchorAt>, AllocError>
     ensures { (looked : SearchedLists) → AreLists looked lists.now → IfOk result (λ made.
-        map anchor_model made.items ≡ map (λ s. anchor_position_of looked (segment_model s)) segments.now) }
+        map anchor_model made.items
+            ≡ map (λ s. anchor_position_of looked (segment_model s)) segments.now) }
 {
     let mut made = Vec::new(alloc);
     for segment in segments {

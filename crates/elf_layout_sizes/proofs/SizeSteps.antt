@@ -99,12 +99,6 @@ pub record AreSizedTo (read image : Image) (sizes : List ℕ) (i : ℕ) : Type 0
   pub sizes_are : sizes ++ sizes_by read image (drop i image.section_numbers) (drop i image.sections) ≡ sizes_by read image image.section_numbers image.sections
   pub fit_where : do_all_fit read image (drop i image.section_numbers) (drop i image.sections) ≡ do_all_fit read image image.section_numbers image.sections
 
-pub sized_start : (read image : Image) (sizes : List ℕ) → sizes ≡ [] → AreSizedTo read image sizes 0
-sized_start read image sizes none = record {
-  sizes_are = ap (λ l. l ++ sizes_by read image image.section_numbers image.sections) none;
-  fit_where = refl;
-}
-
 module _ (read image : Image) (is : IsEdited image) (i : ℕ) (s : ImageSection) (within : i < length image.sections) (at : slice_get image.sections i ≡ Some s) where
   numbers_on : drop i image.section_numbers ≡ slice_index image.section_numbers i ∷ drop (i + 1) image.section_numbers
   numbers_on = drop_more image.section_numbers i 0 (omega (arith, as_many image is))

@@ -75,7 +75,8 @@ impl<'t> Texts<'t> {
 
     // Adds the names of symbols.
     pub(crate) fn push_symbols(&mut self, symbols: SymbolsNow<'t>) -> Result<(), AllocError>
-        ensures { OnOk result (self.new ≡ self.old ++ texts_of_symbols (symbols_now symbols.entry)) }
+        ensures { OnOk result
+            (self.new ≡ self.old ++ texts_of_symbols (symbols_now symbols.entry)) }
     {
         self.list.reserve(symbols.len())?;
         for i in 0..symbols.len() {
@@ -97,7 +98,8 @@ impl<'t> Texts<'t> {
 
     // Adds the texts that an entry of the dynamic list has.
     fn push_entry(&mut self, entry: &'t Dynamic<'_>) -> Result<(), AllocError>
-        ensures { OnOk result (self.new ≡ self.old ++ texts_of_entry (entry_model entry.entry.now)) }
+        ensures { OnOk result
+            (self.new ≡ self.old ++ texts_of_entry (entry_model entry.entry.now)) }
     {
         match entry {
             Dynamic::Text { val, .. } => self.push(val.as_slice()),

@@ -15,7 +15,7 @@ use Rattle.elf_image.specs.Staying.{staying}
 use Rattle.elf_image.specs.Along.{goes_along, symbols_along}
 use Rattle.elf_edits.proofs.ForCallers.{kept_firsts_rise}
 use Rattle.elf_symbol_edits.specs.declared.deletion.Deletion.{Deletion as DeletionHeld}
-use Rattle.elf_symbol_edits.specs.Deletion.{AreRising, Deletion, deletion_of, no_deletion}
+use Rattle.elf_symbol_edits.specs.Deletion.{AreRising, Deletion, deletion_of}
 use Rattle.elf_symbol_edits.specs.EditModel.{IsDeletionOf, deletion_model}
 use Rattle.elf_symbol_edits.specs.SymbolEdit.{DeleteAllSymbols, DeleteDynamicSymbols, DeleteSections, DeleteSymbols, SymbolEdit}
 use Rattle.elf_symbol_edits.specs.Named.{named_dynamic_symbols, named_sections, named_symbols, numbers_passing, section_name, symbol_name}
@@ -79,9 +79,6 @@ module _ (image : Image) (h : IsEdited image) (names : List (List ℕ)) where
 
   pub rising_sections : AreRising (deletion_of (DeleteSections names) image)
   rising_sections = record { symbols = along_rise; dynamic_symbols = none_rise; sections = sections_rise }
-
-pub rising_none : AreRising no_deletion
-rising_none = record { symbols = none_rise; dynamic_symbols = none_rise; sections = none_rise }
 
 -- ## What the code makes
 

@@ -19,8 +19,8 @@ use Rattle.elf_symbol_edits.specs.Cause.{cause, cause_before, cause_if, cause_of
 use Rattle.elf_symbol_edits.specs.Deletion.{Deletion, deletion_of}
 use Rattle.elf_symbol_edits.specs.EditModel.{IsDone}
 use Rattle.elf_symbol_edits.specs.Named.{named_dynamic_symbols, named_sections, named_symbols, section_name, symbol_name}
-use Rattle.elf_symbol_edits.specs.Steps.{AreAllGone, AreDynamicGone, AreGone, AreSectionsGone}
-use Rattle.elf_symbol_edits.specs.SymbolEdit.{DeleteAllSymbols, DeleteDynamicSymbols, DeleteSections, DeleteSymbols, SymbolEdit, texts_of}
+use Rattle.elf_symbol_edits.specs.Steps.{AreSectionsGone}
+use Rattle.elf_symbol_edits.specs.SymbolEdit.{DeleteSections, SymbolEdit, texts_of}
 use Rattle.elf_symbol_edits.proofs.NumberSteps.{all_there, none_first}
 
 -- ## No cause stands
@@ -81,23 +81,6 @@ first_dynamic names image = none_first (λ y. is_among names (symbol_name y)) im
 -- ## What is made
 
 module _ (names : List (List ℕ)) (old new : Image) (gone : List ℕ) (touched : Bool) where
-  pub symbols_done : gone ≡ named_symbols names old → AreGone gone old new touched → IsDone (DeleteSymbols names) old new touched
-  symbols_done is h =
-      let all : AreGone (named_symbols names old) old new touched = subst (λ (g : List ℕ). AreGone g old new touched) is h in
-      record { told = all.told; made = all.made }
-
-  pub dynamic_symbols_done : gone ≡ named_dynamic_symbols names old → AreDynamicGone gone old new touched → IsDone (DeleteDynamicSymbols names) old new touched
-  dynamic_symbols_done is h =
-      let all : AreDynamicGone (named_dynamic_symbols names old) old new touched = subst (λ (g : List ℕ). AreDynamicGone g old new touched) is h in
-      record { told = all.told; made = all.made }
-
-  pub all_symbols_done : (dynamic_gone : List ℕ) → gone ≡ named_symbols names old → dynamic_gone ≡ named_dynamic_symbols names old → AreAllGone gone dynamic_gone old new touched
-      → IsDone (DeleteAllSymbols names) old new touched
-  all_symbols_done dynamic_gone is dynamic_is h =
-      let half : AreAllGone (named_symbols names old) dynamic_gone old new touched = subst (λ (g : List ℕ). AreAllGone g dynamic_gone old new touched) is h in
-      let all : AreAllGone (named_symbols names old) (named_dynamic_symbols names old) old new touched = subst (λ (g : List ℕ). AreAllGone (named_symbols names old) g old new touched) dynamic_is half in
-      record { told = all.told; made = all.made }
-
   some_gone : (g : List ℕ) → without_sections g old ≡ (if has_some g then without_sections g old else old)
   some_gone [] = refl
   some_gone (n ∷ ns) = refl

@@ -1,10 +1,10 @@
 -- Sections that get other names.
-use Rattle.std.proofs.Common.{◌≡◌, ℕ, zero, suc, ◌+◌, ◌≤◌, Bool, true, false, ◌||◌, List, [], ◌∷◌, ◌++◌, length, map, drop, refl, sym, ap, ◌∙◌, Option, Some, None, is_some, arith, add-one}
+use Rattle.std.proofs.Common.{◌≡◌, ℕ, zero, suc, ◌+◌, Bool, true, false, ◌||◌, List, [], ◌∷◌, ◌++◌, length, map, drop, refl, sym, ap, ◌∙◌, Option, Some, None, is_some, arith, add-one}
 use Rattle.std.specs.Prelude.{All, IfSome, if◌then◌else◌, unwrap_or, not}
 use Rattle.std.specs.List.{flat_map, list_any, slice_get}
 use Rattle.std.specs.Str.{bytes_eq}
 use Rattle.std.proofs.lemmas.Bool.{or_parts}
-use Rattle.std.proofs.lemmas.List.{append_assoc, append-nil, drop_all, drop_more, length-append, length-map}
+use Rattle.std.proofs.lemmas.List.{append_assoc, drop_more, length-append, length-map}
 use Rattle.std.proofs.lemmas.List.Elements.{All-cons, All-head, All-nil, All-tail}
 use Rattle.std.proofs.lemmas.List.Folds.{list_any-append}
 use Rattle.std.proofs.lemmas.Option.{get_or_from_slice_get, none-some, same_Some, slice_get_within}
@@ -29,9 +29,6 @@ maps_one {A} f made now whole xs i x at more so_far =
     ap (λ ys. ys ++ map f (drop (i + 1) xs)) more ∙ append_assoc made (f x ∷ []) (map f (drop (i + 1) xs))
     ∙ sym (ap (λ (l : List A). made ++ map f l) (drop_more xs i x (slice_get_within xs i x at) ∙ ap (λ y. y ∷ drop (i + 1) xs) (get_or_from_slice_get xs i x x at)))
     ∙ so_far
-
-pub maps_all : {A B : Type 0} (f : A → B) (made whole : List B) (xs : List A) (i : ℕ) → length xs ≤ i → made ++ map f (drop i xs) ≡ whole → made ≡ whole
-maps_all f made whole xs i past so_far = sym (append-nil made) ∙ sym (ap (λ l. made ++ map f l) (drop_all i xs past)) ∙ so_far
 
 -- ## Names without a NUL
 
@@ -110,14 +107,6 @@ name_put ns (Some name) i image new at is =
     ap (with_section_names ns) (is ∙ ap (λ (k : ℕ). with_name_at k (Some name) image) at)
     ∙ sym (ap (λ (b : Bool). record image { changed = b; sections = with_names_behind (ns ++ Some name ∷ []) image.sections }) (ap (λ (b : Bool). image.changed || b) (list_any-append is_some ns (Some name ∷ [])) ∙ or_true image.changed (list_any is_some ns))
     ∙ ap (λ (l : List ImageSection). record image { changed = true || list_any is_some ns; sections = l }) (last_behind ns name image.sections))
-
--- no name is left
-pub names_put : (image : Image) → with_section_names [] image ≡ image
-names_put image = ap (λ (b : Bool). record image { changed = b; sections = with_names_behind [] image.sections }) (or_false image.changed) ∙ ap (λ (l : List ImageSection). record image { sections = l }) (none_at image.sections)
-  where
-    none_at : (ss : List ImageSection) → with_names_behind [] ss ≡ ss
-    none_at [] = refl
-    none_at (s ∷ ss) = refl
 
 length-changed : (i : ℕ) (f : ImageSection → ImageSection) (ss : List ImageSection) → length (changed_at i f ss) ≡ length ss
 length-changed i f [] = refl

@@ -75,9 +75,6 @@ pub record Chaining {A : Type 0} (spell : A → ℕ → List ℕ) (size : A → 
   pub fit : (k : ℕ) (d : A) → k < i → k < length xs → Fits (get_or xs k d)
 
 module _ {A : Type 0} (spell : A → ℕ → List ℕ) (size : A → ℕ) (Fits : A → Type 0) (start : List ℕ) (xs : List A) where
-  pub chaining-start : Chaining spell size Fits start xs 0 start
-  chaining-start = record { made = refl; fit = λ k d none within. absurd (omega arith) }
-
   pub chaining-more : (i : ℕ) (bytes new : List ℕ) (x : A) (n : ℕ) → Chaining spell size Fits start xs i bytes → i < length xs → x ≡ get_or xs i x → Fits x
       → n ≡ cond (ltb (i + 1) (length xs)) (size x) 0 → new ≡ bytes ++ spell x n → Chaining spell size Fits start xs (i + 1) new
   unfolding chained

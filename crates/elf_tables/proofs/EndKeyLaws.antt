@@ -133,11 +133,6 @@ end-fits back key within low =
 pub byte-within : (text : List ℕ) (back : ℕ) → back < length text → get_or text (length text - 1 - back) 0 ≡ get_or (reverse text) back 0
 byte-within text back within = sym (get_or-reverse text back 0 within)
 
-pub byte-past : (text : List ℕ) (back : ℕ) → length text ≤ back → 0 ≡ get_or (reverse text) back 0
-byte-past text back past =
-    let long : length (reverse text) ≤ back = omega (arith, length-reverse {A = ℕ}) in
-    sym (get_or_past (reverse text) back 0 long)
-
 -- ## Ends that are read at once
 
 -- the last bytes of a text, so many, as a number that is read the lowest first

@@ -46,9 +46,6 @@ sorted-map f (y ∷ ys) sorted k d low high =
     let within : k + 1 < length (y ∷ ys) = omega (arith, length-map (y ∷ ys) f) in
     rw (get_or-map f (y ∷ ys) (k + 1) y d within, get_or-map f (y ∷ ys) k y d (omega arith)) (sorted k y low within)
 
-pub falls_from_sort : {A : Type 0} (f : A → List ℕ) (ys : List A) → IsSortedBy (λ x y. is_before (f x) (f y)) ys → Falls (map f ys)
-falls_from_sort f ys sorted = falls_from_sorted (map f ys) (sorted-map f ys sorted)
-
 -- ## The texts that are put behind the table
 
 pub appended-here : (last t : List ℕ) (ts : List (List ℕ)) → ends_with nat_eq last t ≡ false → appended last (t ∷ ts) ≡ t ∷ appended t ts

@@ -61,9 +61,6 @@ pushed (g ∷ hs) h zero x at = inl at
 pushed (g ∷ hs) h (suc j) x at = elim (pushed hs h j x at) [ inl old ↦ inl old | inr last ↦ inr (ap suc last.0, last.1) ]
 
 module _ (r : Resized) (names : List ℕ) (ss : List KeptSection) (ps : List Place) where
-  pub made_none : AreMade r names ss ps [] 0
-  made_none = record { count = refl; each = λ j h at. absurd (none-some h at) }
-
   pub made_more : (hs more : List SectionHeader) (i : ℕ) (h : SectionHeader) → AreMade r names ss ps hs i → IsHeaderAt r names ss ps i h
       → more ≡ hs ++ h ∷ [] → AreMade r names ss ps more (i + 1)
   made_more hs more i h made here is_more = record {

@@ -12,7 +12,6 @@ use Rattle.elf_layout_plan.specs.Plan.{resized}
 use Rattle.elf_write_spec.specs.ReadBack.{HasWrittenParts}
 use Rattle.elf_write_spec.specs.Contents.{IsContentByKind, IsContentOfKind, content_at_number}
 use Rattle.elf_write_spec.specs.Output.{IsPlannedOutput, Output, written_bytes}
-use Rattle.elf_write_spec.proofs.SectionKinds.{copied_by, is_copied, nothing_told, untold}
 use Rattle.elf_write_spec.proofs.WholeEdits as edits
 use Rattle.elf_write_spec.proofs.WholeFacts.{ReadFacts, SectionAt, read_at}
 use Rattle.elf_write_spec.proofs.NumberedSections.{kept_as}
@@ -71,11 +70,3 @@ module _ (w : Output) (is : IsPlannedOutput w) (f : ReadFacts w) where
 
   pub section_content : (i : ℕ) (at : SectionAt w f.parts i) → at.section.content ≡ section_bytes (file_of f.parts) at.old
   section_content i at = ap (λ (x : ImageSection). x.content) at.of_old.fields
-
-  pub bytes_copied : (i : ℕ) (at : SectionAt w f.parts i) → (at.old.sh_type == SHT_PROGBITS) ≡ false
-      → is_copied (data_of f.parts at.old) ≡ true
-      → at.bytes ≡ section_bytes (file_of f.parts) at.old
-  bytes_copied i at other copied =
-      copied_by (resized w.image) w.plan w.raw (content_at_number w.image w.contents at.section.sh_link) (kept_as i at.number at.section) at.bytes untold
-      (nothing_told (resized w.image) (kept_as i at.number at.section)) at.section.kind (ap is_copied (section_kind i at) ∙ copied) (content_kind i at other)
-      ∙ section_content i at

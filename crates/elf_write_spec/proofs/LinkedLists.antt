@@ -1,5 +1,5 @@
 -- Lists of which each element matches the one at its position in another list, and how many elements pass a test.
-use Rattle.std.proofs.Common.{◌≡◌, ◌≤◌, ℕ, zero, suc, ◌+◌, Bool, true, false, cond, List, [], ◌∷◌, ◌++◌, length, refl, sym, ap, ◌∙◌, Some, arith}
+use Rattle.std.proofs.Common.{◌≡◌, ◌≤◌, ℕ, zero, suc, ◌+◌, Bool, true, false, cond, List, [], ◌∷◌, ◌++◌, refl, ap, ◌∙◌, Some, arith}
 use Rattle.std.specs.Prelude.{count_by, filter, find}
 use Rattle.std.specs.List.{flat_map, list_all, slice_get}
 use Rattle.std.proofs.lemmas.Bool.{and_from, cond-true, false_from_ne_true}
@@ -38,17 +38,6 @@ count-cons test x xs = sum_by-cons (λ y. one_if (test y)) x xs
 
 pub count-append : {A : Type 0} (test : A → Bool) (xs ys : List A) → count_by test (xs ++ ys) ≡ count_by test xs + count_by test ys
 count-append test xs ys = sum_by-append (λ y. one_if (test y)) xs ys
-
--- lists of one length whose elements pass the same at each position
-pub count-same : {A B : Type 0} (f : A → Bool) (g : B → Bool) (xs : List A) (ys : List B) → length xs ≡ length ys
-    → ((i : ℕ) (x : A) (y : B) → slice_get xs i ≡ Some x → slice_get ys i ≡ Some y → f x ≡ g y) → count_by f xs ≡ count_by g ys
-count-same f g [] [] long same = refl
-count-same f g [] (y ∷ ys) long same = absurd (omega arith)
-count-same f g (x ∷ xs) [] long same = absurd (omega arith)
-count-same f g (x ∷ xs) (y ∷ ys) long same =
-    let rest : count_by f xs ≡ count_by g ys = count-same f g xs ys (omega arith) (λ i a b. same (suc i) a b) in
-    let first : one_if (f x) ≡ one_if (g y) = ap one_if (same zero x y refl refl) in
-    count-cons f x xs ∙ ap (λ n. n + count_by f xs) first ∙ ap (λ n. one_if (g y) + n) rest ∙ sym (count-cons g y ys)
 
 -- none passes
 pub count-none : {A : Type 0} (test : A → Bool) (xs : List A) → ((i : ℕ) (x : A) → slice_get xs i ≡ Some x → test x ≡ false)

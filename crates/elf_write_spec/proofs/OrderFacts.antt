@@ -3,7 +3,7 @@ use Rattle.std.proofs.Common.{◌≡◌, ◌≢◌, ◌↔◌, ℕ, ◌<◌, ◌
 use Rattle.std.specs.Prelude.{if◌then◌else◌, ◌||◌, ◌==◌, is_some, nat_le, option_map, position, slice_index, unwrap_or}
 use Rattle.std.specs.List.{slice_get}
 use Rattle.std.specs.List.Sorted.{IsPermutation}
-use Rattle.std.proofs.lemmas.Bool.{cases_eq, cases_lt, cond-false, cond-true, eq-eqb, false≢true, ne_eqb}
+use Rattle.std.proofs.lemmas.Bool.{cases_eq, cond-false, cond-true, eq-eqb, false≢true, ne_eqb}
 use Rattle.std.proofs.lemmas.List.{get_or-map, length-map}
 use Rattle.std.proofs.lemmas.Option.{get_or_from_slice_get, same_Some, slice_get-get_or, slice_get-map, slice_get_within}
 use Rattle.patch_bytes.specs.Memory.{◌>>=◌, memory_of}
@@ -22,7 +22,6 @@ use Rattle.elf_image.specs.Complete.{IsComplete, has_section}
 use Rattle.elf_image.specs.Kept.{KeptSection, kept_at_number, kept_of_type}
 use Rattle.elf_image.specs.Names.{are_names_changed, are_same_texts, texts_of_symbols}
 use Rattle.elf_image.proofs.ForCallers.SymbolLists.{same_texts-means}
-use Rattle.elf_relocations.specs.Inverse.{IsInverse}
 use Rattle.elf_write_spec.specs.Final.{buckets_of, dynamic_order, final, final_symbol, new_dynamic_symbol, new_dynamic_symbols, new_symbol_section, ordered}
 use Rattle.elf_write_spec.proofs.NumberedSections.{AreRising, each_there, one_position}
 use Rattle.elf_write_spec.proofs.OrderLists as orders
@@ -258,21 +257,7 @@ module _ (read image : Image) (all : HasSymbols read image) where
   first_number some =
       all.complete.first_dynamic (omega (arith, all.below 0 (slice_index image.dynamic_symbol_numbers 0) (number-at 0 some)))
 
-  pub new-first : new_dynamic_symbol read image 0 ≡ 0
-  new-first = elim (cases_lt 0 (length image.dynamic_symbols)) [
-    | inl some ↦ new-order 0 0 0 (order_first some) (first_number some)
-    | inr none ↦ new_gone 0 (λ m at. omega (arith, position_below m 0 at, none))
   ]
-
-  -- only the first symbol is the first
-  pub new-zero : (m n : ℕ) → slice_get image.dynamic_symbol_numbers m ≡ Some n → (new_dynamic_symbol read image n ≡ 0) ↔ (n ≡ 0)
-  new-zero m n number = (
-    λ e.
-        let some : 0 < length image.dynamic_symbols = omega (arith, position_below m n number) in
-        let first : m ≡ 0 = same_Some m 0 (sym (ap (slice_get (dynamic_order read image)) (sym e) ∙ order-new m n number) ∙ order_first some) in
-        same_Some n 0 (sym (ap (slice_get image.dynamic_symbol_numbers) (sym first) ∙ number) ∙ first_number some),
-    λ e. ap (new_dynamic_symbol read image) e ∙ new-first,
-  )
 
   -- with the names that were read each symbol is there
   pub all_there : are_names_changed read image ≡ false → (n : ℕ) → n < length read.dynamic_symbols
@@ -305,31 +290,6 @@ module _ (read image : Image) (all : HasSymbols read image) where
   length-new =
       let count : ℕ = length read.dynamic_symbols in
       length-map (counted count) (new_dynamic_symbol read image) ∙ length-counted count
-
-  -- where none went, they are the inverse of the order
-  pub new_inverse : image.dynamic_symbol_numbers ≡ counted (length read.dynamic_symbols) → IsInverse (dynamic_order read image) (new_dynamic_symbols read image)
-  new_inverse numbers =
-      let order : List ℕ = dynamic_order read image in
-      let news : List ℕ = new_dynamic_symbols read image in
-      let count : ℕ = length read.dynamic_symbols in
-      let many : length image.dynamic_symbols ≡ count = all.as_many ∙ ap length numbers ∙ length-counted count in
-      let own : (n : ℕ) → n < count → slice_get image.dynamic_symbol_numbers n ≡ Some n =
-      λ n below. ap (λ (l : List ℕ). slice_get l n) numbers ∙ slice_get-counted count n below in
-      record {
-        long = length-new ∙ sym many ∙ sym length-order;
-        inside = λ old less.
-            let below : old < count = omega (arith, less, length-order, many) in
-            omega (arith, new-at old below, new_below old old (own old below), length-order);
-        from_old = λ old less.
-            let below : old < count = omega (arith, less, length-order, many) in
-            ap (slice_index order) (new-at old below)
-            ∙ get_or_from_slice_get order (new_dynamic_symbol read image old) old 0 (order-new old old (own old below));
-        from_new = λ new less.
-            let old : ℕ = slice_index order new in
-            let at : slice_get order new ≡ Some old = slice_get-get_or order new 0 less in
-            let below : old < count = omega (arith, is_below new old at, many) in
-            new-at old below ∙ new-order new old old at (own old below);
-      }
 
   -- ## The final symbols
 

@@ -75,9 +75,6 @@ module _ (w : Output) (is : IsPlannedOutput w) (f : ReadFacts w) (i : ℕ) (at :
       by_test true e = eqb-true n 0 e
       by_test false e = refl
 
-  none_new : new 0 ≡ 0
-  none_new = refl
-
   not_dynamic : is_static ≡ true → is_dynamic ≡ false
   not_dynamic static = false_from_ne_true is_dynamic (λ dynamic. both_ways is_static (not_both w is f i at dynamic) static)
 

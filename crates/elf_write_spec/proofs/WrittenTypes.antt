@@ -1,11 +1,11 @@
 -- The first program header of a type: the one that was read, the one of the image, and what is written of it.
-use Rattle.std.proofs.Common.{◌≡◌, ◌≤◌, ℕ, Bool, true, false, cond, List, [], ◌∷◌, ◌++◌, map, length, refl, sym, ap, ◌∙◌, subst, inl, inr, arith, Option, Some, None}
-use Rattle.std.specs.Prelude.{◌==◌, ◌&&◌, not, count_by, find, if◌then◌else◌, nat_le}
-use Rattle.std.specs.List.{cons_option, flat_map, list_all, list_any, slice_get}
+use Rattle.std.proofs.Common.{◌≡◌, ◌≤◌, ℕ, Bool, true, false, cond, List, [], ◌∷◌, ◌++◌, map, refl, sym, ap, ◌∙◌, subst, inl, inr, arith, Option, Some, None}
+use Rattle.std.specs.Prelude.{◌==◌, ◌&&◌, not, count_by, find}
+use Rattle.std.specs.List.{flat_map, list_any, slice_get}
 use Rattle.std.specs.Option.{option_map, option_or, option_to_list}
-use Rattle.std.proofs.lemmas.Bool.{and_parts, both_ways, cond-false, cond_both, eqb-true}
+use Rattle.std.proofs.lemmas.Bool.{cond-false, eqb-true}
 use Rattle.std.proofs.lemmas.List.Folds.{find-append}
-use Rattle.elf_format.specs.declared.constants.TheConstants.{PT_DYNAMIC, PT_GNU_PROPERTY, PT_GNU_STACK, PT_INTERP, PT_LOAD, PT_NOTE, PT_PHDR, SHT_DYNAMIC}
+use Rattle.elf_format.specs.declared.constants.TheConstants.{PT_GNU_STACK, PT_LOAD}
 use Rattle.elf_format.specs.declared.records.SegmentHeader.{SegmentHeader}
 use Rattle.elf_format.specs.File.{is_loaded, segment_of_type}
 use Rattle.elf_format.specs.Options.{is_one_of}
@@ -15,8 +15,8 @@ use Rattle.elf_image.specs.Edited.{AreKept, AreSegments, CanGo, kept_segment}
 use Rattle.elf_image.specs.Segments.{loads_end}
 use Rattle.elf_image.proofs.ForCallers.Unclaimed.{count_unclaimed, find_unclaimed}
 use Rattle.elf_image.specs.Segments.{added_stack}
-use Rattle.elf_layout_plan.specs.Anchors.{HeaderTable, Itself, Anchor, Notes, OneSection, is_note_in, is_over_notes, anchor_by_range, anchor_of, anchor_or_itself, does_relro_stay, notes_under, section_or_table, section_under, sharers}
-use Rattle.elf_image.specs.Kept.{KeptSection, image_at_read, interpreter_number, is_numbered, kept_of_type, kept_sections}
+use Rattle.elf_layout_plan.specs.Anchors.{HeaderTable, Itself, Anchor, Notes, OneSection, anchor_of}
+use Rattle.elf_image.specs.Kept.{KeptSection, image_at_read}
 use Rattle.elf_layout_plan.specs.Memory.{Resized}
 use Rattle.elf_layout_plan.specs.Plan.{Layout, layout_for, resized}
 use Rattle.elf_layout_plan.specs.Standing.{places}
@@ -42,15 +42,6 @@ module _ (r : Resized) (moved : List ℕ) where
 
   abbrev pub becomes : SegmentHeader → SegmentHeader
   becomes p = becomes_by p (targets_of r moved p)
-
-  -- it keeps its type
-  pub becomes-type : (p : SegmentHeader) → (becomes p).p_type ≡ p.p_type
-  unfolding becomes_by
-  becomes-type p = by_targets (targets_of r moved p)
-    where
-      by_targets : (targets : List Target) → (becomes_by p targets).p_type ≡ p.p_type
-      by_targets [] = table_type r moved p (anchor_of r.read r.image p)
-      by_targets (t ∷ ts) = refl
 
   -- a program header that goes by one section goes where that goes
   pub becomes-section : (p : SegmentHeader) (s : KeptSection) (x : Place) → anchor_of r.read r.image p ≡ OneSection s
@@ -123,53 +114,7 @@ module _ (type : ℕ) (other : (PT_LOAD == type) ≡ false) where
 
 -- ## How many there are of a type
 
--- the anchor is none or one
-IsSingle : Anchor → Type 0
-IsSingle Itself = Unit {0}
-IsSingle HeaderTable = Unit {0}
-IsSingle (OneSection s) = Unit {0}
-IsSingle (Notes notes) = ⊥
-
-anchored-single : (o : Option KeptSection) → IsSingle (anchor_or_itself o)
-unfolding IsSingle
-anchored-single None = tt
-anchored-single (Some s) = tt
-
-table-single : (o : Option KeptSection) → IsSingle (section_or_table o)
-unfolding IsSingle
-table-single None = tt
-table-single (Some s) = tt
-
 module _ (r : Resized) (moved : List ℕ) where
-  -- only a program header for notes or properties goes by several sections
-  range-single : (p : SegmentHeader) → is_one_of (PT_NOTE ∷ PT_GNU_PROPERTY ∷ []) p.p_type ≡ false → IsSingle (anchor_by_range r.read r.image p)
-  unfolding IsSingle
-  range-single p other =
-      let over : Anchor = if is_over_notes r.read p then Notes (notes_under r.read r.image p) else anchor_or_itself (section_under r.image p) in
-      cond_both (p.p_filesz == 0) Itself over IsSingle (λ _. tt) (λ _.
-      cond_both (is_over_notes r.read p) (Notes (notes_under r.read r.image p)) (anchor_or_itself (section_under r.image p)) IsSingle
-      (λ notes. both_ways (is_one_of (PT_NOTE ∷ PT_GNU_PROPERTY ∷ []) p.p_type) other
-      (and_parts (is_one_of (PT_NOTE ∷ PT_GNU_PROPERTY ∷ []) p.p_type) (nat_le 2 (length (sharers r.read p)))
-      (and_parts (is_one_of (PT_NOTE ∷ PT_GNU_PROPERTY ∷ []) p.p_type && nat_le 2 (length (sharers r.read p))) (list_all (is_note_in p) (sharers r.read p)) notes).0).0)
-      (λ _. anchored-single (section_under r.image p)))
-
-  anchor-single : (p : SegmentHeader) → is_one_of (PT_NOTE ∷ PT_GNU_PROPERTY ∷ []) p.p_type ≡ false → IsSingle (anchor_of r.read r.image p)
-  unfolding anchor_of IsSingle
-  anchor-single p other =
-      let list : Anchor = anchor_or_itself (kept_of_type SHT_DYNAMIC r.image) in
-      let name : Anchor = anchor_or_itself (find (is_numbered (interpreter_number r.read)) (kept_sections r.image)) in
-      let last : Anchor = if does_relro_stay r.image.moves_dynamic p.p_type then Itself else anchor_by_range r.read r.image p in
-      let a : Anchor = if p.p_type == PT_INTERP then name else last in
-      let b : Anchor = if p.p_type == PT_DYNAMIC then list else a in
-      let table : Anchor = section_or_table (section_under r.image p) in
-      let c : Anchor = if p.p_type == PT_PHDR then table else b in
-      cond_both (p.p_type == PT_LOAD) Itself c IsSingle (λ _. tt) (λ _.
-      cond_both (p.p_type == PT_PHDR) table b IsSingle (λ _. table-single (section_under r.image p)) (λ _.
-      cond_both (p.p_type == PT_DYNAMIC) list a IsSingle (λ _. anchored-single (kept_of_type SHT_DYNAMIC r.image)) (λ _.
-      cond_both (p.p_type == PT_INTERP) name last IsSingle
-      (λ _. anchored-single (find (is_numbered (interpreter_number r.read)) (kept_sections r.image))) (λ _.
-      cond_both (does_relro_stay r.image.moves_dynamic p.p_type) Itself (anchor_by_range r.read r.image p) IsSingle (λ _. tt) (λ _. range-single p other)))))
-
   targets_by : Anchor → List Target
   targets_by anchor = elim anchor [
     | Itself ↦ []
@@ -181,30 +126,6 @@ module _ (r : Resized) (moved : List ℕ) where
   targets-are : (p : SegmentHeader) → targets_of r moved p ≡ targets_by (anchor_of r.read r.image p)
   unfolding targets_of targets_by
   targets-are p = refl
-
-  single-by : (anchor : Anchor) → IsSingle anchor → length (targets_by anchor) ≤ 1
-  unfolding IsSingle targets_by
-  single-by Itself h = omega arith
-  single-by HeaderTable h = omega arith
-  single-by (OneSection s) h = by_place (slice_get (places r moved) s.position)
-    where
-      by_place : (o : Option Place) → length (map target_at (cons_option o [])) ≤ 1
-      by_place None = omega arith
-      by_place (Some x) = omega arith
-  single-by (Notes notes) h = absurd h
-
-  one-by : (p : SegmentHeader) (targets : List Target) → length targets ≤ 1
-      → (elim targets as (λ _. List SegmentHeader) [ [] ↦ resized_table r moved p ∷ [] | t ∷ ts ↦ map (anchored_to r.image.form p) (t ∷ ts) ]) ≡ becomes_by r moved p targets ∷ []
-  unfolding becomes_by
-  one-by p [] h = refl
-  one-by p (t ∷ []) h = refl
-  one-by p (t ∷ u ∷ ts) h = absurd (omega (arith, h))
-
-  -- of any other one is written
-  pub one_written : (p : SegmentHeader) → is_one_of (PT_NOTE ∷ PT_GNU_PROPERTY ∷ []) p.p_type ≡ false → written_from r moved p ≡ becomes r moved p ∷ []
-  one_written p other =
-      one-by p (targets_of r moved p)
-      (subst (λ (ts : List Target). length ts ≤ 1) (sym (targets-are p)) (single-by (anchor_of r.read r.image p) (anchor-single p other)))
 
 -- ## Those that were read
 

@@ -160,9 +160,6 @@ module _ (read image : Image) (made : List Made) (m : Made) where
       by_rest (Some y) is = none-some y (sym is)
       by_rest None is = none-some m (sym (sym (subst (λ (k : ℕ). made_of (m ∷ []) k ≡ Some m) own (own_told m)) ∙ is))
 
-pub no_tables : (read image : Image) → AreTold read image []
-no_tables read image n m found = absurd (none-some m found)
-
 pub one_table : (read image : Image) (m : Made) → IsTold read image m → AreTold read image (m ∷ [])
 one_table read image m here n x found = subst (IsTold read image) (sym (only_told m n x found)) here
 

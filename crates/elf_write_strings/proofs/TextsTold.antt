@@ -138,15 +138,6 @@ pub unlinked_if : (image : Image) (type number : ℕ) (texts : List (List ℕ)) 
     → if_linked image type number texts ≡ []
 unlinked_if image type number texts other = ap (λ (b : Bool). if b then texts else []) other
 
--- texts that are told, whether they are used or not
-pub told_if : (table : Strings) (image : Image) (type number : ℕ) (texts : List (List ℕ)) → TellsAll table texts
-    → TellsAll table (if_linked image type number texts)
-told_if table image type number texts all = by_test (is_some_and (λ link. link == number) (link_of_type type image))
-  where
-    by_test : (b : Bool) → TellsAll table (if b then texts else [])
-    by_test true = all
-    by_test false = none_told table
-
 -- ## A table that is told anew
 
 module _ (read image : Image) (m : Made) (is : IsTold read image m) where

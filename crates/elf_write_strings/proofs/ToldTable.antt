@@ -21,7 +21,7 @@ use Rattle.elf_layout_plan.specs.Texts.{if_linked, if_names, texts_in_use, texts
 use Rattle.elf_tables.specs.Strings.{Strings}
 use Rattle.elf_write_strings.specs.PlacedTexts.{IsContentOfUser, TellsAll}
 use Rattle.elf_write_strings.specs.WrittenStrings.{has_texts_in}
-use Rattle.elf_write_strings.proofs.LinksAt.{Link, LinkAt, NoLink}
+use Rattle.elf_write_strings.proofs.LinksAt.{Link, NoLink}
 use Rattle.elf_write_strings.proofs.LinksAt as tables
 use Rattle.elf_write_strings.proofs.TellsPlaced.{got_model}
 use Rattle.elf_write_strings.proofs.TextsTold.{all_told, back_told, both_told, front_told, none_told, unlinked_if}
@@ -103,12 +103,6 @@ pub told_nowhere : (image : Image) (type number : ℕ) (table : Strings) (texts 
     → TellsAll table (if_linked image type number texts)
 told_nowhere image type number table texts none =
     subst (TellsAll table) (sym (unlinked_if image type number texts none)) (none_told table)
-
--- the names of sections stand elsewhere
-pub names_apart : (image : Image) (number : ℕ) (table : Strings) → image.header.e_shstrndx ≢ number → TellsAll table (if_names image number)
-names_apart image number table apart =
-    subst (TellsAll table) (sym (ap (λ (b : Bool). if b then map (λ (s : ImageSection). s.name) image.sections else [])
-    (ne_eqb image.header.e_shstrndx number apart))) (none_told table)
 
 pub names_told : (image : Image) (number : ℕ) (table : Strings) → TellsAll table (map (λ s. s.name) image.sections)
     → TellsAll table (if_names image number)

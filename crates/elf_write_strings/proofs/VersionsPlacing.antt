@@ -1,5 +1,5 @@
 -- A table in which texts are placed, one after another.
-use Rattle.std.proofs.Common.{◌≡◌, ℕ, ◌+◌, ◌<◌, List, length, get_or, inl, inr, refl, sym, ap, ◌∙◌, subst, arith}
+use Rattle.std.proofs.Common.{◌≡◌, ℕ, ◌+◌, ◌<◌, List, length, get_or, inl, inr, sym, ap, ◌∙◌, subst, arith}
 use Rattle.std.proofs.lemmas.Bool.{cases_lt}
 use Rattle.std.proofs.lemmas.List.{get_or_default}
 use Rattle.elf_tables.specs.Strings.{StandsAt, Strings}
@@ -10,9 +10,6 @@ use Rattle.elf_image_versions.specs.declared.version.VersionDef.{VersionDef}
 use Rattle.elf_image_versions.specs.declared.version.VersionNeed.{VersionNeed}
 use Rattle.elf_image_versions.specs.declared.version.VersionNeedName.{VersionNeedName}
 use Rattle.elf_write_strings.specs.VersionPlaces.{AreAt, AreDefinitionsAt, AreNamesAt, AreNeedsAt, HasMore, IsNeedAt, TellsNeed}
-
-pub more-refl : (t : Strings) → HasMore t t
-more-refl t = record { bytes = refl; had = λ text h. h; stand = λ h. h }
 
 pub more-trans : (a b c : Strings) → HasMore a b → HasMore b c → HasMore a c
 more-trans a b c ab bc = record {

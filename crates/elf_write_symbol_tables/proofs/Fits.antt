@@ -10,7 +10,6 @@ use Rattle.patch_bytes.specs.declared.number.Wide.{Wide}
 use Rattle.patch_bytes.specs.declared.number.Wide.TheVariants.{W32, W64}
 use Rattle.patch_bytes.proofs.NumberLaws.{AreBytes-drop, AreBytes-take}
 use Rattle.elf_format.specs.declared.form.Form.{Form}
-use Rattle.elf_format.specs.declared.records.SymbolNumbers.{SymbolNumbers}
 use Rattle.elf_format.specs.Records.{symbol_numbers, symbol_size, symbols_in}
 use Rattle.elf_format.proofs.ForCallers.Lengths.{length-records}
 use Rattle.elf_format.proofs.ForCallers.NumberSteps.{number_at-below}
@@ -70,18 +69,6 @@ six_parts a b c d e g fits =
     let (sixth, _) = first_fits g [] five in
     record { first = first; second = second; third = third; fourth = fourth; fifth = fifth; sixth = sixth }
 
--- the same with another place of the name and another section
-changed_fits : (wide : Wide) (order : ByteOrder2) (n : SymbolNumbers) (place section : ℕ) → do_fields_fit (symbol_fields (form_of wide order) n) ≡ true
-    → place < 256 ^ 4 → section < 256 ^ 2
-    → do_fields_fit (symbol_fields (form_of wide order) (record n { st_name = place; st_shndx = section })) ≡ true
-unfolding form_of
-changed_fits W32 order n place section fits low there =
-    let f = six_parts (4, n.st_name) (4, n.st_value) (4, n.st_size) (1, n.st_info) (1, n.st_other) (2, n.st_shndx) fits in
-    six_fit (4, place) (4, n.st_value) (4, n.st_size) (1, n.st_info) (1, n.st_other) (2, section) low f.second f.third f.fourth f.fifth there
-changed_fits W64 order n place section fits low there =
-    let f = six_parts (4, n.st_name) (1, n.st_info) (1, n.st_other) (2, n.st_shndx) (8, n.st_value) (8, n.st_size) fits in
-    six_fit (4, place) (1, n.st_info) (1, n.st_other) (2, section) (8, n.st_value) (8, n.st_size) low f.second f.third there f.fifth f.sixth
-
 -- ## The record at a position
 
 pub length-symbols : (form : Form) (bytes : List ℕ) → length (symbols_in form bytes) ≡ length bytes / symbol_size form
@@ -105,8 +92,3 @@ pub record_fits : (form : Form) (bytes : List ℕ) (place : ℕ) → AreBytes by
 unfolding form_of
 record_fits form bytes place are =
     read_fits form.wide form.order (field (symbol_size form) place bytes) (AreBytes-take (symbol_size form) _ (AreBytes-drop place bytes are))
-
-pub with_fits : (form : Form) (n : SymbolNumbers) (place section : ℕ) → do_fields_fit (symbol_fields form n) ≡ true → place < 2 ^ 32 → section < 2 ^ 16
-    → do_fields_fit (symbol_fields form (record n { st_name = place; st_shndx = section })) ≡ true
-unfolding form_of
-with_fits form n place section fits low there = changed_fits form.wide form.order n place section fits low there

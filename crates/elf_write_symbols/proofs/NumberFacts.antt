@@ -30,10 +30,6 @@ pub record AreNumberedTo (olds : List ℕ) (i : ℕ) (numbers : List ℕ) : Type
 abbrev pub AreApart : List ℕ → Type 0
 AreApart olds = (i j n : ℕ) → slice_get olds i ≡ Some n → slice_get olds j ≡ Some n → i ≡ j
 
--- none yet
-pub numbered_none : (olds numbers : List ℕ) → ((n : ℕ) → slice_index numbers n ≡ 0) → AreNumberedTo olds 0 numbers
-numbered_none olds numbers none = record { there = λ j n less at. absurd (omega (arith, less)); gone = λ n past. none n }
-
 -- one more
 pub numbered_more : (olds : List ℕ) (i n : ℕ) (numbers new : List ℕ) → AreApart olds → slice_get olds i ≡ Some n → n < length numbers
     → AreNumberedTo olds i numbers → new ≡ set numbers n i → AreNumberedTo olds (i + 1) new

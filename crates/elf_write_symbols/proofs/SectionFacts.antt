@@ -157,16 +157,3 @@ module _ (read image : Image) (f : ReadFacts read image) where
           let now : new_number image n ≡ s.position = ap (λ (o : Option KeptSection). elim o as (λ _. ℕ) [ Some k ↦ k.position | None ↦ n ]) is in
           let (at, _, _) = read_number read image f n s is in
           omega (arith, now, slice_get_within image.sections s.position at.section at.is_section, few_sections)
-
-  -- and so does that of a symbol's section
-  pub symbol_section_fits : (n : ℕ) → n < 65536 → new_symbol_section image n < 65536
-  symbol_section_fits n fits = by_test (nat_le SHN_LORESERVE n) (kept_at_number n image) refl refl
-    where
-      by_test : (b : Bool) (o : Option KeptSection) → nat_le SHN_LORESERVE n ≡ b → kept_at_number n image ≡ o → new_symbol_section image n < 65536
-      by_test true o special there = omega (arith, special_section n special, fits)
-      by_test false None plain there = omega (arith, symbol_section n plain, new_gone n there)
-      by_test false (Some s) plain there =
-          let now : new_section image n ≡ s.position =
-          ap (λ (o : Option KeptSection). elim o as (λ _. ℕ) [ Some k ↦ k.position | None ↦ 0 ]) there in
-          let (at, _, _) = read_number read image f n s there in
-          omega (arith, symbol_section n plain, now, slice_get_within image.sections s.position at.section at.is_section, few_sections)

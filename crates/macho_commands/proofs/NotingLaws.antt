@@ -1,23 +1,20 @@
 -- What is told of an edit: of a file that was read, of bytes, of a store.
-use Rattle.std.proofs.Common.{◌≡◌, ◌∙◌, ℕ, Bool, List, [], None, Option, ap}
+use Rattle.std.proofs.Common.{◌≡◌, ◌∙◌, ℕ, List, [], None, Option, ap}
 use Rattle.arwen_macho.specs.Container.{first_container}
 use Rattle.arwen_macho.specs.Found.{container_found}
-use Rattle.arwen_macho.specs.Fronts.{fronts_on}
 use Rattle.arwen_macho.specs.declared.front.Front.{Front}
 use Rattle.arwen_macho.specs.declared.macho.MachoType.{MachoType}
 use Rattle.command_words.specs.Rows.{Text}
 use Rattle.command_words.specs.declared.noting.Notes.{Notes}
 use Rattle.command_words.specs.declared.noting.Notes.TheVariants.{LeftOut, Wanted}
-use Rattle.macho_commands.specs.Engine.{Asked, SignsBy, Writes, WritesEdits, asked, signs_of}
+use Rattle.macho_commands.specs.Engine.{Asked, Writes, asked, signs_of}
 use Rattle.macho_commands.specs.Meaning.{MachoMeaning, file_of}
-use Rattle.macho_commands.specs.Notes.{TellsBy, TellsCommand, TellsLeft, TellsOf, TellsSigned, TellsWanted, TellsWantedAt, is_some_left, left_line, note_line}
+use Rattle.macho_commands.specs.Notes.{TellsBy, TellsCommand, TellsOf, TellsWanted, TellsWantedAt, note_line}
 use Rattle.macho_commands.specs.declared.signing.Signing.{Signing}
 use Rattle.macho_commands.specs.declared.signing.Signs.{Signs}
 use Rattle.macho_commands.specs.declared.signing.Signs.TheVariants.{Nothing, Touched, Whole}
 use Rattle.macho_commands_signing.specs.Signed.{is_signed_file}
 use Rattle.macho_signatures.specs.declared.renewal.Slot.{Slot}
-use Rattle.macho_signing.specs.Thin.{Pages}
-use Rattle.macho_signing.specs.declared.file.NewSlots.{NewSlots}
 use Rattle.macho_commands_signing.specs.declared.loading.Loaded.{Loaded}
 use Rattle.macho_commands.proofs.StoreLaws.{ReadsStore, told_all}
 
@@ -35,10 +32,3 @@ left_out Whole a path file told tells = tells
 pub told_of_store : (n : Notes) (choice : Signing) (meaning : MachoMeaning) (known : Option (List ℕ)) (loaded : Loaded) (fronts : List Front) (slots : List Slot) (told : Text) → ReadsStore (signs_of choice meaning) known loaded → Writes choice meaning loaded.bytes.items fronts slots → TellsCommand choice meaning n loaded.bytes.items told → TellsWantedAt choice meaning n known told
 told_of_store Wanted choice meaning known loaded fronts slots told reads writes tells = told_all choice meaning Wanted known loaded fronts slots told reads writes tells
 told_of_store LeftOut choice meaning known loaded fronts slots told reads writes tells = left_out (signs_of choice meaning) (asked meaning) (file_of meaning) loaded.bytes.items told tells
-
--- what is told where slots were made anew
-pub told_signed : (signs : Signs) (n : Notes) (a : Asked) (path at : Text) (file : List ℕ) (fronts : List Front) (pages : Pages) (new : NewSlots) (told : Text) → WritesEdits a file fronts → SignsBy pages (fronts_on fronts file) new → at ≡ path → TellsLeft signs n new.are_some_left at told → TellsSigned signs n a path file told
-told_signed signs Wanted a path at file fronts pages new told writes by same tells =
-    let edited : List ℕ = fronts_on fronts file in
-    (edited, writes.is, tells ∙ ap (λ (b : Bool). left_line signs b at) by.left ∙ ap (left_line signs (is_some_left edited)) same)
-told_signed signs LeftOut a path at file fronts pages new told writes by same tells = tells

@@ -66,9 +66,6 @@ was_read known read (inr is) = record {
   long = is.long;
 }
 
-pub read_long : (known : Option (List ℕ)) (read : SliceFronts) → AreFrontsRead known read → HasLength known read.length
-read_long known read is = (was_read known read is).long
-
 abbrev HasRoom : ℕ → SliceFront → Type 0
 HasRoom size front = front.offset + front.size ≤ size
 

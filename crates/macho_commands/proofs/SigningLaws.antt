@@ -48,12 +48,6 @@ fault_is pages o edited (signing fault) is wrong = ap (sign_on pages) is ∙ ap 
 fault_is pages o edited Unfit is wrong = absurd wrong
 fault_is pages o edited (Io e) is wrong = absurd wrong
 
--- one of signing is too
-pub tells_signing : (signs : Signs) (a : Asked) (file : List ℕ) (fronts : List Front) (e : MachoCommandError) → signs ≢ Nothing → WritesEdits a file fronts → IsSigningError (pages_by signs file) (fronts_on fronts file) e → Tells (outcome_by signs a file) e
-tells_signing Nothing a file fronts e other writes wrong = absurd (other refl)
-tells_signing Touched a file fronts e other writes wrong = fault_is (since file) (outcome_of a file) (fronts_on fronts file) e writes.is wrong
-tells_signing Whole a file fronts e other writes wrong = fault_is all (outcome_of a file) (fronts_on fronts file) e writes.is wrong
-
 -- ## What is written
 
 pub length-fronts_on : (fronts : List Front) (file : List ℕ) → All (LiesIn (length file)) fronts → length (fronts_on fronts file) ≡ length file
@@ -86,15 +80,3 @@ writes_signed Whole a file fronts new other writes by =
       is = made_is all (outcome_of a file) (fronts_on fronts file) new.slots.items writes.is by.passes by.is;
       shows = record { edited = fronts_on fronts file; shows = writes.shows; passes = by.passes; signed = by.signed; same = by.same };
     }
-
--- edits without slots
-pub writes_plain : (a : Asked) (file : List ℕ) (fronts : List Front) (slots : List Slot) → slots ≡ [] → WritesEdits a file fronts → WritesBy Nothing a file fronts slots
-writes_plain a file fronts slots none writes =
-    let P : List Slot → Type 0 = λ l. WritesBy Nothing a file fronts l in
-    subst P (sym none)
-    (record {
-      inside = writes.inside;
-      slots_inside = λ k e here. absurd (omega (arith, here));
-      is = writes.is;
-      shows = writes.shows;
-    })

@@ -89,9 +89,6 @@ makes_more a fronts i front edited old new inside is makes adds =
 
 -- and what they become
 
-pub edited_none : (a : Asked) → MakesEdited a [] [] []
-edited_none a = record { all = []; fronts_are = refl; news_are = refl; patches_are = refl; each = All-nil (IsMade a) }
-
 pub edited_more : (a : Asked) (fronts : List SliceFront) (i : ℕ) (front : SliceFront) (edited : List ℕ) (news nexts : List (List ℕ)) (old new : List Patch) → i < length fronts → front ≡ get_or fronts i front → MakesEdited a (take i fronts) news old → AddsFront a front edited old new → nexts ≡ news ++ edited ∷ [] → MakesEdited a (take (i + 1) fronts) nexts new
 edited_more a fronts i front edited news nexts old new inside is makes adds push =
     let slice : EditedSlice = record { front = front; here = adds.0 } in

@@ -2,13 +2,11 @@
 use Rattle.std.proofs.Common.{◌≡◌, ◌≤◌, ◌<◌, ◌+◌, ◌-◌, ◌∙◌, ℕ, true, List, [], ◌∷◌, ◌++◌, length, take, drop, get_or, refl, sym, ap, subst, arith}
 use Rattle.std.specs.List.{All}
 use Rattle.std.specs.Str.{bytes_eq}
-use Rattle.std.proofs.lemmas.List.{drop-drop, drop_more, length-append, length-drop, length-take-le, take_all, take-append-drop}
+use Rattle.std.proofs.lemmas.List.{drop-drop, length-append, length-drop, length-take-le, take_all, take-append-drop}
 use Rattle.std.proofs.lemmas.Slice.Eq.{bytes_eq-Decides}
 use Rattle.byte_store.specs.declared.pieces.Piece.{Piece}
 use Rattle.byte_store.specs.Known.{put_at}
 use Rattle.byte_store.specs.Laid.{laid as pieces_on, patches_of}
-use Rattle.arwen_macho.specs.declared.front.Front.{Front}
-use Rattle.arwen_macho.specs.Fronts.{fronts_on}
 use Rattle.macho_commands_signing.specs.Pieces.{LaysOn, LiesOn}
 use Rattle.macho_signatures.specs.Pages.{hash_bytes}
 use Rattle.macho_signatures.proofs.RenewalSteps.{laid_more, lies_at}
@@ -39,15 +37,6 @@ lays_on old new piece before after grown put file is =
     ∙ laid-push old piece file
     ∙ ap (put_at piece.offset piece.bytes.now) is
     ∙ sym put
-
--- the fronts from one on, over what those behind it make
-pub fronts_from : (fronts : List Front) (i left : ℕ) (front : Front) (file held after : List ℕ) → left ≡ i + 1 → i < length fronts → get_or fronts i front ≡ front → held ≡ fronts_on (drop left fronts) file → after ≡ put_at front.offset front.bytes.items held → after ≡ fronts_on (drop i fronts) file
-fronts_from fronts i left front file held after next below is made put =
-    put
-    ∙ ap (put_at front.offset front.bytes.items) made
-    ∙ ap (λ (k : ℕ). put_at front.offset front.bytes.items (fronts_on (drop k fronts) file)) next
-    ∙ ap (λ (f : Front). put_at f.offset f.bytes.items (fronts_on (drop (i + 1) fronts) file)) (sym is)
-    ∙ sym (ap (λ (l : List Front). fronts_on l file) (drop_more fronts i front below))
 
 -- ---- pieces that are made of slots
 

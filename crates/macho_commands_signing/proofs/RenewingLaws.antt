@@ -122,9 +122,3 @@ signs_more known mid fronts news i front new made old next left answer inside wi
     let fronts_next : take (i + 1) fronts ≡ take i fronts ++ front ∷ [] = take_more fronts i front inside ∙ ap (λ (f : SliceFront). take i fronts ++ f ∷ []) (sym is) in
     let news_next : take (i + 1) news ≡ take i news ++ new ∷ [] = take_more news i new within ∙ ap (λ (n : List ℕ). take i news ++ n ∷ []) (sym told) in
     subst F (sym fronts_next) (subst N (sym news_next) (subst P (sym push) all))
-
-pub signs_all : (known : Option (List ℕ)) (fronts : List SliceFront) (news : List (List ℕ)) (n : ℕ) (patches : List Patch) (left : Bool) → take n fronts ≡ fronts → take n news ≡ news → SignsFronts known (take n fronts) (take n news) patches left → SignsFronts known fronts news patches left
-signs_all known fronts news n patches left one other signs =
-    let F : List SliceFront → Type 0 = λ l. SignsFronts known l news patches left in
-    let N : List (List ℕ) → Type 0 = λ l. SignsFronts known (take n fronts) l patches left in
-    subst F one (subst N other signs)

@@ -3,7 +3,7 @@ use Rattle.std.proofs.Common.{◌≡◌, ◌≢◌, ◌≤◌, ◌<◌, ℕ, zer
 use Rattle.std.specs.List as holes
 use Rattle.std.specs.List.{All, AllPairs, Any, list_any}
 use Rattle.std.specs.List.Sorted.{IsNonDecreasingBy, IsPermutation}
-use Rattle.std.proofs.lemmas.Bool.{and_from, and_parts, both_ways, cases_Bool, cases_eq, cases_lt, eq-eqb, false_from_ne_true, le-ltb, lt-ltb, ltb-true, ne_eqb, or_cases, or_from, or_left, or_right}
+use Rattle.std.proofs.lemmas.Bool.{and_from, and_parts, both_ways, cases_Bool, cases_eq, cases_lt, eq-eqb, false_from_ne_true, le-ltb, lt-ltb, ltb-true, ne_eqb, or_cases, or_left, or_right}
 use Rattle.std.proofs.lemmas.Bool.Decides.{nat_tests}
 use Rattle.std.proofs.lemmas.List.{at_drop_more, get_or_default}
 use Rattle.std.proofs.lemmas.List.Edits.{length-swap, swapped_from_swap}
@@ -36,13 +36,6 @@ some_overlap-at [] i j d before within e = absurd (omega arith)
 some_overlap-at (a ∷ rest) i zero d before within e = absurd (omega arith)
 some_overlap-at (a ∷ rest) zero (suc j) d before within e = or_left (list_any (overlap a) rest) (some_overlap rest) (list_any_at (overlap a) rest j d (omega arith) e)
 some_overlap-at (a ∷ rest) (suc i) (suc j) d before within e = or_right (list_any (overlap a) rest) (some_overlap rest) (some_overlap-at rest i j d (omega arith) (omega arith) e)
-
-pub some_overlap-none : (blobs : List Blob) → ((i j : ℕ) (d : Blob) → i < j → j < length blobs → overlap (get_or blobs i d) (get_or blobs j d) ≡ false) → some_overlap blobs ≡ false
-some_overlap-none [] apart = refl
-some_overlap-none (a ∷ rest) apart =
-    or_from (list_any (overlap a) rest) (some_overlap rest)
-    (list_any_none (overlap a) rest (λ k d within. apart 0 (suc k) d (omega arith) (omega arith)))
-    (some_overlap-none rest (λ i j d before within. apart (suc i) (suc j) d (omega arith) (omega arith)))
 
 -- two blobs at different places that overlap
 pub record Overlapping (blobs : List Blob) : Type 0 where

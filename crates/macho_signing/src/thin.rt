@@ -144,7 +144,8 @@ fn signature_slots(
     bytes: &[u8],
     scope: Scope<'_>,
 ) -> Result<Vec<Slot>, AllocError>
-    requires placed { ArePlaced signature.now.start (length bytes.now) signature.now.directories.items }
+    requires placed { ArePlaced signature.now.start (length bytes.now)
+        signature.now.directories.items }
     requires long { AreAsLong (pages_of scope) bytes.now }
     ensures { IfOk result (λ slots. slots.items ≡ renewed_slots signature.now.directories.items
         (touched_by (pages_of scope.entry) bytes.now) bytes.now) }

@@ -18,12 +18,6 @@ pub record Within (blocks : List Block) (P : Pair blocks → Type 0) (i j : ℕ)
 pub none_yet : (blocks : List Block) (P : Pair blocks → Type 0) → Below blocks P 0
 none_yet blocks P = λ p early. absurd (omega (arith, early))
 
-pub row_starts : (blocks : List Block) (P : Pair blocks → Type 0) (i : ℕ) → Below blocks P i → Within blocks P i (i + 1)
-row_starts blocks P i below = record {
-  rows = below;
-  row = λ p same early. absurd (omega (arith, same, early, p.ordered));
-}
-
 pub row_more : (blocks : List Block) (P : Pair blocks → Type 0) (i j : ℕ) → Within blocks P i j
     → ((p : Pair blocks) → p.first ≡ i → p.second ≡ j → P p) → Within blocks P i (j + 1)
 row_more blocks P i j w here = record {

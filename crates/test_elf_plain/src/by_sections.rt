@@ -17,7 +17,8 @@ fn section_source(file: &[u8], section: Option<SectionHeader>) -> Source<'_>
 
 // A table with nothing in it.
 fn no_table<'a>() -> TableSource<'a>
-    ensures { table_source_model result ≡ record { bytes = λ _. None; texts = λ _. None; count = 0 } }
+    ensures { table_source_model result
+        ≡ record { bytes = λ _. None; texts = λ _. None; count = 0 } }
 {
     TableSource {
         bytes: Source::Slice(&[]),
@@ -42,7 +43,8 @@ fn symbol_table<'a>(file: &'a [u8], form: Form, sections: &[SectionHeader]) -> T
 
 // Version records by their section, which counts them.
 fn version_table<'a>(file: &'a [u8], sections: &[SectionHeader], kind: u32) -> TableSource<'a>
-    ensures { table_source_model result ≡ section_table file.now sections.now (λ s. s.sh_info) kind }
+    ensures { table_source_model result
+        ≡ section_table file.now sections.now (λ s. s.sh_info) kind }
 {
     match section_of_type(sections, kind) {
         None => no_table(),

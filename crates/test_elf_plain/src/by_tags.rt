@@ -54,7 +54,8 @@ pub(crate) fn tables_by_tags<'a>(
     symbol_count: u64,
     raw: &[EntryNumbers],
 ) -> TableSources<'a>
-    ensures { tables_model result ≡ tag_tables (byte_at segments.now file.now) symbol_count raw.now }
+    ensures { tables_model result
+        ≡ tag_tables (byte_at segments.now file.now) symbol_count raw.now }
 {
     let texts = strings(file, segments, raw);
     TableSources {

@@ -50,7 +50,8 @@ fn line(alloc: Global, text: &[u8]) -> std::result::Result<String, AllocError>
 
 // The lines of the texts that are left.
 fn lines_of(alloc: Global, texts: Needed<'_>) -> std::result::Result<String, AllocError>
-    ensures { IfOk result (λ lines. string_bytes lines ≡ flat_map line_of (needed_left texts.entry)) }
+    ensures { IfOk result (λ lines.
+        string_bytes lines ≡ flat_map line_of (needed_left texts.entry)) }
 {
     let mut lines = String::new(alloc);
     for text in texts {
@@ -237,8 +238,8 @@ impl<'a> ElfContainer<'a> {
     pub fn print_interpreter<W: Write>(&self, alloc: Global, out: &mut W) -> Result<()>
         ensures prints { OnOk result (Appends (W.contents out.old) (W.contents out.new)
             (printed_interpreter (shown self.now.inner))) }
-        ensures fails { IfErr result (FailsPrint W.contents (printed_interpreter (shown self.now.inner))
-            out.old out.new) }
+        ensures fails { IfErr result (FailsPrint W.contents
+            (printed_interpreter (shown self.now.inner)) out.old out.new) }
     {
         match self.inner.elf_interpreter() {
             None => Ok(()),
@@ -263,8 +264,8 @@ impl<'a> ElfContainer<'a> {
     pub fn print_exec_stack<W: Write>(&self, out: &mut W) -> Result<()>
         ensures prints { OnOk result (Appends (W.contents out.old) (W.contents out.new)
             (printed_exec_stack (shown self.now.inner))) }
-        ensures fails { IfErr result (FailsWrite W.contents (printed_exec_stack (shown self.now.inner))
-            out.old out.new) }
+        ensures fails { IfErr result (FailsWrite W.contents
+            (printed_exec_stack (shown self.now.inner)) out.old out.new) }
     {
         match self.inner.elf_gnu_exec_stack() {
             None => Ok(()),
