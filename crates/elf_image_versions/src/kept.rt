@@ -171,7 +171,7 @@ pub fn definitions<'data>(
     requires walked { walked.now ≡ defined_in (parts_model parts.now) }
     ensures { Gives (λ v. map definition_model v.items) result
         (definitions_read (parts_model parts.now)
-            (first_section VERDEFS parts.now.sections.items)) }
+        (first_section VERDEFS parts.now.sections.items)) }
 {
     let Some(section) = section_of_type(&parts.sections, SHT_GNU_VERDEF) else {
         return Ok(Vec::new(alloc));

@@ -250,7 +250,7 @@ pub(crate) fn push_written(
         let anchor_position = anchor_model anchor.now in
         MatchResult result
         (λ _. (made.new.items
-            ≡ made.old.items ++ headings_for form all begins size p anchor_position)
+        ≡ made.old.items ++ headings_for form all begins size p anchor_position)
         × (do_headings_fit form all begins size p anchor_position ≡ true))
         (IsMisfit (do_headings_fit form all begins size p anchor_position)) }
 {

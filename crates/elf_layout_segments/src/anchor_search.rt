@@ -185,7 +185,7 @@ pub(crate) fn anchors_by_lists(
 ) -> Result<Vec<AnchorAt>, AllocError>
     ensures { (looked : SearchedLists) → AreLists looked lists.now → IfOk result (λ made.
         map anchor_model made.items
-            ≡ map (λ s. anchor_position_of looked (segment_model s)) segments.now) }
+        ≡ map (λ s. anchor_position_of looked (segment_model s)) segments.now) }
 {
     let mut made = Vec::new(alloc);
     for segment in segments {

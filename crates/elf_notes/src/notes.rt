@@ -103,7 +103,7 @@ fn old_needs_of<'a>(
 fn staying_needs(alloc: Global, edited: &Builder<'_>) -> Result<StayingNeeds, AllocError>
     ensures { IfOk result (λ staying.
         map (λ n. n.file) (unmarked_needs staying.marks edited.now.needs)
-            ≡ versioned_of edited.now) }
+        ≡ versioned_of edited.now) }
 {
     let read = read_source(alloc, edited)?;
     StayingNeeds::new(alloc, &read, edited)

@@ -144,7 +144,7 @@ fn slots_in_part(
     ensures { MatchResult result
         (λ made. (part_fault (pages_of scope.entry) bytes.now part ≡ None)
         × (made.slots.items
-            ≡ thin_slots (pages_in (pages_of scope.entry) part) (part_bytes bytes.now part))
+        ≡ thin_slots (pages_in (pages_of scope.entry) part) (part_bytes bytes.now part))
         × (made.is_left ≡ has_identity_in bytes.now part)
         × AreSlotsPlaced (part_bytes bytes.now part)
         × All (SlotLies part.size) made.slots.items)
