@@ -31,13 +31,29 @@ _arwen() {
         'macho change-install-id') words="--sign" ;;
         'macho apply') words="--sign" ;;
         'elf add-debug-tag') words="--move-dynamic" ;;
+        'elf clear-exec-stack') words="--move-dynamic" ;;
+        'elf force-rpath') words="--move-dynamic" ;;
         'elf no-default-lib') words="--move-dynamic" ;;
+        'elf remove-rpath') words="--move-dynamic" ;;
+        'elf set-exec-stack') words="--move-dynamic" ;;
         'elf add-rpath') words="--move-dynamic" ;;
         'elf set-rpath') words="--move-dynamic" ;;
+        'elf set-interpreter') words="--move-dynamic" ;;
+        'elf set-os-abi') words="--move-dynamic" ;;
         'elf set-soname') words="--move-dynamic" ;;
+        'elf set-page-size') words="--move-dynamic" ;;
+        'elf clear-symbol-version') words="--move-dynamic" ;;
         'elf add-needed') words="--move-dynamic" ;;
+        'elf remove-needed') words="--move-dynamic" ;;
+        'elf replace-needed') words="--move-dynamic" ;;
+        'elf replace-library') words="--move-dynamic" ;;
+        'elf rename-dynamic-symbols') words="--move-dynamic" ;;
         'elf apply') words="--move-dynamic" ;;
         'elf shrink-rpath') words="--allowed-rpath-prefixes" ;;
+        'elf rename-symbols') words="--move-dynamic" ;;
+        'elf delete-symbols') words="--move-dynamic" ;;
+        'elf rename-sections') words="--move-dynamic" ;;
+        'elf delete-sections') words="--move-dynamic" ;;
         esac
         COMPREPLY=($(compgen -W "$words --quiet --help" -- "$word"))
         return
