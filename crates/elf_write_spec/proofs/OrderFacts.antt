@@ -257,8 +257,6 @@ module _ (read image : Image) (all : HasSymbols read image) where
   first_number some =
       all.complete.first_dynamic (omega (arith, all.below 0 (slice_index image.dynamic_symbol_numbers 0) (number-at 0 some)))
 
-  ]
-
   -- with the names that were read each symbol is there
   pub all_there : are_names_changed read image ≡ false → (n : ℕ) → n < length read.dynamic_symbols
       → slice_get image.dynamic_symbol_numbers n ≡ Some n
