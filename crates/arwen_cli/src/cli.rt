@@ -7,6 +7,7 @@ ghost use Rattle.arwen_cli.specs.Signing.{signing_asked};
 ghost use Rattle.arwen_cli_overlaps.specs.Meaning.{elf_command_model};
 ghost use Rattle.macho_commands.specs.Meaning.{macho_command_model};
 
+mod build;
 mod command;
 mod error;
 mod file;

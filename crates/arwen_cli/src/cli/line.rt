@@ -12,6 +12,7 @@ ghost use Rattle.arwen_cli.specs.Moving.{MeansMoving, takes_leave as takes_the_l
 ghost use Rattle.arwen_cli_show.specs.Args.{ShowMeaning, meaning_of_args, args_model};
 ghost use Rattle.arwen_cli.specs.Parser.{MayRefuse, MayRefuseReading, MayRefuseTaken, MeansBy, MeansTaken};
 
+use crate::cli::build::BUILT;
 use crate::cli::line_error::LineError;
 use crate::cli::parser::{First, parse_values};
 use crate::cli::{ArwenError, Command, ElfCommand, MachoCommand};
@@ -22,7 +23,7 @@ use command_words::{ValueError, Values, find_row};
 use macho_commands::macho_table;
 use std::alloc::{AllocError, Global};
 
-/// The program's name and its version, as `--version` prints them.
+/// The program's name and its version, the first line that `--version` prints.
 const VERSION: &str = "arwen 0.1.0, port of arwen 0.0.5\n";
 
 /// What the program says where no command is named.
@@ -165,9 +166,15 @@ fn other_line(alloc: Global, first: &str, words: &[&str]) -> Result<LineError, A
     match first {
         "help" => help(alloc, words.get(1)),
         "-h" | "--help" => usage(alloc, 0),
-        "-V" | "--version" => line_of(alloc, VERSION, 0),
+        "-V" | "--version" => version(alloc),
         _ => unknown_word(alloc, first),
     }
+}
+
+/// The answer to `--version`: name and version, and how the program was built.
+fn version(alloc: Global) -> Result<LineError, AllocError> {
+    let text = format!(in alloc; "{VERSION}{BUILT}")?;
+    Ok(LineError::Text { text, status: 0 })
 }
 
 /// The help that a line asks for by `help`, with the word behind it.
