@@ -14,62 +14,12 @@ use crate::writer::Writer;
 use byte_store::{Creates, Difference, RuntimeFiles};
 use elf_apply::error::{ElfError, ModifyCause, Result};
 use elf_image::{Builder, ElfFault};
-use elf_layout::{
-    Finished, NewSizes, lay_out_from_read, lay_out_from_sizes, new_sizes_with_strings,
-};
+use elf_layout::{Finished, NewSizes, lay_out_from_sizes, new_sizes_with_strings};
 use elf_layout_plan::{LayoutFault, Plan, read_source};
-use elf_write::{
-    CountedWrite, image_bytes_from_read, image_pieces_with_strings, write_all_counted,
-};
+use elf_write::{CountedWrite, image_pieces_with_strings, made_bytes, write_all_counted};
 use patch_bytes::ByteString;
 use std::alloc::Global;
 use std::rt::Files;
-
-// The bytes of an edited image by a plan, with the image that was read from its source.
-fn bytes_by<'data>(
-    alloc: Global,
-    read: &Builder<'data>,
-    image: &Builder<'data>,
-    plan: &Plan,
-) -> std::result::Result<Vec<u8>, LayoutFault>
-    requires read { read.now ≡ image_at_read image.now }
-    requires planned { IsPlan (resized image.now) plan.now }
-    requires sized { IsTrue (do_sizes_of_image_fit image.now) }
-    ensures bytes { IfOk result (λ bytes. IsWrittenOf image.now bytes.items) }
-    ensures fault { IfErr result (IsNoEdit image.now) }
-{
-    match image_bytes_from_read(alloc, read, image, plan) {
-        Ok(bytes) => Ok(bytes),
-        Err(fault) => Err(fault),
-    }
-}
-
-// The bytes of an edited image, with the image that was read from its source.
-fn bytes_from<'data>(
-    alloc: Global,
-    read: &Builder<'data>,
-    image: &Builder<'data>,
-) -> std::result::Result<Vec<u8>, LayoutFault>
-    requires { read.now ≡ image_at_read image.now }
-    ensures bytes { IfOk result (λ bytes. IsWrittenOf image.now bytes.items) }
-    ensures fault { IfErr result (IsNoEdit image.now) }
-{
-    match lay_out_from_read(alloc, read, image) {
-        Ok(plan) => bytes_by(alloc, read, image, &plan),
-        Err(fault) => Err(fault),
-    }
-}
-
-// The bytes of an edited image.
-fn edited_bytes(alloc: Global, image: &Builder<'_>) -> std::result::Result<Vec<u8>, LayoutFault>
-    ensures bytes { IfOk result (λ bytes. IsWrittenOf image.now bytes.items) }
-    ensures fault { IfErr result (IsNoEdit image.now) }
-{
-    match read_source(alloc, image) {
-        Ok(read) => bytes_from(alloc, &read, image),
-        Err(_) => Err(LayoutFault::Memory),
-    }
-}
 
 // What of the bytes of an edited image by a plan differs from its source, with the image that was read from this. The
 // string table of the dynamic list may be there already, where it is made anew.
@@ -149,6 +99,15 @@ fn edited_pieces(alloc: Global, image: &Builder<'_>) -> std::result::Result<Diff
         Ok(read) => pieces_from(alloc, &read, image),
         Err(_) => Err(LayoutFault::Memory),
     }
+}
+
+// The bytes of an edited image: what differs from its source, laid over that.
+fn edited_bytes(alloc: Global, image: &Builder<'_>) -> std::result::Result<Vec<u8>, LayoutFault>
+    ensures bytes { IfOk result (λ bytes. IsWrittenOf image.now bytes.items) }
+    ensures fault { IfErr result (IsNoEdit image.now) }
+{
+    let difference = edited_pieces(alloc, image)?;
+    Ok(made_bytes(alloc, image.source(), &difference)?)
 }
 
 // What differs of bytes from themselves: nothing, which takes no memory.

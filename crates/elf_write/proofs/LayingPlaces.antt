@@ -1,4 +1,4 @@
--- The old places of what is written anew, and the bytes that stay.
+-- The old places of what is written anew.
 use Rattle.std.proofs.Common.{◌≡◌, ◌≤◌, ◌<◌, ◌+◌, ◌∙◌, ℕ, Bool, true, false, List, [], ◌∷◌, ◌++◌, length, map, take, filter, get_or, replicate, refl, sym, ap, subst, Option, inl, inr, arith}
 use Rattle.std.specs.Prelude.{slice_index, nat_lt, not, ◌&&◌, ◌==◌, if◌then◌else◌}
 use Rattle.std.proofs.lemmas.Bool.{and_parts, cases_lt, cond-true, cond-false, le-ltb, lt-ltb, ltb-true}
@@ -129,68 +129,3 @@ places-all image start made sections i edited seen end so_far =
     let many : length image.sections ≡ length sections = sym (ap length seen) ∙ length-map sections section_model in
     so_far ∙ ap (λ (l : List KeptSection). start ++ rewritten_places (resized image) l)
     (take_all i (kept_sections image) (omega (arith, length-kept image edited.is_edit.sections.numbered)))
-
--- ## The bytes that stay
-
--- bytes that are a function's values at their positions
-values-are : (f : ℕ → ℕ) (size : ℕ) (bytes : List ℕ) → length bytes ≡ size
-    → ((k : ℕ) → k < size → slice_index bytes k ≡ f k)
-    → bytes ≡ values_from f 0 size
-values-are f size bytes long at =
-    same_number_lists bytes (values_from f 0 size) (long ∙ sym (length-values f 0 size)) (λ k less.
-    at k (omega arith) ∙ sym (value-at f 0 size k (omega arith) ∙ ap f (omega arith)))
-
--- what is copied and not cleared is what stays
-stays : (source : List ℕ) (k : ℕ) (taken old : Bool)
-    → (if old then 0 else if taken && nat_lt k (length source) then slice_index source k else 0)
-    ≡ (if taken && not old then slice_index source k else 0)
-stays source k true true = refl
-stays source k false true = refl
-stays source k false false = refl
-stays source k true false = elim (cases_lt k (length source)) [
-  | inl below ↦ cond-true (nat_lt k (length source)) (slice_index source k) 0 (lt-ltb k (length source) below)
-  | inr past ↦ cond-false (nat_lt k (length source)) (slice_index source k) 0 (le-ltb k (length source) past)
-      ∙ sym (get_or_past source k 0 past)
-]
-
-pub based : (r : Resized) (size : ℕ) (zeros copied cleared : List ℕ) → zeros ≡ replicate size 0
-    → length copied ≡ length zeros → length cleared ≡ length copied
-    → TakesFrom r.image.source (is_in_load r.image.segments) zeros copied
-    → IsCleared (is_in_range (old_places r.read r.image)) copied cleared
-    → cleared ≡ base r size
-unfolding base
-based r size zeros copied cleared are_zeros copied_long cleared_long takes clears =
-    values-are (base_byte r) size cleared (cleared_long ∙ copied_long ∙ long) (λ k less.
-    clears k (omega (arith, long))
-    ∙ ap (λ (n : ℕ). if old k then 0 else n) (takes k (omega (arith, long))
-    ∙ ap (λ (n : ℕ). if taken k && nat_lt k (length source) then slice_index source k else n) (zero_at k less))
-    ∙ stays source k (taken k) (old k))
-  where
-    source : List ℕ
-    source = r.image.source
-
-    long : length zeros ≡ size
-    long = ap length are_zeros ∙ length-replicate {A = ℕ} size 0
-
-    taken : ℕ → Bool
-    taken k = is_in_load r.image.segments k
-
-    old : ℕ → Bool
-    old k = is_in_range (old_places r.read r.image) k
-
-    zero_at : (k : ℕ) → k < size → slice_index zeros k ≡ 0
-    zero_at k less = ap (λ (l : List ℕ). slice_index l k) are_zeros ∙ get_or-replicate size k 0 0 less
-
--- the same by equal lists
-pub based_by : (r : Resized) (source : List ℕ) (segments : List SegmentHeader) (places : List Range) (zeros copied cleared : List ℕ)
-    → source ≡ r.image.source → segments ≡ r.image.segments → places ≡ old_places r.read r.image
-    → zeros ≡ replicate (length zeros) 0 → length copied ≡ length zeros → length cleared ≡ length copied
-    → TakesFrom source (is_in_load segments) zeros copied
-    → IsCleared (is_in_range places) copied cleared
-    → cleared ≡ base r (length zeros)
-based_by r source segments places zeros copied cleared same_source same_segments same_places are_zeros copied_long cleared_long takes clears =
-    based r (length zeros) zeros copied cleared are_zeros copied_long cleared_long
-    (subst (λ (l : List ℕ). TakesFrom l (is_in_load r.image.segments) zeros copied) same_source
-    (subst (λ (l : List SegmentHeader). TakesFrom source (is_in_load l) zeros copied)
-    same_segments takes))
-    (subst (λ (l : List Range). IsCleared (is_in_range l) copied cleared) same_places clears)

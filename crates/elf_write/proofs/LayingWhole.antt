@@ -139,19 +139,6 @@ pushed-all image sections ps cs i old now edited seen end so_far =
     ∙ ap (λ (l : List KeptSection). now ++ patches_of_sections (resized image) l (drop i ps) (drop i cs)) (sym none)
     ∙ so_far
 
--- ## Piece by piece
-
--- with one piece more laid
-pub laid-next : (pieces : List Piece) (i : ℕ) (d : Piece) (old now : List ℕ) → i < length pieces
-    → laid (drop i (patches_of pieces)) now ≡ old
-    → laid (drop (i + 1) (patches_of pieces)) (put_at (get_or pieces i d).offset (get_or pieces i d).bytes.now now) ≡ old
-laid-next pieces i d old now within so_far =
-    let p : Piece = get_or pieces i d in
-    let first : drop i (patches_of pieces) ≡ patch_of p ∷ drop (i + 1) (patches_of pieces) =
-    drop_more (patches_of pieces) i (patch_of p) (omega (arith, length-map pieces patch_of))
-    ∙ ap (λ (q : Patch). q ∷ drop (i + 1) (patches_of pieces)) (get_or-map patch_of pieces i d (patch_of p) within) in
-    sym (ap (λ (l : List Patch). laid l now) first) ∙ so_far
-
 -- ## All of it
 
 -- what the headers and tables ask for
@@ -228,14 +215,6 @@ module _ (image : Image) (plan : Layout) (headers : List SectionHeader) (content
       (all_each (LiesIn (written_size (resized image) plan)) (patches (output_of image plan headers contents raw))
       (patches_lie (output_of image plan headers contents raw) is)))
 
-  -- laid over what stays they make it
-  pub laid-planned : (raw : List EntryNumbers) (old new : List ℕ) → old ≡ base (resized image) size → new ≡ laid these old
-      → new ≡ written_bytes (output_of image plan headers contents raw)
-  unfolding written_bytes
-  laid-planned raw old new is_old is_new =
-      is_new ∙ ap (laid these) (is_old ∙ ap (base (resized image)) is_size)
-      ∙ ap (λ (qs : List Patch). laid qs (base (resized image) (written_size (resized image) plan))) (are_patches raw)
-
   -- its bytes are theirs over what stays
   planned_over : (raw : List EntryNumbers) → IsPlannedOutput (output_of image plan headers contents raw)
       → IsOverBase (resized image) these size (written_bytes (output_of image plan headers contents raw))
@@ -261,7 +240,3 @@ module _ (image : Image) (plan : Layout) (headers : List SectionHeader) (content
       → (raw : List EntryNumbers) → made ≡ written_bytes (output_of image plan headers contents raw)
   unfolding written_bytes
   made-planned (known, is) made makes raw = makes (written_bytes (output_of image plan headers contents known)) (planned_over known is)
-
-pub length-based : (r : Resized) (size : ℕ) (bytes : List ℕ) → bytes ≡ base r size → length bytes ≡ size
-unfolding base
-length-based r size bytes is = ap length is ∙ length-values (base_byte r) 0 size

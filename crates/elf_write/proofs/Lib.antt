@@ -1,4 +1,4 @@
-pub mod LayingFacts
+pub mod Laying
 pub mod LayingPlaces
 pub mod Composing
 pub mod LayingWhole

@@ -30,19 +30,6 @@ use Rattle.elf_write.specs.declared.spelled.SpelledHeaders.{SpelledHeaders}
 abbrev pub is_in_load : List SegmentHeader → ℕ → Bool
 is_in_load segments position = list_any (λ p. has_position position (file_part p)) (loads_of segments)
 
--- one of the ranges has it
-abbrev pub is_in_range : List Range → ℕ → Bool
-is_in_range ranges position = list_any (has_position position) ranges
-
--- at the positions that pass a test bytes are those of others, as far as these have such positions
-abbrev pub TakesFrom : List ℕ → (ℕ → Bool) → List ℕ → List ℕ → Type 0
-TakesFrom source passes old new = (k : ℕ) → k < length old
-    → slice_index new k ≡ (if passes k && nat_lt k (length source) then slice_index source k else slice_index old k)
-
--- at the positions that pass a test bytes become zeros
-abbrev pub IsCleared : (ℕ → Bool) → List ℕ → List ℕ → Type 0
-IsCleared passes old new = (k : ℕ) → k < length old → slice_index new k ≡ (if passes k then 0 else slice_index old k)
-
 -- ## Data
 
 -- a section is data that had that number, where the interpreter's had this one

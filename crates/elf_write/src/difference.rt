@@ -2,6 +2,10 @@
 ghost use Rattle.std.specs.Prelude.{◌≡◌, false, IfErr, IfOk, IfSome, IsTrue};
 ghost use Rattle.patch_bytes.specs.ByteString.{bytes_of_each};
 ghost use Rattle.byte_store.specs.Composed.{IsDifference, made_of};
+ghost use Rattle.elf_format.specs.Ranges.{apart, range};
+ghost use Rattle.elf_format.specs.Records.{file_header_size};
+ghost use Rattle.elf_layout_plan.specs.FilePlaced.{written_table};
+ghost use Rattle.patch_bytes.specs.Bytes.{AreBytes};
 ghost use Rattle.elf_tables.specs.declared.fault.TableFault.TheVariants.{NumberTooLarge};
 ghost use Rattle.elf_image.specs.Kept.{image_at_read, kept_sections};
 ghost use Rattle.elf_layout_plan.specs.Plan.{IsPlan, resized};
@@ -14,9 +18,9 @@ ghost use Rattle.elf_write_contents.specs.Numbers.{do_numbers_fit as do_all_fit}
 ghost use Rattle.elf_write_contents.specs.PreparedSteps.{IsPrepared};
 ghost use Rattle.elf_write.specs.Refused.{AreNoBytes};
 
-use crate::bytes::{are_headers_apart, show_bytes};
 use crate::laying::laid_difference;
 use byte_store::Difference;
+use elf_format::range::Range;
 use elf_image::Builder;
 use elf_layout_plan::laws::{plans_are_apart, plans_show_notes};
 use elf_layout_plan::{LayoutFault, Plan, read_source};
@@ -26,6 +30,36 @@ use elf_write_contents::prepared::{Prepared, prepare_with_strings};
 use elf_write_contents::strings_from;
 use patch_bytes::ByteString;
 use std::alloc::{AllocError, Global};
+
+// Where the program header table stands in the file that is written.
+#[tactic(auto, using(elf_write_contents::proofs::ForCallers::plan_counts))]
+fn table_range(image: &Builder<'_>, plan: &Plan) -> Range
+    requires { IsPlan (resized image.now) plan.now }
+    ensures { result ≡ written_table (resized image.now) plan.now }
+{
+    Range {
+        start: plan.e_phoff(),
+        size: plan.segments().len() as u64 * image.form().segment_header_size() as u64,
+    }
+}
+
+// Whether the file header and the program header table share no byte of the file.
+fn are_headers_apart(image: &Builder<'_>, plan: &Plan) -> bool
+    requires { IsPlan (resized image.now) plan.now }
+    ensures { result ≡ apart (range 0 (file_header_size image.now.form))
+        (written_table (resized image.now) plan.now) }
+{
+    let header = Range {
+        start: 0,
+        size: image.form().file_header_size() as u64,
+    };
+    header.is_apart(table_range(image, plan))
+}
+
+// Each byte of a source is below 256.
+fn show_bytes(source: &[u8])
+    ensures { AreBytes source.now }
+{}
 
 // What differs from the source with these contents.
 fn difference_of_contents<'data>(

@@ -1,9 +1,7 @@
-//! Headers, tables and contents laid over what stays of the file that was read.
-ghost use Rattle.std.specs.Prelude.{◌≡◌, ◌+◌, ◌*◌, ◌<◌, ◌≤◌, ◌^◌, length, All, IfOk, List, SomeIff};
+//! Headers, tables and contents at their places, over what stays of the file that was read.
+ghost use Rattle.std.specs.Prelude.{◌≡◌, ◌+◌, ◌*◌, ◌<◌, ◌^◌, length, IfOk, List, SomeIff};
 ghost use Rattle.patch_bytes.specs.ByteString.{bytes_of_each};
 ghost use Rattle.byte_store.specs.Composed.{IsDifference, made_of};
-ghost use Rattle.byte_store.specs.Known.{put_at};
-ghost use Rattle.byte_store.specs.Laid.{LiesIn, laid, patches_of};
 ghost use Rattle.elf_format.specs.Records.{section_header_size};
 ghost use Rattle.elf_format.specs.declared.records.EntryNumbers.{EntryNumbers};
 ghost use Rattle.elf_write_contents.specs.Headers.{written_header};
@@ -11,11 +9,10 @@ ghost use Rattle.elf_write_contents.specs.Output.{IsPlannedOutput, written_bytes
 ghost use Rattle.elf_write_contents.specs.Ready.{IsEditedReady};
 ghost use Rattle.elf_write_contents.specs.Inner.{output_of};
 
-use crate::base::base_bytes;
 use crate::pieces::pieces;
 use crate::spans::differing;
 use crate::spelled::spelled_headers;
-use byte_store::{Difference, Piece};
+use byte_store::Difference;
 use elf_format::Form;
 use elf_format::records::{FileHeader, SectionHeader};
 use elf_image::Builder;
@@ -31,55 +28,6 @@ fn file_size(form: Form, plan: &Plan) -> Option<usize>
 {
     let table = plan.places().len().checked_mul(form.section_header_size())?;
     table.checked_add(plan.e_shoff() as usize)
-}
-
-// Writes a part over bytes from a position on.
-fn put(bytes: &mut [u8], at: usize, part: &[u8])
-    requires { at + length part.now ≤ length bytes.old }
-    ensures { bytes.new ≡ put_at at part.now bytes.old }
-{
-    bytes[at..at + part.len()].copy_from_slice(part);
-}
-
-// Writes pieces over bytes.
-fn lay(bytes: &mut [u8], pieces: &[Piece<'_>])
-    requires { All (LiesIn (length bytes.old)) (patches_of pieces.now) }
-    ensures { bytes.new ≡ laid (patches_of pieces.now) bytes.old }
-{
-    for piece in pieces {
-        put(bytes, piece.offset as usize, piece.bytes);
-    }
-}
-
-// The bytes of the file.
-pub(crate) fn laid_bytes<'data>(
-    alloc: Global,
-    read: &Builder<'data>,
-    image: &Builder<'data>,
-    plan: &Plan,
-    header: FileHeader,
-    headers: &[SectionHeader],
-    contents: &[ByteString<'_>],
-) -> Result<Vec<u8>, AllocError>
-    requires read { IsEditedReady read.now image.now }
-    requires header { header ≡ written_header image.now plan.now }
-    requires output { (raw : List EntryNumbers) × IsPlannedOutput
-        (output_of image.now plan.now headers.now (bytes_of_each contents.now) raw) }
-    ensures { IfOk result (λ bytes. (raw : List EntryNumbers) → bytes.items
-        ≡ written_bytes
-        (output_of image.now plan.now headers.now (bytes_of_each contents.now) raw)) }
-{
-    let form = image.form();
-    let Some(size) = file_size(form, plan) else {
-        // no memory has so many bytes
-        return Err(AllocError);
-    };
-    let interpreter = read.interpreter_number();
-    let spelled = spelled_headers(alloc, form, plan, header, headers)?;
-    let pieces = pieces(alloc, image, plan, &spelled, contents, interpreter)?;
-    let mut bytes = base_bytes(alloc, read, image, size)?;
-    lay(&mut bytes, &pieces);
-    Ok(bytes)
 }
 
 // What differs from the image's source of the bytes of the file.

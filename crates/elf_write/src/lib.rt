@@ -11,6 +11,6 @@ mod pieces;
 mod spans;
 mod spelled;
 
-pub use crate::bytes::{image_bytes, image_bytes_from_read};
+pub use crate::bytes::{image_bytes, made_bytes};
 pub use crate::counted::{CountedWrite, Sink, write_all_counted};
 pub use crate::difference::{image_pieces, image_pieces_from_read, image_pieces_with_strings};
