@@ -1,13 +1,11 @@
 -- The old places of what is written anew.
-use Rattle.std.proofs.Common.{◌≡◌, ◌≤◌, ◌<◌, ◌+◌, ◌∙◌, ℕ, Bool, true, false, List, [], ◌∷◌, ◌++◌, length, map, take, filter, get_or, replicate, refl, sym, ap, subst, Option, inl, inr, arith}
+use Rattle.std.proofs.Common.{◌≡◌, ◌≤◌, ◌<◌, ◌+◌, ◌∙◌, ℕ, Bool, true, false, List, [], ◌∷◌, ◌++◌, length, map, take, filter, get_or, sym, ap, Option, arith}
 use Rattle.std.specs.Prelude.{slice_index, nat_lt, not, ◌&&◌, ◌==◌, if◌then◌else◌}
-use Rattle.std.proofs.lemmas.Bool.{and_parts, cases_lt, cond-true, cond-false, le-ltb, lt-ltb, ltb-true}
-use Rattle.std.proofs.lemmas.List.{append_assoc, get_or-map, get_or-replicate, get_or_past, length-map, length-replicate, map-append, take_all, take_more}
+use Rattle.std.proofs.lemmas.Bool.{and_parts, ltb-true}
+use Rattle.std.proofs.lemmas.List.{append_assoc, get_or-map, length-map, map-append, take_all, take_more}
 use Rattle.std.proofs.lemmas.List.Elements.{filter-append}
-use Rattle.std.proofs.lemmas.Grind.{same_number_lists}
 use Rattle.elf_format.specs.declared.constants.TheConstants.{ET_DYN, ET_EXEC, PN_XNUM, SHN_LORESERVE}
 use Rattle.elf_format.specs.declared.range.Range.{Range}
-use Rattle.elf_format.specs.declared.records.SegmentHeader.{SegmentHeader}
 use Rattle.elf_format.specs.File.{Opened}
 use Rattle.elf_format.specs.Image.{Image, ImageSection}
 use Rattle.elf_format.specs.Options.{is_one_of}
@@ -20,10 +18,9 @@ use Rattle.elf_image.specs.declared.section.Section.{Section}
 use Rattle.elf_image.specs.Kept.{KeptSection, image_at_read, interpreter_number, kept_sections, place_at_read}
 use Rattle.elf_layout_plan.specs.Memory.{Resized}
 use Rattle.elf_layout_plan.specs.Plan.{resized}
-use Rattle.elf_write_contents.specs.Base.{base, base_byte, leaves_place, old_places, values_from}
-use Rattle.elf_write_contents.proofs.ForCallers.Laying.{length-values, value-at}
+use Rattle.elf_write_contents.specs.Base.{leaves_place}
 use Rattle.elf_write_contents.specs.Ready.{IsEditedReady}
-use Rattle.elf_write.specs.LayingSteps.{IsCleared, TakesFrom, is_in_load, is_in_range, leaves_place_at, rewritten_places}
+use Rattle.elf_write.specs.LayingSteps.{leaves_place_at, rewritten_places}
 use Rattle.elf_write_contents.proofs.ForCallers.WholeEdits.{ReadFacts, read_facts}
 use Rattle.elf_write_contents.proofs.ForCallers.ReadTables.{ready_edit}
 use Rattle.elf_format.proofs.ForCallers.Lengths.{length-segments}

@@ -4,10 +4,8 @@ use Rattle.std.specs.Prelude.{slice_index, not, ◌&&◌, if◌then◌else◌}
 use Rattle.std.specs.List.{flat_map}
 use Rattle.std.proofs.lemmas.List.{append-nil, append_assoc, drop_all, drop_more, get_or-map, length-map}
 use Rattle.byte_store.specs.Composed.{IsMadeInParts, made_of}
-use Rattle.byte_store.specs.Known.{put_at}
-use Rattle.byte_store.specs.Laid.{LiesIn, Patch, laid, patch_of, patches_of}
+use Rattle.byte_store.specs.Laid.{LiesIn, Patch}
 use Rattle.byte_store.specs.declared.composed.Difference.{Difference}
-use Rattle.byte_store.specs.declared.pieces.Piece.{Piece}
 use Rattle.elf_format.specs.declared.form.Form.{Form}
 use Rattle.elf_format.specs.declared.records.EntryNumbers.{EntryNumbers}
 use Rattle.elf_format.specs.declared.records.FileHeader.{FileHeader}
@@ -25,10 +23,9 @@ use Rattle.elf_image.specs.Kept.{KeptSection, image_at_read, interpreter_number,
 use Rattle.elf_layout_plan.specs.Memory.{Resized}
 use Rattle.elf_layout_plan.specs.Plan.{Layout, resized}
 use Rattle.elf_layout_plan.specs.PlanModel.{place_model}
-use Rattle.elf_write_contents.specs.Base.{base, base_byte, is_data}
+use Rattle.elf_write_contents.specs.Base.{is_data}
 use Rattle.elf_write_contents.specs.Headers.{written_header}
 use Rattle.elf_write_contents.specs.Output.{IsPlannedOutput, Output, patch, patches, patches_of_headers, patches_of_section, patches_of_sections, written_bytes}
-use Rattle.elf_write_contents.proofs.ForCallers.Laying.{length-values}
 use Rattle.elf_write_contents.proofs.ForCallers.Patches.{patches_lie}
 use Rattle.elf_write_contents.proofs.ForCallers.WholeFacts.{lengths, read_facts}
 use Rattle.elf_write_contents.specs.Inner.{output_of}

@@ -1,4 +1,4 @@
-pub mod Laying
+pub mod OwnedPieces
 pub mod LayingPlaces
 pub mod Composing
 pub mod LayingWhole

@@ -1,5 +1,5 @@
 -- Steps towards the bytes of a written file.
-use Rattle.std.specs.Prelude.{ℕ, ◌≡◌, ◌<◌, List, [], ◌∷◌, length, map, filter, slice_index, Bool, ◌&&◌, not, Option, nat_lt, if◌then◌else◌, ◌==◌, IsTrue}
+use Rattle.std.specs.Prelude.{ℕ, ◌≡◌, List, [], ◌∷◌, map, filter, Bool, ◌&&◌, not, Option, if◌then◌else◌, ◌==◌, IsTrue}
 use Rattle.std.specs.List.{flat_map, list_all, list_any}
 use Rattle.byte_store.specs.Laid.{Patch}
 use Rattle.elf_format.specs.declared.constants.TheConstants.{SHT_DYNAMIC}

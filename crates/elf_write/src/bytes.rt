@@ -1,5 +1,5 @@
 //! The bytes of an edited ELF file: what differs from its source, laid over that.
-ghost use Rattle.std.specs.Prelude.{◌≡◌, ◌+◌, ◌≤◌, length, All, IfErr, IfOk, IsTrue};
+ghost use Rattle.std.specs.Prelude.{◌≡◌, ◌+◌, ◌++◌, ◌≤◌, length, All, IfErr, IfOk, IsTrue};
 ghost use Rattle.byte_store.specs.Composed.{IsDifference, made_of, owned_patches};
 ghost use Rattle.byte_store.specs.Known.{put_at};
 ghost use Rattle.byte_store.specs.Laid.{LiesIn, laid};

@@ -1,8 +1,8 @@
-use Rattle.std.proofs.Common.{◌∙◌, ◌+◌, ℕ, List, ap, drop, length, sym, arith}
+use Rattle.std.proofs.Common.{◌∙◌, ◌+◌, ℕ, List, ap, drop, length, arith}
 use Rattle.byte_store.specs.Composed.{owned_patches}
 use Rattle.byte_store.specs.Known.{put_at}
 use Rattle.byte_store.specs.Laid.{laid}
-use Rattle.elf_write.proofs.Laying.{laid-next, one_lies}
+use Rattle.elf_write.proofs.OwnedPieces.{laid-next, one_lies}
 use Rattle.elf_write.proofs.bytes.lay.Goals as goal
 
 pub put-requires : goal.put-requires
