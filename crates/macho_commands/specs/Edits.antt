@@ -2,14 +2,15 @@
 use Rattle.std.specs.Prelude.{List, Option, Some, None, Result, Ok, Err}
 use Rattle.macho_edits.specs.Call.{Call}
 use Rattle.command_words.specs.Groups.{Wrong, edits_by, group_edit, no_edit}
-use Rattle.macho_commands.specs.Meaning.{MachoMeaning, apply, edit, macho_lines, sign, verify}
+use Rattle.macho_commands.specs.Meaning.{MachoMeaning, apply, batch, edit, macho_lines, sign, verify}
 use Rattle.command_words.specs.Rows.{Text}
 use Rattle.command_words.specs.declared.edits.EditFault.{EditFault}
 
--- the edit that a command asks for; `apply` asks for several, `sign` and `verify` for none
+-- the edit that a command asks for; `apply` and a batch ask for several, `sign` and `verify` for none
 abbrev pub edit_asked : MachoMeaning → Option Call
 edit_asked (edit call path) = Some call
 edit_asked (apply path words) = None
+edit_asked (batch path calls) = None
 edit_asked (sign path) = None
 edit_asked (verify path) = None
 

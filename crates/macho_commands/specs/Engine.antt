@@ -19,7 +19,7 @@ use Rattle.macho_commands.specs.declared.error.MachoCommandError.{MachoCommandEr
 use Rattle.macho_commands.specs.declared.error.MachoCommandError.TheVariants.{Edits, Io, Macho, MachoBatch, Memory, Signing as signing, Unfit}
 use Rattle.macho_commands.specs.Edits.{edits_of}
 use Rattle.macho_commands.specs.Errors.{answer_to, answer_to_batch}
-use Rattle.macho_commands.specs.Meaning.{MachoMeaning, apply, edit, sign, verify}
+use Rattle.macho_commands.specs.Meaning.{MachoMeaning, apply, batch, edit, sign, verify}
 use Rattle.macho_commands.specs.declared.signing.Signing.{Signing}
 use Rattle.macho_commands.specs.declared.signing.Signing.TheVariants.{Left, Renewed}
 use Rattle.macho_commands.specs.declared.signing.Signs.{Signs}
@@ -41,6 +41,7 @@ pub data Asked : Type 0 where
 abbrev pub asked : MachoMeaning → Asked
 asked (edit call path) = one call
 asked (apply path words) = several (edits_of words)
+asked (batch path calls) = several (Ok calls)
 asked (sign path) = several (Ok [])
 asked (verify path) = several (Ok [])
 
@@ -85,6 +86,7 @@ signs_of choice (sign path) = Whole
 signs_of choice (verify path) = Nothing
 signs_of choice (edit call path) = signs_by choice
 signs_of choice (apply path words) = signs_by choice
+signs_of choice (batch path calls) = signs_by choice
 
 -- of a file: those of the pages in which the edited bytes differ from its own, or all
 abbrev pub pages_by : Signs → List ℕ → Pages
@@ -169,6 +171,11 @@ MayFail meaning (signing why) = TellsSome meaning (signing why) ⊎ TellsCheck m
 MayFail meaning e = TellsSome meaning e
 
 -- ---- the edits that a command asks for, and what they write
+
+-- the edits are named by words or values, and not those of a list
+abbrev pub AreNamed : MachoMeaning → Type 0
+AreNamed (batch path calls) = ⊥
+AreNamed _ = ⊤
 
 -- edits are those that are asked for
 abbrev pub AreAsked : Asked → List Call → Type 0

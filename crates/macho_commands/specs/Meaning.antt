@@ -1,5 +1,6 @@
 -- What a command for Mach-O files asks for, with its texts as bytes.
 use Rattle.std.specs.Prelude.{◌∷◌, [], List, codes, false, map, string_bytes, true}
+use Rattle.macho_edits.specs.Batch.{calls_of}
 use Rattle.macho_edits.specs.Call.{Call}
 use Rattle.macho_edits.specs.Call.Call.{add_rpath, change_install_id, change_install_name}
 use Rattle.macho_edits.specs.Call.Call.{change_rpath, remove_rpath}
@@ -7,11 +8,12 @@ use Rattle.command_words.specs.Rows.{Asks, Line, Text, by_path, by_text, by_text
 use Rattle.macho_commands.specs.declared.command.MachoCommand.{MachoCommand}
 use Rattle.macho_commands.specs.declared.command.MachoCommand.TheVariants as macho
 
--- what is asked of the Mach-O file at a path: an edit, the edits that words name, that its ad-hoc signatures are made to fit, or
--- whether they do
+-- what is asked of the Mach-O file at a path: an edit, the edits that words name, those of a list, that its ad-hoc signatures are
+-- made to fit, or whether they do
 pub data MachoMeaning : Type 0 where
   edit : Call → Text → MachoMeaning
   apply : Text → List Text → MachoMeaning
+  batch : Text → List Call → MachoMeaning
   sign : Text → MachoMeaning
   verify : Text → MachoMeaning
 
@@ -55,6 +57,7 @@ macho_command_model (macho.ChangeInstallId args) =
     edit (change_install_id (string_bytes args.new_install_id)) (string_bytes args.path_to_binary)
 macho_command_model (macho.Apply args) =
     apply (string_bytes args.path_to_binary) (map string_bytes args.edits.items)
+macho_command_model (macho.Batch args) = batch (string_bytes args.path_to_binary) (calls_of args.edits.items)
 macho_command_model (macho.Sign args) = sign (string_bytes args.path_to_binary)
 macho_command_model (macho.Verify args) = verify (string_bytes args.path_to_binary)
 
@@ -62,5 +65,6 @@ macho_command_model (macho.Verify args) = verify (string_bytes args.path_to_bina
 abbrev pub file_of : MachoMeaning → Text
 file_of (edit call path) = path
 file_of (apply path words) = path
+file_of (batch path calls) = path
 file_of (sign path) = path
 file_of (verify path) = path

@@ -4,7 +4,7 @@ ghost use Rattle.macho_edits.specs.Batch.{call_made};
 ghost use Rattle.macho_edits.specs.Call.Call.{add_rpath, change_install_id, change_install_name};
 ghost use Rattle.macho_edits.specs.Call.Call.{change_rpath, remove_rpath};
 
-use crate::commands::{add, apply, change, delete, install_id, install_name, sign, verify};
+use crate::commands::{add, apply, batch, change, delete, install_id, install_name, sign, verify};
 use arwen_macho::macho::MachoEdit;
 use command_words::{Values, copied};
 use std::alloc::{AllocError, Global};
@@ -24,6 +24,8 @@ pub enum MachoCommand {
     ChangeInstallId(install_id::Args),
     /// Several of these edits, all or none.
     Apply(apply::Args),
+    /// The edits of a list, all or none.
+    Batch(batch::Args),
     /// Make its ad-hoc code signatures fit.
     Sign(sign::Args),
     /// Tell whether its code signatures fit.
@@ -125,7 +127,8 @@ impl MachoCommand {
         }
     }
 
-    /// The edit that the command asks for; `None` for `apply`, which asks for several, and where none is asked for.
+    /// The edit that the command asks for; `None` for `apply` and a batch, which ask for
+    /// several, and where none is asked for.
     pub(crate) fn edit(&self, alloc: Global) -> Result<Option<MachoEdit>, AllocError>
         ensures { IfOk result (λ edit.
             option_map call_made edit ≡ edit_asked (macho_command_model self.now)) }
@@ -138,7 +141,8 @@ impl MachoCommand {
                 name_change(alloc, &args.old_install_name, &args.new_install_name)
             }
             MachoCommand::ChangeInstallId(args) => id_change(alloc, &args.new_install_id),
-            MachoCommand::Apply(_) | MachoCommand::Sign(_) | MachoCommand::Verify(_) => Ok(None),
+            MachoCommand::Apply(_) | MachoCommand::Batch(_) => Ok(None),
+            MachoCommand::Sign(_) | MachoCommand::Verify(_) => Ok(None),
         }
     }
 
@@ -153,6 +157,7 @@ impl MachoCommand {
             MachoCommand::ChangeInstallName(args) => args.path_to_binary.as_str(),
             MachoCommand::ChangeInstallId(args) => args.path_to_binary.as_str(),
             MachoCommand::Apply(args) => args.path_to_binary.as_str(),
+            MachoCommand::Batch(args) => args.path_to_binary.as_str(),
             MachoCommand::Sign(args) => args.path_to_binary.as_str(),
             MachoCommand::Verify(args) => args.path_to_binary.as_str(),
         }

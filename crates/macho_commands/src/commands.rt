@@ -222,3 +222,28 @@ pub mod apply {
         macho_execute(rt, MachoCommand::Apply(args))
     }
 }
+
+/// The edits of a list. No word names it: programs make it, and give its edits without words.
+pub mod batch {
+    use crate::command::MachoCommand;
+    use crate::engine::macho_execute;
+    use crate::error::MachoCommandError;
+    use arwen_macho::macho::MachoEdit;
+    use std::rt::Files;
+
+    /// Several edits, all or none.
+    #[derive(Debug, Drop)]
+    pub struct Args {
+        /// Path to the file to change.
+        pub path_to_binary: String,
+        /// The edits, the first one first.
+        pub edits: Vec<MachoEdit>,
+    }
+
+    /// Edits the file.
+    pub fn execute<R: Files + AllocGlobal>(rt: &R, args: Args) -> Result<(), MachoCommandError>
+        ensures { IfErr result (MayFail (macho_command_model (MachoCommand.Batch args))) }
+    {
+        macho_execute(rt, MachoCommand::Batch(args))
+    }
+}

@@ -2,7 +2,7 @@
 ghost use Rattle.std.specs.Prelude.{◌≡◌, ◌≢◌, ◌≤◌, ◌∷◌, [], All, None, Ok, Some, IfOk, IfErr, IsTrue, OnOk, length, string_bytes};
 ghost use Rattle.macho_edits.specs.Batch.{calls_of};
 ghost use Rattle.arwen_macho.specs.Fronts.{LiesIn, fronts_on};
-ghost use Rattle.macho_commands.specs.Engine.{AreAsked, IsSignedOutcome, IsSigningError, MayFail, Outcome};
+ghost use Rattle.macho_commands.specs.Engine.{AreAsked, AreNamed, IsSignedOutcome, IsSigningError, MayFail, Outcome};
 ghost use Rattle.macho_commands.specs.Engine.{SignsBy, Tells, TellsAsked, Writes, WritesBy, WritesEdits};
 ghost use Rattle.macho_commands.specs.Engine.{asked, outcome, outcome_by, outcome_of, pages_by, refused_answer, signs_of};
 ghost use Rattle.macho_commands.specs.Failures.{HasCause, HasCauseAt, WritesEnd};
@@ -53,11 +53,37 @@ pub fn run_macho(
     ensures err { IfErr result (λ e.
         Tells (outcome signing (macho_command_model command.now) bytes.now) e) }
 {
-    let Made { fronts, slots, .. } = made_of(alloc, bytes, command, Notes::LeftOut, signing)?;
+    let (new, _text) = run_macho_telling(alloc, bytes, command, Notes::LeftOut, signing)?;
+    Ok(new)
+}
+
+/// The same, and the line that tells what a user should know of the edit, with the command's path; no text where notes
+/// are left out, or where there is nothing to tell.
+pub fn run_macho_telling(
+    alloc: Global,
+    bytes: &[u8],
+    command: &MachoCommand,
+    notes: Notes,
+    signing: Signing,
+) -> Result<(Vec<u8>, String), MachoCommandError>
+    ensures ok { IfOk result (λ made. outcome signing (macho_command_model command.now) bytes.now
+        ≡ Outcome.bytes made.0.items) }
+    ensures shows { IfOk result (λ made.
+        IsSignedOutcome signing (macho_command_model command.now) bytes.now made.0.items) }
+    ensures told { IfOk result (λ made. TellsCommand signing (macho_command_model command.now)
+        notes bytes.now (string_bytes made.1)) }
+    ensures err { IfErr result (λ e.
+        Tells (outcome signing (macho_command_model command.now) bytes.now) e) }
+{
+    let Made {
+        fronts,
+        slots,
+        text,
+    } = made_of(alloc, bytes, command, notes, signing)?;
     let mut new = Vec::from_slice(alloc, bytes)?;
     lay_fronts(&mut new, fronts);
     lay_slots(&mut new, &slots);
-    Ok(new)
+    Ok((new, text))
 }
 
 /// What a command writes over the bytes of a file, and the line of its note.
@@ -248,11 +274,14 @@ pub(crate) fn fronts_of(
     ensures err { IfErr result (λ e.
         Tells (outcome_of (asked (macho_command_model command.now)) bytes.now) e) }
 {
-    let edits = edits_asked(alloc, command)?;
+    if let MachoCommand::Batch(args) = command {
+        return fronts_by(alloc, bytes, command, args.edits.as_slice(), notes);
+    }
+    let edits = edits_named(alloc, command)?;
     fronts_by(alloc, bytes, command, edits.as_slice(), notes)
 }
 
-/// The same by the edits that were read.
+/// The same by the edits that it asks for.
 fn fronts_by(
     alloc: Global,
     bytes: &[u8],
@@ -298,15 +327,15 @@ fn refusal(command: &MachoCommand, error: MachoBatchError) -> MachoCommandError
     ensures { result ≡ refused_answer (asked (macho_command_model command.now)) error }
 {
     match command {
-        MachoCommand::Apply(_) | MachoCommand::Sign(_) | MachoCommand::Verify(_) => {
-            MachoCommandError::from(error)
-        }
+        MachoCommand::Apply(_) | MachoCommand::Batch(_) => MachoCommandError::from(error),
+        MachoCommand::Sign(_) | MachoCommand::Verify(_) => MachoCommandError::from(error),
         _ => MachoCommandError::from(error.fault),
     }
 }
 
-/// The edits that a command asks for.
-fn edits_asked(alloc: Global, command: &MachoCommand) -> Result<Vec<MachoEdit>, MachoCommandError>
+/// The edits that the words or values of a command name.
+fn edits_named(alloc: Global, command: &MachoCommand) -> Result<Vec<MachoEdit>, MachoCommandError>
+    requires { AreNamed (macho_command_model command.now) }
     ensures ok { IfOk result (λ edits.
         AreAsked (asked (macho_command_model command.now)) (calls_of edits.items)) }
     ensures err { IfErr result (λ e. TellsAsked (asked (macho_command_model command.now)) e) }

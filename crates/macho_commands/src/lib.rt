@@ -16,9 +16,11 @@ mod tables;
 mod verifying;
 
 pub use command::MachoCommand;
-pub use commands::{add, apply, change, delete, install_id, install_name, sign, verify};
+pub use commands::{add, apply, batch, change, delete, install_id, install_name, sign, verify};
 pub use edits::parse_macho_edits;
-pub use engine::{macho_execute, macho_execute_telling, patch_path, patch_store, run_macho};
+pub use engine::{
+    macho_execute, macho_execute_telling, patch_path, patch_store, run_macho, run_macho_telling,
+};
 pub use error::MachoCommandError;
 pub use macho_commands_signing::Verdict;
 pub use signing::Signing;
