@@ -1,5 +1,5 @@
 -- What edits of an ELF file keep and show, and which answers tell why there are no bytes.
-use Rattle.std.proofs.Common.{◌≡◌, ◌+◌, [], ◌∷◌, ◌∙◌, Bool, ℕ, List, Option, None, Some, Result, Ok, Err, true, false, refl, sym, ap, subst, inl, inr}
+use Rattle.std.proofs.Common.{◌≡◌, ◌+◌, [], ◌∷◌, ◌∙◌, ℕ, List, Option, Result, Ok, Err, false, refl, sym, ap, subst, inl, inr}
 use Rattle.std.specs.Prelude.{IfOk, IsOkAnd}
 use Rattle.std.specs.declared.alloc.Global.{Global}
 use Rattle.std.specs.declared.vec.Vec.{Vec}
@@ -25,8 +25,8 @@ use Rattle.byte_store.specs.Composed.{made_of}
 use Rattle.byte_store.specs.declared.composed.Difference.{Difference}
 use Rattle.command_words.specs.Rows.{Text}
 use Rattle.elf_commands_steps.specs.Images.{AreChanged, TellsNoImage}
-use Rattle.elf_commands.specs.ElfEngine.{AreEditsAsked, IsBatchEdited, IsElfEdited, LeavesBatch, LeavesElf, Makes, MayFailAs, ShowsEdits, TellsEachFile, TellsEdit, TellsElfOf, TellsRefusedAt, TellsRun, bytes_left, elf_refusal}
-use Rattle.elf_commands_steps.specs.ElfErrors.{answer_to_elf, answer_to_elf_fault}
+use Rattle.elf_commands.specs.ElfEngine.{AreEditsAsked, IsEditedBy, IsEditedTo, IsElfEdited, LeavesElf, Makes, MayFailAs, ShowsEdits, TellsEachFile, TellsEdit, TellsElfOf, TellsRefusedAt, TellsRun, as_asked, with_no_number}
+use Rattle.elf_commands_steps.specs.ElfErrors.{answer_to_elf, answer_to_elf_batch, answer_to_elf_fault}
 use Rattle.elf_commands.specs.Meaning.{ElfMeaning}
 use Rattle.elf_commands.specs.Prints.{PrintMayFail, TellsElf, printed}
 use Rattle.elf_commands_steps.specs.declared.error.ElfCommandError.{ElfCommandError}
@@ -90,93 +90,42 @@ shows_edits edits_show batches edits file new read made views runs written =
       by_loader = written.by_loader;
     }
 
--- what is said of a batch is said of the command that asks for it
-leaves_as_asked : (a : ElfAsked) (edits : List Edit) (file new : List ℕ) → AreEditsAsked a edits → LeavesBatch a file new → LeavesElf a file new
-leaves_as_asked (one edit) edits file new are leaves = leaves
-leaves_as_asked (several read) edits file new are leaves = leaves
-leaves_as_asked (shrinking prefixes) edits file new are leaves = absurd are
-leaves_as_asked (of_symbols edit) edits file new are leaves = absurd are
-leaves_as_asked (in_turn asked) edits file new are leaves = absurd are
-leaves_as_asked printing edits file new are leaves = absurd are
+-- what the edited image is written to
+pub edited_to : EditsShow → BatchesAreTheirEdits → (edits : List Edit) (file new : List ℕ) (read made : Image) → image_of file ≡ Ok read → ShowsBothViews file read → run edits read ≡ Ok made → IsImageWritten made new → IsEditedTo edits file new
+edited_to edits_show batches edits file new read made is views runs written = record {
+  made = made;
+  makes = made_of_edits edits file read made is runs;
+  written = written;
+  shows = λ other. shows_edits edits_show batches edits file new read made views runs (written.edited other);
+}
 
-edited_as_asked : (a : ElfAsked) (edits : List Edit) (file : List ℕ) (answer : Option (Vec ℕ Global)) → AreEditsAsked a edits → IsBatchEdited a file answer → IsElfEdited a file answer
-edited_as_asked (one edit) edits file answer are edited = edited
-edited_as_asked (several read) edits file answer are edited = edited
+-- the answer for an edited image is that for its file
+pub edited_by : EditsShow → BatchesAreTheirEdits → (edits : List Edit) (file : List ℕ) (read made : Image) (answer : Option (Vec ℕ Global)) → image_of file ≡ Ok read → ShowsBothViews file read → run edits read ≡ Ok made → AreChanged made answer → IsEditedBy edits file answer
+edited_by edits_show batches edits file read made answer is views runs changed = record {
+  made = made;
+  makes = made_of_edits edits file read made is runs;
+  unchanged = changed.same;
+  changed = λ other.
+      let (new, is_new, written) = changed.other other in
+      (new, is_new, written, shows_edits edits_show batches edits file new.items read made views runs written);
+}
+
+-- what is said of a batch is said of the command that asks for it
+pub left_as_asked : (a : ElfAsked) (edits : List Edit) (file new : List ℕ) → AreEditsAsked a edits → IsEditedTo edits file new → LeavesElf a file new
+left_as_asked (one edit) edits file new are left = record { edits = edits; are = are; left = left }
+left_as_asked (several read) edits file new are left = record { edits = edits; are = are; left = left }
+left_as_asked (shrinking prefixes) edits file new are left = absurd are
+left_as_asked (of_symbols edit) edits file new are left = absurd are
+left_as_asked (in_turn asked) edits file new are left = absurd are
+left_as_asked printing edits file new are left = absurd are
+
+pub edited_as_asked : (a : ElfAsked) (edits : List Edit) (file : List ℕ) (answer : Option (Vec ℕ Global)) → AreEditsAsked a edits → IsEditedBy edits file answer → IsElfEdited a file answer
+edited_as_asked (one edit) edits file answer are edited = record { edits = edits; are = are; edited = edited }
+edited_as_asked (several read) edits file answer are edited = record { edits = edits; are = are; edited = edited }
 edited_as_asked (shrinking prefixes) edits file answer are edited = absurd are
 edited_as_asked (of_symbols edit) edits file answer are edited = absurd are
 edited_as_asked (in_turn asked) edits file answer are edited = absurd are
 edited_as_asked printing edits file answer are edited = absurd are
-
--- what the edited image is written to is left
-image_left : EditsShow → BatchesAreTheirEdits → (a : ElfAsked) (edits : List Edit) (file new : List ℕ) (read made : Image) → AreEditsAsked a edits
-    → image_of file ≡ Ok read → ShowsBothViews file read → run edits read ≡ Ok made → IsImageWritten made new → LeavesElf a file new
-image_left edits_show batches a edits file new read made are is views runs written = leaves_as_asked a edits file new are (record {
-  edits = edits;
-  are = are;
-  left = record {
-    made = made;
-    makes = made_of_edits edits file read made is runs;
-    written = written;
-    shows = λ other. shows_edits edits_show batches edits file new read made views runs (written.edited other);
-  };
-})
-
--- the file is left as it was
-leaves_file : EditsShow → BatchesAreTheirEdits → ReadImagesHoldParts → (a : ElfAsked) (edits : List Edit) (file : List ℕ) (read made : Image) → AreEditsAsked a edits
-    → image_of file ≡ Ok read → ShowsBothViews file read → run edits read ≡ Ok made → made.changed ≡ false → LeavesElf a file file
-leaves_file edits_show batches hold_parts a edits file read made are is views runs same =
-    image_left edits_show batches a edits file file read made are is views runs
-    (record { unchanged = λ _. sym (source_is edits_show hold_parts edits file read made is runs); edited = λ other. absurd (cc) })
-
--- the bytes of an edited image
-pub edited_to : EditsShow → BatchesAreTheirEdits → (a : ElfAsked) (edits : List Edit) (file : List ℕ) (read made : Image) (new : Vec ℕ Global) → AreEditsAsked a edits
-    → image_of file ≡ Ok read → ShowsBothViews file read → run edits read ≡ Ok made → made.changed ≡ true → IsWrittenOf made new.items → IsElfEdited a file (Some new)
-edited_to edits_show batches a edits file read made new are is views runs other written = edited_as_asked a edits file (Some new) are (record {
-  edits = edits;
-  are = are;
-  edited = record {
-    made = made;
-    makes = made_of_edits edits file read made is runs;
-    unchanged = λ same. absurd (cc);
-    changed = λ _. (new, refl, written, shows_edits edits_show batches edits file new.items read made views runs written);
-  };
-})
-
-module _ (a : ElfAsked) (edits : List Edit) (file : List ℕ) (read made : Image) (answer : Option (Vec ℕ Global)) (are : AreEditsAsked a edits) (is : image_of file ≡ Ok read) (runs : run edits read ≡ Ok made) (changed : AreChanged made answer) where
-  -- the answer for an edited image is that for its file
-  pub edited_answer : EditsShow → BatchesAreTheirEdits → ShowsBothViews file read → IsElfEdited a file answer
-  edited_answer edits_show batches views = by_mark made.changed refl
-    where
-      by_mark : (mark : Bool) → made.changed ≡ mark → IsElfEdited a file answer
-      by_mark true other =
-          let (new, is_new, written) = changed.other other in
-          let P : Option (Vec ℕ Global) → Type 0 = λ o. IsElfEdited a file o in
-          subst P (sym is_new) (edited_to edits_show batches a edits file read made new are is views runs other written)
-      by_mark false same =
-          let P : Option (Vec ℕ Global) → Type 0 = λ o. IsElfEdited a file o in
-          subst P (sym (changed.same same)) (edited_as_asked a edits file None are (record {
-            edits = edits;
-            are = are;
-            edited = record {
-              made = made;
-              makes = made_of_edits edits file read made is runs;
-              unchanged = λ _. refl;
-              changed = λ other. absurd (cc);
-            };
-          }))
-
-  pub answer_left : EditsShow → BatchesAreTheirEdits → ReadImagesHoldParts → ShowsBothViews file read → LeavesElf a file (bytes_left file answer)
-  answer_left edits_show batches hold_parts views = by_mark made.changed refl
-    where
-      by_mark : (mark : Bool) → made.changed ≡ mark → LeavesElf a file (bytes_left file answer)
-      by_mark true other =
-          let (new, is_new, written) = changed.other other in
-          let P : Option (Vec ℕ Global) → Type 0 = λ o. LeavesElf a file (bytes_left file o) in
-          subst P (sym is_new)
-          (image_left edits_show batches a edits file new.items read made are is views runs (record { unchanged = λ same. absurd (cc); edited = λ _. written }))
-      by_mark false same =
-          let P : Option (Vec ℕ Global) → Type 0 = λ o. LeavesElf a file (bytes_left file o) in
-          subst P (sym (changed.same same)) (leaves_file edits_show batches hold_parts a edits file read made are is views runs same)
 
 -- ## Why there are no bytes
 
@@ -200,44 +149,63 @@ several_refused edits file read e (elf.Write fault) same is refuses = absurd ref
 several_refused edits file read e elf.InvalidDtNeededEncoding same is refuses = absurd refuses
 
 -- an edit is refused
-pub tells_refused : (a : ElfAsked) (edits : List Edit) (file : List ℕ) (read : Image) (e : ElfBatchError) → AreEditsAsked a edits → image_of file ≡ Ok read → RefusesBatch e (run edits read) → TellsEdit a file (elf_refusal a e)
-tells_refused (one edit) edits file read e are is refuses =
-    one_refused edit file read e.index e.fault is (subst (λ (l : List Edit). RefusesAt e.index e.fault (run l read)) are refuses)
-tells_refused (several read_as) edits file read e are is refuses =
-    subst (λ r. TellsEdit (several r) file (elf_refusal (several r) e)) (sym are) (several_refused edits file read e e.fault refl is refuses)
-tells_refused (shrinking prefixes) edits file read e are is refuses = absurd are
-tells_refused (of_symbols edit) edits file read e are is refuses = absurd are
-tells_refused (in_turn asked) edits file read e are is refuses = absurd are
-tells_refused printing edits file read e are is refuses = absurd are
+pub tells_refused : (edits : List Edit) (file : List ℕ) (read : Image) (e : ElfBatchError) → image_of file ≡ Ok read → RefusesBatch e (run edits read) → TellsEdit (several (Ok edits)) file (answer_to_elf_batch e)
+tells_refused edits file read e is refuses = several_refused edits file read e e.fault refl is refuses
 
 -- the edited image has no bytes
-pub tells_no_image : (a : ElfAsked) (edits : List Edit) (file : List ℕ) (made : Image) (e : ElfError) → AreEditsAsked a edits → Makes edits file made → IsNoImage made e → TellsEdit a file (answer_to_elf e)
-tells_no_image (one edit) edits file made e are makes none = one_unwritten edit file made e (subst (λ (l : List Edit). Makes l file made) are makes) none
-  where
-    one_unwritten : (edit : Edit) (file : List ℕ) (made : Image) (e : ElfError) → Makes (edit ∷ []) file made → IsNoImage made e → TellsEdit (one edit) file (answer_to_elf e)
-    one_unwritten edit file made elf.Memory makes none = tt
-    one_unwritten edit file made (elf.Modify cause) makes none = inr (inr (record { made = made; makes = makes; none = none }))
-    one_unwritten edit file made (elf.Parse fault) makes none = inr (inr (record { made = made; makes = makes; none = none }))
-    one_unwritten edit file made (elf.Io fault) makes none = inr (inr (record { made = made; makes = makes; none = none }))
-    one_unwritten edit file made (elf.Write fault) makes none = inr (inr (record { made = made; makes = makes; none = none }))
-    one_unwritten edit file made elf.InvalidDtNeededEncoding makes none = inr (inr (record { made = made; makes = makes; none = none }))
-tells_no_image (several read_as) edits file made e are makes none = subst (λ r. TellsEdit (several r) file (answer_to_elf e)) (sym are) (unwritten edits file made e makes none)
-  where
-    unwritten : (edits : List Edit) (file : List ℕ) (made : Image) (e : ElfError) → Makes edits file made → IsNoImage made e → TellsEdit (several (Ok edits)) file (answer_to_elf e)
-    unwritten edits file made elf.Memory makes none = tt
-    unwritten edits file made (elf.Modify cause) makes none = inr (record { made = made; makes = makes; none = none })
-    unwritten edits file made (elf.Parse fault) makes none = inr (record { made = made; makes = makes; none = none })
-    unwritten edits file made (elf.Io fault) makes none = inr (record { made = made; makes = makes; none = none })
-    unwritten edits file made (elf.Write fault) makes none = inr (record { made = made; makes = makes; none = none })
-    unwritten edits file made elf.InvalidDtNeededEncoding makes none = inr (record { made = made; makes = makes; none = none })
-tells_no_image (shrinking prefixes) edits file made e are makes none = absurd are
-tells_no_image (of_symbols edit) edits file made e are makes none = absurd are
-tells_no_image (in_turn asked) edits file made e are makes none = absurd are
-tells_no_image printing edits file made e are makes none = absurd are
+pub one_unwritten : (edit : Edit) (file : List ℕ) (made : Image) (e : ElfError) → Makes (edit ∷ []) file made → IsNoImage made e → TellsEdit (one edit) file (answer_to_elf e)
+one_unwritten edit file made elf.Memory makes none = tt
+one_unwritten edit file made (elf.Modify cause) makes none = inr (inr (record { made = made; makes = makes; none = none }))
+one_unwritten edit file made (elf.Parse fault) makes none = inr (inr (record { made = made; makes = makes; none = none }))
+one_unwritten edit file made (elf.Io fault) makes none = inr (inr (record { made = made; makes = makes; none = none }))
+one_unwritten edit file made (elf.Write fault) makes none = inr (inr (record { made = made; makes = makes; none = none }))
+one_unwritten edit file made elf.InvalidDtNeededEncoding makes none = inr (inr (record { made = made; makes = makes; none = none }))
 
-pub tells_no_bytes : (a : ElfAsked) (edits : List Edit) (file : List ℕ) (made : Image) (e : ElfCommandError) → AreEditsAsked a edits → Makes edits file made → TellsNoImage made e → TellsEdit a file e
-tells_no_bytes a edits file made e are makes told =
-    let P : ElfCommandError → Type 0 = λ x. TellsEdit a file x in subst P (sym told.2) (tells_no_image a edits file made told.0 are makes told.1)
+several_unwritten : (edits : List Edit) (file : List ℕ) (made : Image) (e : ElfError) → Makes edits file made → IsNoImage made e → TellsEdit (several (Ok edits)) file (answer_to_elf e)
+several_unwritten edits file made elf.Memory makes none = tt
+several_unwritten edits file made (elf.Modify cause) makes none = inr (record { made = made; makes = makes; none = none })
+several_unwritten edits file made (elf.Parse fault) makes none = inr (record { made = made; makes = makes; none = none })
+several_unwritten edits file made (elf.Io fault) makes none = inr (record { made = made; makes = makes; none = none })
+several_unwritten edits file made (elf.Write fault) makes none = inr (record { made = made; makes = makes; none = none })
+several_unwritten edits file made elf.InvalidDtNeededEncoding makes none = inr (record { made = made; makes = makes; none = none })
+
+pub tells_no_bytes : (edits : List Edit) (file : List ℕ) (made : Image) (e : ElfCommandError) → Makes edits file made → TellsNoImage made e → TellsEdit (several (Ok edits)) file e
+tells_no_bytes edits file made e makes told =
+    let P : ElfCommandError → Type 0 = λ x. TellsEdit (several (Ok edits)) file x in subst P (sym told.2) (several_unwritten edits file made told.0 makes told.1)
+
+-- ## What an error of several edits tells of the one that was asked for
+
+fault_of_one : (edit : Edit) (file : List ℕ) (e : ElfError) → TellsElfOf (several (Ok (edit ∷ []))) file e → TellsElfOf (one edit) file e
+fault_of_one edit file elf.Memory tells = tells
+fault_of_one edit file (elf.Modify cause) tells = elim tells [ inl unread ↦ inl unread | inr none ↦ inr (inr none) ]
+fault_of_one edit file (elf.Parse fault) tells = elim tells [ inl unread ↦ inl unread | inr none ↦ inr (inr none) ]
+fault_of_one edit file (elf.Io fault) tells = elim tells [ inl unread ↦ inl unread | inr none ↦ inr (inr none) ]
+fault_of_one edit file (elf.Write fault) tells = elim tells [ inl unread ↦ inl unread | inr none ↦ inr (inr none) ]
+fault_of_one edit file elf.InvalidDtNeededEncoding tells = elim tells [ inl unread ↦ inl unread | inr none ↦ inr (inr none) ]
+
+refused_at_one : (edit : Edit) (file : List ℕ) (index : ℕ) (e : ElfError) → TellsRefusedAt (edit ∷ []) file index e → TellsEdit (one edit) file (answer_to_elf e)
+refused_at_one edit file index elf.Memory tells = tt
+refused_at_one edit file index (elf.Modify cause) tells = inr (inl (index, tells))
+refused_at_one edit file index (elf.Parse fault) tells = inr (inl (index, tells))
+refused_at_one edit file index (elf.Io fault) tells = inr (inl (index, tells))
+refused_at_one edit file index (elf.Write fault) tells = inr (inl (index, tells))
+refused_at_one edit file index elf.InvalidDtNeededEncoding tells = inr (inl (index, tells))
+
+told_of_one : (edit : Edit) (file : List ℕ) (e : ElfCommandError) → TellsEdit (several (Ok (edit ∷ []))) file e → TellsEdit (one edit) file (with_no_number e)
+told_of_one edit file Memory tells = tt
+told_of_one edit file (Edits wrong) tells = absurd (cc)
+told_of_one edit file (Elf e) tells = fault_of_one edit file e tells
+told_of_one edit file (ElfBatch e) tells = refused_at_one edit file e.index e.fault tells
+told_of_one edit file (Io e) tells = absurd tells
+
+-- an error of the edits is one of the command that asks for them
+pub told_as_asked : (a : ElfAsked) (edits : List Edit) (file : List ℕ) (e : ElfCommandError) → AreEditsAsked a edits → TellsEdit (several (Ok edits)) file e → TellsEdit a file (as_asked a e)
+told_as_asked (one edit) edits file e are tells = told_of_one edit file e (subst (λ (l : List Edit). TellsEdit (several (Ok l)) file e) are tells)
+told_as_asked (several read) edits file e are tells = subst (λ r. TellsEdit (several r) file e) (sym are) tells
+told_as_asked (shrinking prefixes) edits file e are tells = absurd are
+told_as_asked (of_symbols edit) edits file e are tells = absurd are
+told_as_asked (in_turn asked) edits file e are tells = absurd are
+told_as_asked printing edits file e are tells = absurd are
 
 -- ## A run
 
@@ -333,11 +301,11 @@ may_fail (several read) file (ElfBatch e) tells = (file, ([], tells))
 -- ## What differs
 
 -- a difference that makes the bytes of the edited image
-pub leaves_pieces : EditsShow → BatchesAreTheirEdits → (a : ElfAsked) (edits : List Edit) (file : List ℕ) (read made : Image) (d : Difference) → AreEditsAsked a edits
-    → image_of file ≡ Ok read → ShowsBothViews file read → run edits read ≡ Ok made → made.source ≡ file → IsImageWritten made (made_of made.source d) → LeavesElf a file (made_of file d)
-leaves_pieces edits_show batches a edits file read made d are is views runs source written =
+pub pieces_made : EditsShow → BatchesAreTheirEdits → (edits : List Edit) (file : List ℕ) (read made : Image) (d : Difference) → image_of file ≡ Ok read → ShowsBothViews file read → run edits read ≡ Ok made → made.source ≡ file
+    → IsImageWritten made (made_of made.source d) → IsEditedTo edits file (made_of file d)
+pieces_made edits_show batches edits file read made d is views runs source written =
     let P : List ℕ → Type 0 = λ l. IsImageWritten made (made_of l d) in
-    image_left edits_show batches a edits file (made_of file d) read made are is views runs (subst P source written)
+    edited_to edits_show batches edits file (made_of file d) read made is views runs (subst P source written)
 
 same_edits : (a : ElfAsked) (edits others : List Edit) → AreEditsAsked a edits → AreEditsAsked a others → edits ≡ others
 same_edits (one edit) edits others are too = are ∙ sym too
@@ -347,10 +315,21 @@ same_edits (of_symbols edit) edits others are too = absurd are
 same_edits (in_turn asked) edits others are too = absurd are
 same_edits printing edits others are too = absurd are
 
--- where the edits find nothing to change, no image that they make is marked
-pub stays_unmarked : (a : ElfAsked) (edits : List Edit) (file : List ℕ) (read made : Image) → AreEditsAsked a edits → image_of file ≡ Ok read → run edits read ≡ Ok made → ChangesNothing a file → made.changed ≡ false
-stays_unmarked a edits file read made are is runs nothing =
-    let first : edits ≡ nothing.edits = same_edits a edits nothing.edits are nothing.are in
+-- where the edits that are asked for find nothing to change, each batch that is these finds nothing
+pub nothing_as_asked : (a : ElfAsked) (edits : List Edit) (file : List ℕ) → AreEditsAsked a edits → ChangesNothing a file → ChangesNothing (several (Ok edits)) file
+nothing_as_asked a edits file are nothing = record {
+  edits = nothing.edits;
+  are = ap (λ (l : List Edit). Ok l) (same_edits a edits nothing.edits are nothing.are);
+  made = nothing.made;
+  makes = nothing.makes;
+  same = nothing.same;
+}
+
+-- where they find nothing to change, no image that they make is marked
+pub stays_unmarked : (edits : List Edit) (file : List ℕ) (read made : Image) → image_of file ≡ Ok read → run edits read ≡ Ok made → ChangesNothing (several (Ok edits)) file → made.changed ≡ false
+stays_unmarked edits file read made is runs nothing =
+    let asked : Ok edits ≡ Ok nothing.edits = nothing.are in
+    let first : edits ≡ nothing.edits = cc in
     let started : Ok read ≡ Ok nothing.makes.read = sym is ∙ nothing.makes.is_read in
     let at : read ≡ nothing.makes.read = cc in
     let ended : Ok made ≡ Ok nothing.made = sym runs ∙ ap (λ (l : List Edit). run l read) first ∙ ap (run nothing.edits) at ∙ nothing.makes.runs in

@@ -9,8 +9,9 @@ use Rattle.elf_commands.specs.ElfAsked.{one}
 use Rattle.elf_commands.specs.ElfEngine.{IsEditedBy, IsEditedTo, IsElfEdited, LeavesElf, bytes_left}
 use Rattle.elf_commands.proofs.ElfOutcomes.{source_is}
 
-edited_to : EditsShow → ReadImagesHoldParts → (edits : List Edit) (file : List ℕ) (answer : Option (Vec ℕ Global)) → IsEditedBy edits file answer → IsEditedTo edits file (bytes_left file answer)
-edited_to edits_show hold_parts edits file answer edited = by_mark edited.made.changed refl
+-- the bytes that there are after an answer to edits are those that they leave
+pub left_after_edits : EditsShow → ReadImagesHoldParts → (edits : List Edit) (file : List ℕ) (answer : Option (Vec ℕ Global)) → IsEditedBy edits file answer → IsEditedTo edits file (bytes_left file answer)
+left_after_edits edits_show hold_parts edits file answer edited = by_mark edited.made.changed refl
   where
     by_mark : (b : Bool) → edited.made.changed ≡ b → IsEditedTo edits file (bytes_left file answer)
     by_mark false same = subst (λ (o : Option (Vec ℕ Global)). IsEditedTo edits file (bytes_left file o)) (sym (edited.unchanged same)) (record {
@@ -34,4 +35,4 @@ edited_to edits_show hold_parts edits file answer edited = by_mark edited.made.c
 -- the bytes that there are after an answer to one edit are those that it leaves
 pub left_after : EditsShow → ReadImagesHoldParts → (edit : Edit) (file : List ℕ) (answer : Option (Vec ℕ Global)) → IsElfEdited (one edit) file answer → LeavesElf (one edit) file (bytes_left file answer)
 left_after edits_show hold_parts edit file answer edited =
-    record { edits = edited.edits; are = edited.are; left = edited_to edits_show hold_parts edited.edits file answer edited.edited }
+    record { edits = edited.edits; are = edited.are; left = left_after_edits edits_show hold_parts edited.edits file answer edited.edited }

@@ -19,10 +19,11 @@ use Rattle.elf_symbol_edits.specs.SymbolEdit.{SymbolEdit}
 use Rattle.elf_commands_steps.specs.Groups.{GroupEdit, MakeInTurn, MakesNext, RefuseInTurn, TellsInTurn, plain, symbols}
 use Rattle.elf_commands.specs.ElfAsked.{ElfAsked, in_turn, of_symbols, one, printing, several, shrinking}
 use Rattle.elf_commands_steps.specs.Images.{AreChanged, TellsNoImage}
-use Rattle.elf_commands.specs.ElfEngine.{AreAskedInTurn, AreEditedInTurn, IsElfEdited, LeaveInTurn, LeavesElf, MakesInTurn, ShowInTurn, TellsEdit, TellsRefusedInTurn, elf_refusal}
-use Rattle.elf_commands_steps.specs.ElfErrors.{answer_to_elf, answer_to_elf_fault}
+use Rattle.elf_commands.specs.ElfEngine.{AreAskedInTurn, AreEditedInTurn, IsElfEdited, LeaveInTurn, LeavesElf, MakesInTurn, ShowInTurn, TellsEdit, TellsElfOf, TellsRefusedInTurn, as_asked, with_no_number}
+use Rattle.elf_commands_steps.specs.ElfErrors.{answer_to_elf, answer_to_elf_batch, answer_to_elf_fault}
 use Rattle.elf_commands.specs.ElfStores.{IsElfPatched}
 use Rattle.elf_commands_steps.specs.declared.error.ElfCommandError.{ElfCommandError}
+use Rattle.elf_commands_steps.specs.declared.error.ElfCommandError.TheVariants.{Edits, Elf, ElfBatch, Io, Memory}
 use Rattle.elf_commands.proofs.ElfOutcomes.{run_keeps}
 use Rattle.elf_commands.proofs.ElfStoreLaws.{leaves_of}
 
@@ -64,7 +65,7 @@ show_in_turn edits file new made makes was_shown written = record {
   by_loader = written.by_loader;
 }
 
-are_edited : (edits : List GroupEdit) (file : List ℕ) (made : Image) (answer : Option (Vec ℕ Global)) (makes : MakesInTurn edits file made) → IsShown file makes.read → AreChanged made answer → AreEditedInTurn edits file answer
+pub are_edited : (edits : List GroupEdit) (file : List ℕ) (made : Image) (answer : Option (Vec ℕ Global)) (makes : MakesInTurn edits file made) → IsShown file makes.read → AreChanged made answer → AreEditedInTurn edits file answer
 are_edited edits file made answer makes was_shown changed = record {
   made = made;
   makes = makes;
@@ -82,38 +83,30 @@ leave edits file new made makes was_shown written = record {
   shows = λ other. show_in_turn edits file new made makes was_shown (written.edited other);
 }
 
--- the answer for the image that the asked edits make
-pub edited_as_asked : (a : ElfAsked) (edits : List GroupEdit) (file : List ℕ) (made : Image) (answer : Option (Vec ℕ Global)) → AreAskedInTurn a edits → (makes : MakesInTurn edits file made) → IsShown file makes.read → AreChanged made answer → IsElfEdited a file answer
-edited_as_asked (of_symbols edit) edits file made answer are makes was_shown changed = subst (λ (l : List GroupEdit). AreEditedInTurn l file answer) are (are_edited edits file made answer makes was_shown changed)
-edited_as_asked (in_turn asked) edits file made answer are makes was_shown changed = subst (λ (l : List GroupEdit). AreEditedInTurn l file answer) are (are_edited edits file made answer makes was_shown changed)
-edited_as_asked (one edit) edits file made answer are makes was_shown changed = absurd are
-edited_as_asked (several read) edits file made answer are makes was_shown changed = absurd are
-edited_as_asked (shrinking prefixes) edits file made answer are makes was_shown changed = absurd are
-edited_as_asked printing edits file made answer are makes was_shown changed = absurd are
-
--- what it is written to is left
-left_as_asked : (a : ElfAsked) (edits : List GroupEdit) (file new : List ℕ) (made : Image) → AreAskedInTurn a edits → (makes : MakesInTurn edits file made) → IsShown file makes.read → IsImageWritten made new → LeavesElf a file new
-left_as_asked (of_symbols edit) edits file new made are makes was_shown written = subst (λ (l : List GroupEdit). LeaveInTurn l file new) are (leave edits file new made makes was_shown written)
-left_as_asked (in_turn asked) edits file new made are makes was_shown written = subst (λ (l : List GroupEdit). LeaveInTurn l file new) are (leave edits file new made makes was_shown written)
-left_as_asked (one edit) edits file new made are makes was_shown written = absurd are
-left_as_asked (several read) edits file new made are makes was_shown written = absurd are
-left_as_asked (shrinking prefixes) edits file new made are makes was_shown written = absurd are
-left_as_asked printing edits file new made are makes was_shown written = absurd are
-
-pub pieces_left : (a : ElfAsked) (edits : List GroupEdit) (file : List ℕ) (made : Image) (d : Difference) → AreAskedInTurn a edits → (makes : MakesInTurn edits file made) → IsShown file makes.read → made.source ≡ file → IsImageWritten made (made_of made.source d) → LeavesElf a file (made_of file d)
-pieces_left a edits file made d are makes was_shown source written =
+-- a difference that makes the bytes of the image that they make
+pub pieces_left : (edits : List GroupEdit) (file : List ℕ) (made : Image) (d : Difference) (makes : MakesInTurn edits file made) → IsShown file makes.read → made.source ≡ file → IsImageWritten made (made_of made.source d) → LeaveInTurn edits file (made_of file d)
+pieces_left edits file made d makes was_shown source written =
     let P : List ℕ → Type 0 = λ l. IsImageWritten made (made_of l d) in
-    left_as_asked a edits file (made_of file d) made are makes was_shown (subst P source written)
+    leave edits file (made_of file d) made makes was_shown (subst P source written)
+
+-- what is said of edits is said of the command that asks for them
+pub edited_as_asked : (a : ElfAsked) (edits : List GroupEdit) (file : List ℕ) (answer : Option (Vec ℕ Global)) → AreAskedInTurn a edits → AreEditedInTurn edits file answer → IsElfEdited a file answer
+edited_as_asked (of_symbols edit) edits file answer are edited = subst (λ (l : List GroupEdit). AreEditedInTurn l file answer) are edited
+edited_as_asked (in_turn asked) edits file answer are edited = subst (λ (l : List GroupEdit). AreEditedInTurn l file answer) are edited
+edited_as_asked (one edit) edits file answer are edited = absurd are
+edited_as_asked (several read) edits file answer are edited = absurd are
+edited_as_asked (shrinking prefixes) edits file answer are edited = absurd are
+edited_as_asked printing edits file answer are edited = absurd are
+
+pub left_as_asked : (a : ElfAsked) (edits : List GroupEdit) (file new : List ℕ) → AreAskedInTurn a edits → LeaveInTurn edits file new → LeavesElf a file new
+left_as_asked (of_symbols edit) edits file new are left = subst (λ (l : List GroupEdit). LeaveInTurn l file new) are left
+left_as_asked (in_turn asked) edits file new are left = subst (λ (l : List GroupEdit). LeaveInTurn l file new) are left
+left_as_asked (one edit) edits file new are left = absurd are
+left_as_asked (several read) edits file new are left = absurd are
+left_as_asked (shrinking prefixes) edits file new are left = absurd are
+left_as_asked printing edits file new are left = absurd are
 
 -- ## Why there are no bytes
-
-symbol_refused : (edit : SymbolEdit) (file : List ℕ) (read : Image) (index : ℕ) (e : ElfError) → image_of file ≡ Ok read → RefuseInTurn (symbols edit ∷ []) read index e → TellsEdit (of_symbols edit) file (answer_to_elf e)
-symbol_refused edit file read index elf.Memory is refuse = tt
-symbol_refused edit file read index (elf.Modify cause) is refuse = inr (inl (index, record { read = read; is_read = is; refused = refuse }))
-symbol_refused edit file read index (elf.Parse fault) is refuse = inr (inl (index, record { read = read; is_read = is; refused = refuse }))
-symbol_refused edit file read index (elf.Io e) is refuse = inr (inl (index, record { read = read; is_read = is; refused = refuse }))
-symbol_refused edit file read index (elf.Write fault) is refuse = inr (inl (index, record { read = read; is_read = is; refused = refuse }))
-symbol_refused edit file read index elf.InvalidDtNeededEncoding is refuse = inr (inl (index, record { read = read; is_read = is; refused = refuse }))
 
 turn_refused : (edits : List GroupEdit) (file : List ℕ) (read : Image) (e : ElfBatchError) (fault : ElfError) → e.fault ≡ fault → image_of file ≡ Ok read → RefuseInTurn edits read e.index fault
     → TellsEdit (in_turn edits) file (answer_to_elf_fault e fault)
@@ -135,23 +128,8 @@ turn_refused edits file read e elf.InvalidDtNeededEncoding same is refuse =
     subst Told (sym same) (record { read = read; is_read = is; refused = refuse })
 
 -- one of the edits is refused
-pub tells_turn_refused : (a : ElfAsked) (edits : List GroupEdit) (file : List ℕ) (read : Image) (e : ElfBatchError) → AreAskedInTurn a edits → image_of file ≡ Ok read → TellsInTurn edits read e → TellsEdit a file (elf_refusal a e)
-tells_turn_refused (of_symbols edit) edits file read e are is told =
-    symbol_refused edit file read e.index e.fault is (subst (λ (l : List GroupEdit). RefuseInTurn l read e.index e.fault) are told)
-tells_turn_refused (in_turn asked) edits file read e are is told =
-    turn_refused asked file read e e.fault refl is (subst (λ (l : List GroupEdit). TellsInTurn l read e) are told)
-tells_turn_refused (one edit) edits file read e are is told = absurd are
-tells_turn_refused (several read_as) edits file read e are is told = absurd are
-tells_turn_refused (shrinking prefixes) edits file read e are is told = absurd are
-tells_turn_refused printing edits file read e are is told = absurd are
-
-symbols_unwritten : (edit : SymbolEdit) (file : List ℕ) (made : Image) (e : ElfError) → MakesInTurn (symbols edit ∷ []) file made → IsNoImage made e → TellsEdit (of_symbols edit) file (answer_to_elf e)
-symbols_unwritten edit file made elf.Memory makes none = tt
-symbols_unwritten edit file made (elf.Modify cause) makes none = inr (inr (record { made = made; makes = makes; none = none }))
-symbols_unwritten edit file made (elf.Parse fault) makes none = inr (inr (record { made = made; makes = makes; none = none }))
-symbols_unwritten edit file made (elf.Io fault) makes none = inr (inr (record { made = made; makes = makes; none = none }))
-symbols_unwritten edit file made (elf.Write fault) makes none = inr (inr (record { made = made; makes = makes; none = none }))
-symbols_unwritten edit file made elf.InvalidDtNeededEncoding makes none = inr (inr (record { made = made; makes = makes; none = none }))
+pub tells_turn_refused : (edits : List GroupEdit) (file : List ℕ) (read : Image) (e : ElfBatchError) → image_of file ≡ Ok read → TellsInTurn edits read e → TellsEdit (in_turn edits) file (answer_to_elf_batch e)
+tells_turn_refused edits file read e is told = turn_refused edits file read e e.fault refl is told
 
 turn_unwritten : (edits : List GroupEdit) (file : List ℕ) (made : Image) (e : ElfError) → MakesInTurn edits file made → IsNoImage made e → TellsEdit (in_turn edits) file (answer_to_elf e)
 turn_unwritten edits file made elf.Memory makes none = tt
@@ -162,19 +140,43 @@ turn_unwritten edits file made (elf.Write fault) makes none = inr (record { made
 turn_unwritten edits file made elf.InvalidDtNeededEncoding makes none = inr (record { made = made; makes = makes; none = none })
 
 -- the image that they make has no bytes
-unwritten_as_asked : (a : ElfAsked) (edits : List GroupEdit) (file : List ℕ) (made : Image) (e : ElfError) → AreAskedInTurn a edits → MakesInTurn edits file made → IsNoImage made e → TellsEdit a file (answer_to_elf e)
-unwritten_as_asked (of_symbols edit) edits file made e are makes none = symbols_unwritten edit file made e (subst (λ (l : List GroupEdit). MakesInTurn l file made) are makes) none
-unwritten_as_asked (in_turn asked) edits file made e are makes none = turn_unwritten asked file made e (subst (λ (l : List GroupEdit). MakesInTurn l file made) are makes) none
-unwritten_as_asked (one edit) edits file made e are makes none = absurd are
-unwritten_as_asked (several read) edits file made e are makes none = absurd are
-unwritten_as_asked (shrinking prefixes) edits file made e are makes none = absurd are
-unwritten_as_asked printing edits file made e are makes none = absurd are
+pub tells_turn_unwritten : (edits : List GroupEdit) (file : List ℕ) (made : Image) (e : ElfCommandError) → MakesInTurn edits file made → TellsNoImage made e → TellsEdit (in_turn edits) file e
+tells_turn_unwritten edits file made e makes told =
+    let P : ElfCommandError → Type 0 = λ x. TellsEdit (in_turn edits) file x in subst P (sym told.2) (turn_unwritten edits file made told.0 makes told.1)
 
-pub tells_turn_unwritten : (a : ElfAsked) (edits : List GroupEdit) (file : List ℕ) (made : Image) (e : ElfCommandError) → AreAskedInTurn a edits → MakesInTurn edits file made → TellsNoImage made e → TellsEdit a file e
-tells_turn_unwritten a edits file made e are makes told =
-    let P : ElfCommandError → Type 0 = λ x. TellsEdit a file x in subst P (sym told.2) (unwritten_as_asked a edits file made told.0 are makes told.1)
+-- ## What an error of several edits tells of the one that was asked for
 
--- ## A command
+fault_of_one : (edit : SymbolEdit) (file : List ℕ) (e : ElfError) → TellsElfOf (in_turn (symbols edit ∷ [])) file e → TellsElfOf (of_symbols edit) file e
+fault_of_one edit file elf.Memory tells = tells
+fault_of_one edit file (elf.Modify cause) tells = elim tells [ inl unread ↦ inl unread | inr none ↦ inr (inr none) ]
+fault_of_one edit file (elf.Parse fault) tells = elim tells [ inl unread ↦ inl unread | inr none ↦ inr (inr none) ]
+fault_of_one edit file (elf.Io fault) tells = elim tells [ inl unread ↦ inl unread | inr none ↦ inr (inr none) ]
+fault_of_one edit file (elf.Write fault) tells = elim tells [ inl unread ↦ inl unread | inr none ↦ inr (inr none) ]
+fault_of_one edit file elf.InvalidDtNeededEncoding tells = elim tells [ inl unread ↦ inl unread | inr none ↦ inr (inr none) ]
+
+refused_at_one : (edit : SymbolEdit) (file : List ℕ) (index : ℕ) (e : ElfError) → TellsRefusedInTurn (symbols edit ∷ []) file index e → TellsEdit (of_symbols edit) file (answer_to_elf e)
+refused_at_one edit file index elf.Memory tells = tt
+refused_at_one edit file index (elf.Modify cause) tells = inr (inl (index, tells))
+refused_at_one edit file index (elf.Parse fault) tells = inr (inl (index, tells))
+refused_at_one edit file index (elf.Io fault) tells = inr (inl (index, tells))
+refused_at_one edit file index (elf.Write fault) tells = inr (inl (index, tells))
+refused_at_one edit file index elf.InvalidDtNeededEncoding tells = inr (inl (index, tells))
+
+told_of_one : (edit : SymbolEdit) (file : List ℕ) (e : ElfCommandError) → TellsEdit (in_turn (symbols edit ∷ [])) file e → TellsEdit (of_symbols edit) file (with_no_number e)
+told_of_one edit file Memory tells = tt
+told_of_one edit file (Edits wrong) tells = absurd (cc)
+told_of_one edit file (Elf e) tells = fault_of_one edit file e tells
+told_of_one edit file (ElfBatch e) tells = refused_at_one edit file e.index e.fault tells
+told_of_one edit file (Io e) tells = absurd tells
+
+-- an error of the edits is one of the command that asks for them
+pub told_as_asked : (a : ElfAsked) (edits : List GroupEdit) (file : List ℕ) (e : ElfCommandError) → AreAskedInTurn a edits → TellsEdit (in_turn edits) file e → TellsEdit a file (as_asked a e)
+told_as_asked (of_symbols edit) edits file e are tells = told_of_one edit file e (subst (λ (l : List GroupEdit). TellsEdit (in_turn l) file e) are tells)
+told_as_asked (in_turn asked) edits file e are tells = subst (λ (l : List GroupEdit). TellsEdit (in_turn l) file e) are tells
+told_as_asked (one edit) edits file e are tells = absurd are
+told_as_asked (several read) edits file e are tells = absurd are
+told_as_asked (shrinking prefixes) edits file e are tells = absurd are
+told_as_asked printing edits file e are tells = absurd are
 
 -- ## Over a store
 

@@ -18,17 +18,33 @@ use Rattle.elf_commands_steps.specs.declared.error.ElfCommandError.{ElfCommandEr
 use Rattle.elf_commands.proofs.ElfOutcomes.{tells_refused}
 
 -- what is told of the image is told of the file that was read
-pub told_of_file : (n : Notes) (a : ElfAsked) (edits : List Edit) (path : Text) (file : List ℕ) (read : Image) (told : Text) → AreEditsAsked a edits → image_of file ≡ Ok read → TellsImage n edits path read told → TellsWanted n a path file told
-told_of_file Wanted a edits path file read told are is tells = record {
+pub told_of_file : (n : Notes) (edits : List Edit) (path : Text) (file : List ℕ) (read : Image) (told : Text) → image_of file ≡ Ok read → TellsImage n edits path read told → TellsWanted n (several (Ok edits)) path file told
+told_of_file Wanted edits path file read told is tells = record {
   edits = edits;
-  are = are;
+  are = refl;
   read = read;
   is_read = is;
   notes = tells.0;
   are_notes = tells.1;
   is_told = tells.2;
 }
-told_of_file LeftOut a edits path file read told are is tells = tells
+told_of_file LeftOut edits path file read told is tells = tells
+
+-- what is told of edits is told of the command that asks for them
+pub notes_as_asked : (n : Notes) (a : ElfAsked) (edits : List Edit) (path : Text) (file : List ℕ) (told : Text) → AreEditsAsked a edits → TellsWanted n (several (Ok edits)) path file told → TellsWanted n a path file told
+notes_as_asked Wanted a edits path file told are tells =
+    let asked : Ok edits ≡ Ok tells.edits = tells.are in
+    let same : edits ≡ tells.edits = cc in
+    record {
+      edits = tells.edits;
+      are = subst (AreEditsAsked a) same are;
+      read = tells.read;
+      is_read = tells.is_read;
+      notes = tells.notes;
+      are_notes = tells.are_notes;
+      is_told = tells.is_told;
+    }
+notes_as_asked LeftOut a edits path file told are tells = tells
 
 -- what edits found in an image, and what holds of the image that they leave, are their notes
 pub notes_made : (edits : List Edit) (image edited : Image) (found : Findings) (path told : Text) → AreFindings edits image found → run edits image ≡ Ok edited
@@ -44,12 +60,12 @@ notes_made edits image edited found path told are runs made = (
 )
 
 -- edits that are not made of the image are not made of the file
-pub unmade_of_file : (a : ElfAsked) (edits : List Edit) (file : List ℕ) (read : Image) (e : ElfCommandError) → AreEditsAsked a edits → image_of file ≡ Ok read → TellsUnmade a edits read e → TellsEdit a file e
-unmade_of_file a edits file read e are is (inl memory) =
-    let P : ElfCommandError → Type 0 = λ x. TellsEdit a file x in subst P (sym memory) tt
-unmade_of_file a edits file read e are is (inr refused) =
-    let P : ElfCommandError → Type 0 = λ x. TellsEdit a file x in
-    subst P (sym refused.2) (tells_refused a edits file read refused.0 are is refused.1)
+pub unmade_of_file : (edits : List Edit) (file : List ℕ) (read : Image) (e : ElfCommandError) → image_of file ≡ Ok read → TellsUnmade edits read e → TellsEdit (several (Ok edits)) file e
+unmade_of_file edits file read e is (inl memory) =
+    let P : ElfCommandError → Type 0 = λ x. TellsEdit (several (Ok edits)) file x in subst P (sym memory) tt
+unmade_of_file edits file read e is (inr refused) =
+    let P : ElfCommandError → Type 0 = λ x. TellsEdit (several (Ok edits)) file x in
+    subst P (sym refused.2) (tells_refused edits file read refused.0 is refused.1)
 
 -- a command of which edits are asked for asks for edits
 asks : (a : ElfAsked) (edits : List Edit) → AreEditsAsked a edits → asks_edits a ≡ true

@@ -38,7 +38,7 @@ use Rattle.elf_commands.specs.ShrinkRuns.{AreFoundIn, FailsShrink, GetsFirst, Is
 use Rattle.elf_commands_steps.specs.Shrinking.{AreFound, Finding, removal_lines}
 use Rattle.elf_commands_steps.specs.declared.error.ElfCommandError.{ElfCommandError}
 use Rattle.elf_commands_steps.specs.declared.error.ElfCommandError.TheVariants.{Edits, Elf, ElfBatch, Io, Memory}
-use Rattle.elf_commands.proofs.ElfOutcomes.{edited_answer, leaves_pieces, made_of_edits, one_refused, source_is, tells_no_image}
+use Rattle.elf_commands.proofs.ElfOutcomes.{edited_as_asked, edited_by, left_as_asked, made_of_edits, one_refused, one_unwritten, pieces_made, source_is}
 
 -- ## One edit as a batch
 
@@ -66,7 +66,7 @@ tells_unshrunk edit file read e is refuses = one_refused edit file read 0 e is (
 
 pub tells_unmade : (edit : Edit) (file : List ℕ) (read made : Image) (e : ElfError) → image_of file ≡ Ok read → step edit read ≡ Ok made → IsNoImage made e → TellsEdit (one edit) file (answer_to_elf e)
 tells_unmade edit file read made e is makes none =
-    tells_no_image (one edit) (edit ∷ []) file made e refl (made_of_edits (edit ∷ []) file read made is (ran_once edit read made makes)) none
+    one_unwritten edit file made e (made_of_edits (edit ∷ []) file read made is (ran_once edit read made makes)) none
 
 -- ## Over bytes
 
@@ -82,7 +82,7 @@ quiet_shrink contents edit file w elf.InvalidDtNeededEncoding tells = (refl, tel
 pub shrunk_bytes : EditsShow → BatchesAreTheirEdits → (edit : Edit) (file : List ℕ) (read made : Image) (answer : Option (Vec ℕ Global)) → image_of file ≡ Ok read → ShowsBothViews file read
     → step edit read ≡ Ok made → AreChanged made answer → IsElfEdited (one edit) file answer
 shrunk_bytes edits_show batches edit file read made answer is views makes changed =
-    edited_answer (one edit) (edit ∷ []) file read made answer refl is (ran_once edit read made makes) changed edits_show batches views
+    edited_as_asked (one edit) (edit ∷ []) file answer refl (edited_by edits_show batches (edit ∷ []) file read made answer is views (ran_once edit read made makes) changed)
 
 -- what is told of the image is told of the file
 pub runs_shrink : EditsShow → BatchesAreTheirEdits → (edit : Edit) (file : List ℕ) (read made : Image) (removed : Vec Removed Global) (answer : Option (Vec ℕ Global)) (old new : Option (List ℕ)) → image_of file ≡ Ok read
@@ -113,7 +113,7 @@ pub leaves_shrunk : EditsShow → BatchesAreTheirEdits → ReadImagesHoldParts �
     → ShowsBothViews file read → step edit read ≡ Ok made → IsImageWritten made (made_of made.source d) → LeavesElf (one edit) file (made_of file d)
 leaves_shrunk edits_show batches hold_parts edit file read made d is views makes written =
     let runs = ran_once edit read made makes in
-    leaves_pieces edits_show batches (one edit) (edit ∷ []) file read made d refl is views runs (source_is edits_show hold_parts (edit ∷ []) file read made is runs) written
+    left_as_asked (one edit) (edit ∷ []) file (made_of file d) refl (pieces_made edits_show batches (edit ∷ []) file read made d is views runs (source_is edits_show hold_parts (edit ∷ []) file read made is runs) written)
 
 pub source_of_shrunk : EditsShow → ReadImagesHoldParts → (edit : Edit) (file : List ℕ) (read made : Image) → image_of file ≡ Ok read → step edit read ≡ Ok made → made.source ≡ file
 source_of_shrunk edits_show hold_parts edit file read made is makes = source_is edits_show hold_parts (edit ∷ []) file read made is (ran_once edit read made makes)

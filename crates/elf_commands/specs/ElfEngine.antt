@@ -20,7 +20,7 @@ use Rattle.elf_commands.specs.ElfAsked.{ElfAsked, answered, asks_edits, asks_in_
 use Rattle.elf_commands.specs.ElfWords.{edits_model}
 use Rattle.elf_commands.specs.declared.asked.AskedEdits.{AskedEdits}
 use Rattle.elf_commands.specs.declared.asked.AskedEdits.TheVariants as asked
-use Rattle.elf_commands_steps.specs.ElfErrors.{answer_to_elf, answer_to_elf_batch}
+use Rattle.elf_commands_steps.specs.ElfErrors.{answer_to_elf}
 use Rattle.elf_commands.specs.Meaning.{ElfMeaning}
 use Rattle.elf_commands.specs.Prints.{PrintMayFail, Prints, TellsElf}
 use Rattle.elf_commands_steps.specs.declared.error.ElfCommandError.{ElfCommandError}
@@ -237,11 +237,16 @@ TellsRun contents meaning printing file old new e = TellsElf contents meaning (i
 TellsRun contents meaning (shrinking prefixes) file old new e = TellsElf contents meaning (image_of file) old new e
 TellsRun contents meaning a file old new e = (new ≡ old) × TellsEdit a file e
 
--- a refused edit as it is answered to a command: of several it is told which one is refused
-abbrev pub elf_refusal : ElfAsked → ElfBatchError → ElfCommandError
-elf_refusal (several read) e = answer_to_elf_batch e
-elf_refusal (in_turn edits) e = answer_to_elf_batch e
-elf_refusal a e = answer_to_elf e.fault
+-- an error of an edit, whatever its number
+abbrev pub with_no_number : ElfCommandError → ElfCommandError
+with_no_number (ElfBatch e) = answer_to_elf e.fault
+with_no_number e = e
+
+-- an error of several edits as it is told of what is asked for: of one edit no number is told
+abbrev pub as_asked : ElfAsked → ElfCommandError → ElfCommandError
+as_asked (several read) e = e
+as_asked (in_turn edits) e = e
+as_asked a e = with_no_number e
 
 -- ---- why a command may fail. No clause can say that a file can be read or written
 

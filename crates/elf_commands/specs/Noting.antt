@@ -5,6 +5,7 @@ use Rattle.command_words.specs.declared.noting.Notes.{Notes}
 use Rattle.command_words.specs.declared.noting.Notes.TheVariants.{LeftOut, Wanted}
 use Rattle.elf_commands_steps.specs.Told.{RefusesBatch}
 use Rattle.elf_commands_steps.specs.ElfBatchError.{ElfBatchError}
+use Rattle.elf_commands_steps.specs.ElfErrors.{answer_to_elf_batch}
 use Rattle.elf_edits.specs.Batch.{run}
 use Rattle.elf_edits.specs.Edit.{Edit}
 use Rattle.elf_image.specs.Image.{Image, image_of}
@@ -12,7 +13,7 @@ use Rattle.elf_notes.specs.Lines.{lines_of}
 use Rattle.elf_notes.specs.Notes.{AreNotes}
 use Rattle.elf_notes.specs.declared.notes.ElfNotes.{ElfNotes}
 use Rattle.elf_commands.specs.ElfAsked.{ElfAsked, asks_edits}
-use Rattle.elf_commands.specs.ElfEngine.{AreEditsAsked, elf_refusal}
+use Rattle.elf_commands.specs.ElfEngine.{AreEditsAsked}
 use Rattle.elf_commands_steps.specs.declared.error.ElfCommandError.{ElfCommandError}
 use Rattle.elf_commands_steps.specs.declared.error.ElfCommandError.TheVariants.{Memory}
 
@@ -23,10 +24,10 @@ abbrev pub TellsImage : Notes → List Edit → Text → Image → Text → Type
 TellsImage Wanted edits path read told = (notes : ElfNotes) × AreNotes edits read notes × (told ≡ lines_of path notes)
 TellsImage LeftOut edits path read told = told ≡ []
 
--- an error of edits that are asked for of an image, and of the lines of their notes
-abbrev pub TellsUnmade : ElfAsked → List Edit → Image → ElfCommandError → Type 0
-TellsUnmade a edits read e =
-    (e ≡ Memory) ⊎ ((refused : ElfBatchError) × RefusesBatch refused (run edits read) × (e ≡ elf_refusal a refused))
+-- an error of edits of an image, and of the lines of their notes
+abbrev pub TellsUnmade : List Edit → Image → ElfCommandError → Type 0
+TellsUnmade edits read e =
+    (e ≡ Memory) ⊎ ((refused : ElfBatchError) × RefusesBatch refused (run edits read) × (e ≡ answer_to_elf_batch refused))
 
 -- ---- bytes
 

@@ -66,8 +66,8 @@ fn asked_with_leave(alloc: Global, words: &[String]) -> Result<AskedEdits, ElfCo
     Ok(batch_or_in_turn(alloc, edits)?)
 }
 
-/// Edits as one batch, where it takes all of them.
-fn batch_or_in_turn(alloc: Global, edits: Vec<GroupEdit>) -> Result<AskedEdits, AllocError>
+/// Edits as one batch, where it takes all of them; else as some, one after the other. Error: `AllocError`.
+pub fn batch_or_in_turn(alloc: Global, edits: Vec<GroupEdit>) -> Result<AskedEdits, AllocError>
     ensures { IfOk result (AreAsked (asked_of_words (Ok (map group_model edits.items)))) }
 {
     if has_symbols(edits.as_slice()) {

@@ -11,8 +11,9 @@ mod noting;
 mod opening;
 mod printing;
 mod shrinking;
+mod typed;
 
-pub use crate::asked::{AskedEdits, asked_by, edits_asked};
+pub use crate::asked::{AskedEdits, asked_by, batch_or_in_turn, edits_asked};
 use crate::command::ElfCommand;
 use command_words::Notes;
 pub use editing::{edit_path, edit_store};
@@ -26,6 +27,7 @@ pub use printing::{print_path, print_store};
 use shrinking::shrink_file;
 pub use shrinking::{shrink_path, shrink_store};
 use std::rt::Files;
+pub use typed::{edit_batch, edit_each, edit_groups};
 
 /// Does what is asked of an ELF file, and tells no notes. What is printed goes to the standard output, and which
 /// directories `shrink-rpath` leaves out to the standard error.

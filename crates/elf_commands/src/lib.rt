@@ -12,5 +12,6 @@ pub use command::ElfCommand;
 pub use elf_commands_steps::{
     ElfCommandError, GroupEdit, SymbolTexts, apply_in_turn, files, plain_edits,
 };
+pub use elf_edits::ElfEdit;
 pub use elf_words::parse_elf_edits;
 pub use tables::elf_table;

@@ -9,7 +9,7 @@ ghost use Rattle.elf_commands.specs.ElfStores.{ChangesNothing};
 ghost use Rattle.elf_commands_steps.specs.Prints.{FailsPrint};
 ghost use Rattle.elf_image.specs.Image.{image_of, shown};
 ghost use Rattle.elf_commands.specs.ElfAsked.{elf_asked};
-ghost use Rattle.elf_commands.specs.ElfEngine.{AreEditsAsked, IsElfEdited, LeavesElf, RunsElf, TellsEdit, TellsRun, bytes_left, elf_refusal};
+ghost use Rattle.elf_commands.specs.ElfEngine.{AreEditsAsked, IsElfEdited, LeavesElf, RunsElf, TellsEdit, TellsRun, as_asked, bytes_left, with_no_number};
 ghost use Rattle.elf_commands.specs.ElfWords.{edits_model};
 ghost use Rattle.elf_commands.specs.Meaning.{elf_command_model, elf_file_of};
 ghost use Rattle.elf_commands.specs.Noting.{TellsWanted};
@@ -18,15 +18,13 @@ ghost use Rattle.elf_commands.specs.Prints.{Prints, TellsElf, printed};
 use crate::asked::{AskedEdits, asked_by};
 use crate::command::ElfCommand;
 use crate::elf::in_turn::edited_in_turn;
-use crate::elf::noting::apply_noting;
 use crate::elf::shrinking::run_shrink;
+use crate::elf::typed::{batch_pieces, edit_batch};
 use byte_store::Difference;
 use command_words::Notes;
-use elf_commands_steps::files::{ElfBatchError, ElfContainer, ElfError, ProbeAnswer};
-use elf_commands_steps::{ElfCommandError, changed_bytes, pieces_and_text};
+use elf_commands_steps::ElfCommandError;
+use elf_commands_steps::files::{ElfContainer, ElfError, ProbeAnswer};
 use elf_edits::ElfEdit;
-use elf_edits::laws::{batches_are_their_edits, edits_show};
-use elf_image::laws::read_images_hold_parts;
 use std::alloc::Global;
 use std::io::Write;
 
@@ -90,16 +88,15 @@ pub(crate) fn edited(
         bytes.now (bytes_left bytes.now new)) }
     ensures err { IfErr result (TellsEdit (elf_asked (elf_command_model command.now)) bytes.now) }
 {
-    edits_show();
-    batches_are_their_edits();
-    read_images_hold_parts();
-    let mut elf = ElfContainer::parse(alloc, bytes)?;
-    match elf.apply(alloc, edits) {
-        Ok(()) => changed_bytes(alloc, elf),
-        Err(error) => {
-            drop(elf);
-            Err(refusal(command, error))
-        }
+    match edit_batch(
+        alloc,
+        bytes,
+        edits,
+        command.path_to_binary(),
+        Notes::LeftOut,
+    ) {
+        Ok((new, _text)) => Ok(new),
+        Err(error) => Err(told_to(command, error)),
     }
 }
 
@@ -123,26 +120,29 @@ pub(crate) fn edited_pieces(
     ensures idle { ChangesNothing (elf_asked (elf_command_model command.now)) bytes.now
         → IfOk result (λ made. IsNoDifference bytes.now made.0) }
 {
-    edits_show();
-    batches_are_their_edits();
-    read_images_hold_parts();
-    let mut elf = ElfContainer::parse(alloc, bytes)?;
-    match apply_noting(alloc, &mut elf, command, edits, notes) {
-        Ok(text) => pieces_and_text(alloc, elf, text),
-        Err(error) => {
-            drop(elf);
-            Err(error)
-        }
+    match batch_pieces(alloc, bytes, edits, command.path_to_binary(), notes) {
+        Ok(made) => Ok(made),
+        Err(error) => Err(told_to(command, error)),
     }
 }
 
-/// A refused edit as it is answered to a command. Of several it is told which one is refused.
-pub(crate) fn refusal(command: &ElfCommand, error: ElfBatchError) -> ElfCommandError
-    ensures { result ≡ elf_refusal (elf_asked (elf_command_model command.now)) error }
+/// An error of several edits as it is told to a command. Where it asks for one, no number is told.
+pub(crate) fn told_to(command: &ElfCommand, error: ElfCommandError) -> ElfCommandError
+    ensures { result ≡ as_asked (elf_asked (elf_command_model command.now)) error }
 {
     match command {
-        ElfCommand::Apply(_) | ElfCommand::ApplyMoving(_) => ElfCommandError::from(error),
-        _ => ElfCommandError::from(error.fault),
+        ElfCommand::Apply(_) | ElfCommand::ApplyMoving(_) => error,
+        _ => unnumbered(error),
+    }
+}
+
+/// An error of an edit, whatever its number.
+fn unnumbered(error: ElfCommandError) -> ElfCommandError
+    ensures { result ≡ with_no_number error }
+{
+    match error {
+        ElfCommandError::ElfBatch(refused) => ElfCommandError::from(refused.fault),
+        other => other,
     }
 }
 

@@ -10,15 +10,10 @@ ghost use Rattle.elf_commands_steps.specs.Failures.{HasWriteCause};
 ghost use Rattle.elf_commands.specs.Meaning.{elf_command_model};
 
 use crate::command::ElfCommand;
-use crate::elf::engine::refusal;
+use crate::elf::engine::told_to;
+use crate::elf::typed::{edit_each, pieces_of_each};
 use byte_store::{Difference, Store};
-use elf_commands_steps::files::ElfContainer;
-use elf_commands_steps::{
-    ElfCommandError, GroupEdit, apply_in_turn, changed_bytes, make_opened, pieces_of,
-};
-use elf_edits::laws::edits_show;
-use elf_image::laws::read_images_hold_parts;
-use elf_symbol_edits::laws::symbol_edits_keep;
+use elf_commands_steps::{ElfCommandError, GroupEdit, make_opened};
 use std::alloc::Global;
 
 /// The bytes of a file after the edits that a command asks for in turn, or `None` where they change nothing.
@@ -33,13 +28,9 @@ pub(crate) fn edited_in_turn(
     ensures ok { IfOk result (IsElfEdited (elf_asked (elf_command_model command.now)) bytes.now) }
     ensures err { IfErr result (TellsEdit (elf_asked (elf_command_model command.now)) bytes.now) }
 {
-    let mut elf = ElfContainer::parse(alloc, bytes)?;
-    match apply_in_turn(alloc, &mut elf, edits) {
-        Ok(()) => changed_bytes(alloc, elf),
-        Err(error) => {
-            drop(elf);
-            Err(refusal(command, error))
-        }
+    match edit_each(alloc, bytes, edits) {
+        Ok(new) => Ok(new),
+        Err(error) => Err(told_to(command, error)),
     }
 }
 
@@ -57,16 +48,9 @@ fn pieces_in_turn(
         bytes.now (made_of bytes.now d)) }
     ensures err { IfErr result (TellsEdit (elf_asked (elf_command_model command.now)) bytes.now) }
 {
-    edits_show();
-    symbol_edits_keep();
-    read_images_hold_parts();
-    let mut elf = ElfContainer::parse(alloc, bytes)?;
-    match apply_in_turn(alloc, &mut elf, edits) {
-        Ok(()) => pieces_of(alloc, elf),
-        Err(error) => {
-            drop(elf);
-            Err(refusal(command, error))
-        }
+    match pieces_of_each(alloc, bytes, edits) {
+        Ok(difference) => Ok(difference),
+        Err(error) => Err(told_to(command, error)),
     }
 }
 

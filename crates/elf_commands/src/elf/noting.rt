@@ -1,16 +1,12 @@
-//! What a user should know of the edits that a command makes.
+//! What a user should know of edits.
 ghost use Rattle.std.specs.Prelude.{◌≡◌, Ok, IfErr, IfOk, OnOk, string_bytes};
 ghost use Rattle.elf_edits.specs.Batch.{run};
-ghost use Rattle.elf_commands.specs.ElfAsked.{elf_asked};
 ghost use Rattle.elf_commands.specs.ElfWords.{edits_model};
-ghost use Rattle.elf_commands.specs.Meaning.{elf_command_model, elf_file_of};
 ghost use Rattle.elf_commands.specs.Noting.{TellsImage, TellsUnmade};
 ghost use Rattle.elf_notes.specs.Lines.{lines_of};
 ghost use Rattle.elf_notes.specs.Notes.{AreFindings, AreLeft, AreNotes};
 ghost use Rattle.elf_notes.specs.declared.notes.ElfNotes.{ElfNotes};
 
-use crate::command::ElfCommand;
-use crate::elf::engine::refusal;
 use command_words::Notes;
 use elf_commands_steps::ElfCommandError;
 use elf_commands_steps::files::ElfContainer;
@@ -18,64 +14,60 @@ use elf_edits::ElfEdit;
 use elf_notes::{Findings, findings_of, note_lines, notes_of};
 use std::alloc::{AllocError, Global};
 
-/// Makes the edits that a command asks for in an image, and answers the lines of their notes, of the image as it was and
-/// as it is then; no text where they are left out.
+/// Makes edits in an image, and answers the lines of their notes, of the image as it was and as it is then, each with this name
+/// of the file; no text where they are left out.
 pub(crate) fn apply_noting(
     alloc: Global,
     elf: &mut ElfContainer<'_>,
-    command: &ElfCommand,
     edits: &[ElfEdit],
+    name: &str,
     notes: Notes,
 ) -> Result<String, ElfCommandError>
     ensures runs { OnOk result (run (edits_model edits.now) elf.old.inner ≡ Ok elf.new.inner) }
     ensures told { IfOk result (λ text. TellsImage notes (edits_model edits.now)
-        (elf_file_of (elf_command_model command.now)) elf.old.inner (string_bytes text)) }
-    ensures err { IfErr result (TellsUnmade (elf_asked (elf_command_model command.now))
-        (edits_model edits.now) elf.old.inner) }
+        name.now elf.old.inner (string_bytes text)) }
+    ensures err { IfErr result (TellsUnmade (edits_model edits.now) elf.old.inner) }
 {
     match notes {
-        Notes::Wanted => apply_telling(alloc, elf, command, edits),
+        Notes::Wanted => apply_telling(alloc, elf, edits, name),
         Notes::LeftOut => {
-            apply_edits(alloc, elf, command, edits)?;
+            apply_edits(alloc, elf, edits)?;
             Ok(String::new(alloc))
         }
     }
 }
 
-/// Makes the edits that a command asks for in an image.
+/// Makes edits in an image.
 fn apply_edits(
     alloc: Global,
     elf: &mut ElfContainer<'_>,
-    command: &ElfCommand,
     edits: &[ElfEdit],
 ) -> Result<(), ElfCommandError>
     ensures runs { OnOk result (run (edits_model edits.now) elf.old.inner ≡ Ok elf.new.inner) }
-    ensures err { IfErr result (TellsUnmade (elf_asked (elf_command_model command.now))
-        (edits_model edits.now) elf.old.inner) }
+    ensures err { IfErr result (TellsUnmade (edits_model edits.now) elf.old.inner) }
 {
     match elf.apply(alloc, edits) {
         Ok(()) => Ok(()),
-        Err(error) => Err(refusal(command, error)),
+        Err(error) => Err(ElfCommandError::from(error)),
     }
 }
 
-/// Makes the edits that a command asks for in an image, and answers the lines of their notes.
+/// Makes edits in an image, and answers the lines of their notes.
 fn apply_telling(
     alloc: Global,
     elf: &mut ElfContainer<'_>,
-    command: &ElfCommand,
     edits: &[ElfEdit],
+    name: &str,
 ) -> Result<String, ElfCommandError>
     ensures runs { OnOk result (run (edits_model edits.now) elf.old.inner ≡ Ok elf.new.inner) }
     ensures told { IfOk result (λ text. (notes : ElfNotes)
         × AreNotes (edits_model edits.now) elf.old.inner notes
-        × (string_bytes text ≡ lines_of (elf_file_of (elf_command_model command.now)) notes)) }
-    ensures err { IfErr result (TellsUnmade (elf_asked (elf_command_model command.now))
-        (edits_model edits.now) elf.old.inner) }
+        × (string_bytes text ≡ lines_of name.now notes)) }
+    ensures err { IfErr result (TellsUnmade (edits_model edits.now) elf.old.inner) }
 {
     let found = findings_in(alloc, elf, edits)?;
-    apply_edits(alloc, elf, command, edits)?;
-    Ok(lines_for(alloc, elf, command, found)?)
+    apply_edits(alloc, elf, edits)?;
+    Ok(lines_for(alloc, elf, found, name)?)
 }
 
 /// What edits look for in an image, and find.
@@ -93,13 +85,13 @@ fn findings_in<'e>(
 fn lines_for(
     alloc: Global,
     elf: &ElfContainer<'_>,
-    command: &ElfCommand,
     found: Findings<'_>,
+    name: &str,
 ) -> Result<String, AllocError>
     ensures { IfOk result (λ text. (notes : ElfNotes) × (notes.found ≡ found.entry)
         × AreLeft elf.now.inner notes
-        × (string_bytes text ≡ lines_of (elf_file_of (elf_command_model command.now)) notes)) }
+        × (string_bytes text ≡ lines_of name.now notes)) }
 {
     let notes = notes_of(alloc, found, elf.inner.builder())?;
-    note_lines(alloc, command.path_to_binary(), &notes)
+    note_lines(alloc, name, &notes)
 }

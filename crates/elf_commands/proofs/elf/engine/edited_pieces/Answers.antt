@@ -1,59 +1,38 @@
-use Rattle.std.proofs.Common.{List, string_bytes, subst, sym}
-use Rattle.std.proofs.lemmas.Result.{IfErr-weaker, IfOk-weaker}
-use Rattle.elf_edits.specs.Edit.{Edit}
-use Rattle.elf_commands_steps.specs.Written.{IsNoDifference}
-use Rattle.byte_store.specs.Composed.{IsDifference}
+-- What the edits make is what the command asks for.
+use Rattle.std.proofs.Common.{List, string_bytes, subst}
+use Rattle.byte_store.specs.Composed.{made_of}
 use Rattle.command_words.specs.Rows.{Text}
+use Rattle.elf_edits.specs.Edit.{Edit}
 use Rattle.elf_commands.specs.ElfAsked.{ElfAsked, elf_asked}
 use Rattle.elf_commands.specs.ElfWords.{edits_model}
-use Rattle.elf_commands.specs.Meaning.{elf_command_model, elf_file_of}
+use Rattle.elf_commands.specs.Meaning.{elf_command_model}
 use Rattle.elf_commands.specs.Noting.{TellsWanted}
-use Rattle.elf_commands.proofs.ElfOutcomes.{if_ok_and, leaves_pieces, made_of_edits, source_is, stays_unmarked, tells_no_bytes}
-use Rattle.elf_commands.proofs.NotingLaws.{told_of_file, unmade_of_file}
+use Rattle.elf_commands.proofs.ElfOutcomes.{left_as_asked, nothing_as_asked, told_as_asked}
+use Rattle.elf_commands.proofs.NotingLaws.{notes_as_asked}
 use Rattle.elf_commands.proofs.elf.engine.edited_pieces.Goals as goal
-
-pub returns-in-Ok-clause-makeable : goal.returns-in-Ok-clause-makeable
-returns-in-Ok-clause-makeable c =
-    let edits : List Edit = edits_model c.args.edits.now in
-    let source = source_is c.edits_show.ensures c.read_images_hold_parts.ensures edits c.args.bytes.now c.in_ok-elf.elf.inner _ c.in_ok-elf.ensures.reads.0 c.in-Ok.ensures.runs in
-    IfOk-weaker c.pieces_and_text.result _ _ (λ made makeable. subst (λ l. IsDifference l made.0) source makeable) c.pieces_and_text.ensures.makeable
 
 pub returns-in-Ok-clause-left : goal.returns-in-Ok-clause-left
 returns-in-Ok-clause-left c =
     let a : ElfAsked = elf_asked (elf_command_model c.args.command.now) in
     let edits : List Edit = edits_model c.args.edits.now in
-    let source = source_is c.edits_show.ensures c.read_images_hold_parts.ensures edits c.args.bytes.now c.in_ok-elf.elf.inner _ c.in_ok-elf.ensures.reads.0 c.in-Ok.ensures.runs in
-    IfOk-weaker c.pieces_and_text.result _ _ (λ made written.
-    leaves_pieces c.edits_show.ensures c.batches_are_their_edits.ensures a edits c.args.bytes.now c.in_ok-elf.elf.inner _ made.0 c.requires c.in_ok-elf.ensures.reads.0
-    c.in_ok-elf.ensures.shows c.in-Ok.ensures.runs source written) c.pieces_and_text.ensures.bytes
+    left_as_asked a edits c.args.bytes.now (made_of c.args.bytes.now c.in-Ok.made.0) c.requires c.in-Ok.ensures.left
 
--- the lines are those of the image as it was read
+-- each line names the command's file
 pub returns-in-Ok-clause-told : goal.returns-in-Ok-clause-told
 returns-in-Ok-clause-told c =
     let a : ElfAsked = elf_asked (elf_command_model c.args.command.now) in
-    let path : Text = elf_file_of (elf_command_model c.args.command.now) in
     let edits : List Edit = edits_model c.args.edits.now in
-    let told = told_of_file c.args.notes a edits path c.args.bytes.now c.in_ok-elf.elf.inner (string_bytes c.in-Ok.text) c.requires c.in_ok-elf.ensures.reads.0 c.in-Ok.ensures.told in
-    let Of : Text → Type 0 = λ t. TellsWanted c.args.notes a path c.args.bytes.now t in
-    IfOk-weaker c.pieces_and_text.result _ _ (λ made same. subst Of (sym same) told) c.pieces_and_text.ensures.same
-
-pub returns-in-Ok-clause-err : goal.returns-in-Ok-clause-err
-returns-in-Ok-clause-err c =
-    let a : ElfAsked = elf_asked (elf_command_model c.args.command.now) in
-    let edits : List Edit = edits_model c.args.edits.now in
-    let makes = made_of_edits edits c.args.bytes.now c.in_ok-elf.elf.inner _ c.in_ok-elf.ensures.reads.0 c.in-Ok.ensures.runs in
-    IfErr-weaker c.pieces_and_text.result _ _ (λ e told. tells_no_bytes a edits c.args.bytes.now _ e c.requires makes told) c.pieces_and_text.ensures.err
+    let Of : Text → Type 0 = λ path. TellsWanted c.args.notes a path c.args.bytes.now (string_bytes c.in-Ok.made.1) in
+    subst Of c.path_to_binary.ensures (notes_as_asked c.args.notes a edits _ c.args.bytes.now (string_bytes c.in-Ok.made.1) c.requires c.in-Ok.ensures.told)
 
 pub returns-in-Ok-clause-idle : goal.returns-in-Ok-clause-idle
 returns-in-Ok-clause-idle c = λ nothing.
     let a : ElfAsked = elf_asked (elf_command_model c.args.command.now) in
     let edits : List Edit = edits_model c.args.edits.now in
-    let source = source_is c.edits_show.ensures c.read_images_hold_parts.ensures edits c.args.bytes.now c.in_ok-elf.elf.inner _ c.in_ok-elf.ensures.reads.0 c.in-Ok.ensures.runs in
-    let same = stays_unmarked a edits c.args.bytes.now c.in_ok-elf.elf.inner _ c.requires c.in_ok-elf.ensures.reads.0 c.in-Ok.ensures.runs nothing in
-    IfOk-weaker c.pieces_and_text.result _ _ (λ made none. subst (λ l. IsNoDifference l made.0) source none) (if_ok_and _ c.pieces_and_text.result (c.pieces_and_text.ensures.unchanged same))
+    c.in-Ok.ensures.idle (nothing_as_asked a edits c.args.bytes.now c.requires nothing)
 
 pub returns-in-Err-clause-err : goal.returns-in-Err-clause-err
 returns-in-Err-clause-err c =
     let a : ElfAsked = elf_asked (elf_command_model c.args.command.now) in
     let edits : List Edit = edits_model c.args.edits.now in
-    unmade_of_file a edits c.args.bytes.now c.in_ok-elf.elf.inner c.in-Err.error c.requires c.in_ok-elf.ensures.reads.0 c.in-Err.ensures.err
+    rw c.told_to.ensures (told_as_asked a edits c.args.bytes.now c.in-Err.error c.requires c.in-Err.ensures.err)
