@@ -1,0 +1,2 @@
+pub mod ListSteps
+pub mod TextSteps

@@ -1,0 +1,5 @@
+pub mod ElfEdits
+pub mod Faults
+pub mod Lent
+pub mod Lists
+pub mod MachoEdits
