@@ -1,3 +1,7 @@
-pub mod Edited
-pub mod Export
+pub mod Answers
+pub mod Calls
+pub mod CauseWords
+pub mod Causes
+pub mod Errors
+pub mod Made
 pub mod Words

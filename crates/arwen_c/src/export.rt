@@ -1,211 +1,119 @@
 //! What is exported to C.
-ghost use Rattle.std.specs.Prelude.{◌≡◌, ◌==◌, ◌<◌, ◌≤◌, ◌++◌, IsTrue, drop, false, length, not, true};
-ghost use Rattle.arwen_c.specs.Export.{EndsInNul, Gives, GivesWith, RefusesWith, Wants, WantsWith, answer_to};
+ghost use Rattle.std.specs.Prelude.{◌≡◌, ◌≢◌, codes, false, map, true};
+ghost use Rattle.std.specs.Str.Lossy.{utf8_lossy};
+ghost use Rattle.arwen_c.specs.Answers.{Gives, Refuses};
+ghost use Rattle.arwen_c.specs.Calls.{IsApplied, IsAppliedByWords, IsSigned, TellsApplied, TellsAppliedByWords, TellsUnsigned};
+ghost use Rattle.arwen_c.specs.CauseWords.{words_of};
+ghost use Rattle.arwen_c.specs.Made.{IsShown, IsVerified, OrMemory, TellsUnshown, TellsUnverified};
+ghost use Rattle.arwen_c_edits.specs.Lent.{edit_model, text_model};
 
-use crate::editing::{EditError, edited, edited_moving};
-use arwen_macho::macho::MachoError;
-use elf_commands::ElfCommandError;
-use elf_commands::files::ElfError;
-use macho_commands::MachoCommandError;
-use std::alloc::{AllocError, Global};
+use crate::answer::{Answer, answered};
+use crate::calls::{applied, applied_words, shown, signed};
+use crate::cause_rows::cause_words;
+use crate::status::{ARWEN_OK, ARWEN_UNFIT};
+use crate::verified::verified;
+use arwen_c_edits::{LentEdit, LentText};
+use std::alloc::Global;
 
-/// The edited bytes were handed out.
-pub const ARWEN_OK: u32 = 0;
-
-/// The file or an edit is refused.
-pub const ARWEN_REFUSED: u32 = 1;
-
-/// The words are no edits.
-pub const ARWEN_WORDS: u32 = 2;
-
-/// The buffer is too short.
-pub const ARWEN_ROOM: u32 = 3;
-
-/// There was no memory.
-pub const ARWEN_MEMORY: u32 = 4;
-
-/// Edits the bytes of a file. The words are those behind `apply FILE`, UTF-8, with a NUL between two of them. With
-/// `ARWEN_OK` the first `size` bytes of `out` are the edited file; with `ARWEN_ROOM` it has `size` bytes, more than `out`,
-/// which stays. With any other answer `out` stays too, `size` is 0, and `message` holds why, cut to its length.
+/// Edits the bytes of a file by an array of edits: an ELF file by its magic, any other as a Mach-O file. With `ARWEN_OK` the
+/// answer has the edited file and the notes, which call the file by the name. Of the flags, `ARWEN_MOVE_DYNAMIC` gives leave that
+/// the dynamic section of an ELF file moves where it has no room, and by `ARWEN_SIGN` pages that the edits touch are made to fit
+/// again in ad-hoc code signatures of a Mach-O file; others are passed over. With any other status there is a cause.
 #[unsafe(no_mangle)]
 pub extern "C" fn arwen_apply(
     alloc: Global,
     bytes: &[u8],
-    words: &[u8],
-    out: &mut [u8],
-    size: &mut usize,
-    message: &mut [u8],
+    edits: &[LentEdit<'_>],
+    name: &[u8],
+    flags: u32,
+    answer: &mut Answer,
 ) -> u32
-    ensures gives { result ≡ ARWEN_OK → Gives words.now bytes.now out.old out.new size.new }
-    ensures wants { result ≡ ARWEN_ROOM → Wants words.now bytes.now out.old out.new size.new }
-    ensures refuses { IsTrue (not (result == ARWEN_OK)) → IsTrue (not (result == ARWEN_ROOM))
-        → RefusesWith false words.now bytes.now result size.new }
-    ensures stays { IsTrue (not (result == ARWEN_OK)) → out.new ≡ out.old }
-    ensures message { IsTrue (not (result == ARWEN_OK)) → IsTrue (not (result == ARWEN_ROOM))
-        → EndsInNul message.new }
-    ensures given { result ≡ ARWEN_OK → message.new ≡ message.old }
-    ensures wanted { result ≡ ARWEN_ROOM → message.new ≡ message.old }
+    ensures ok { result ≡ ARWEN_OK
+        → Gives (IsApplied (map edit_model edits.now) name.now flags bytes.now) answer.new }
+    ensures err { result ≢ ARWEN_OK
+        → Refuses (TellsApplied (map edit_model edits.now) name.now flags bytes.now)
+        result answer.new }
 {
-    match edited(alloc, bytes, words) {
-        Ok(new) => give(new.as_slice(), out, size),
-        Err(error) => {
-            *size = 0;
-            tell(alloc, &error, message)
-        }
-    }
+    let made = applied(alloc, bytes, edits, name, flags);
+    answered(alloc, made, answer)
 }
 
-/// The same with leave that the dynamic section of an ELF file moves where it has no room, as `arwen elf apply --move-dynamic`
-/// edits it. A Mach-O file is edited as by `arwen_apply`.
+/// The same by words: those behind `apply FILE`.
 #[unsafe(no_mangle)]
-pub extern "C" fn arwen_apply_moving(
+pub extern "C" fn arwen_apply_words(
     alloc: Global,
     bytes: &[u8],
-    words: &[u8],
-    out: &mut [u8],
-    size: &mut usize,
-    message: &mut [u8],
+    words: &[LentText<'_>],
+    name: &[u8],
+    flags: u32,
+    answer: &mut Answer,
 ) -> u32
-    ensures gives { result ≡ ARWEN_OK
-        → GivesWith true words.now bytes.now out.old out.new size.new }
-    ensures wants { result ≡ ARWEN_ROOM
-        → WantsWith true words.now bytes.now out.old out.new size.new }
-    ensures refuses { IsTrue (not (result == ARWEN_OK)) → IsTrue (not (result == ARWEN_ROOM))
-        → RefusesWith true words.now bytes.now result size.new }
-    ensures stays { IsTrue (not (result == ARWEN_OK)) → out.new ≡ out.old }
-    ensures message { IsTrue (not (result == ARWEN_OK)) → IsTrue (not (result == ARWEN_ROOM))
-        → EndsInNul message.new }
-    ensures given { result ≡ ARWEN_OK → message.new ≡ message.old }
-    ensures wanted { result ≡ ARWEN_ROOM → message.new ≡ message.old }
+    ensures ok { result ≡ ARWEN_OK
+        → Gives (IsAppliedByWords (map text_model words.now) name.now flags bytes.now) answer.new }
+    ensures err { result ≢ ARWEN_OK
+        → Refuses (TellsAppliedByWords (map text_model words.now) name.now flags bytes.now)
+        result answer.new }
 {
-    match edited_moving(alloc, bytes, words) {
-        Ok(new) => give(new.as_slice(), out, size),
-        Err(error) => {
-            *size = 0;
-            tell(alloc, &error, message)
-        }
-    }
+    let made = applied_words(alloc, bytes, words, name, flags);
+    answered(alloc, made, answer)
 }
 
-/// Hands out new bytes, or tells how many there are.
-fn give(new: &[u8], out: &mut [u8], size: &mut usize) -> u32
-    ensures size { size.new ≡ length new.now }
-    ensures fits { length new.now ≤ length out.old
-        → (result ≡ ARWEN_OK) × (out.new ≡ new.now ++ drop (length new.now) out.old) }
-    ensures short { length out.old < length new.now
-        → (result ≡ ARWEN_ROOM) × (out.new ≡ out.old) }
+/// Makes all pages of ad-hoc code signatures of a Mach-O file fit.
+#[unsafe(no_mangle)]
+pub extern "C" fn arwen_sign(
+    alloc: Global,
+    bytes: &[u8],
+    name: &[u8],
+    answer: &mut Answer,
+) -> u32
+    ensures ok { result ≡ ARWEN_OK → Gives (IsSigned name.now bytes.now) answer.new }
+    ensures err { result ≢ ARWEN_OK
+        → Refuses (TellsUnsigned name.now bytes.now) result answer.new }
 {
-    *size = new.len();
-    if out.len() < new.len() {
-        return ARWEN_ROOM;
-    }
-    lay(new, out);
-    ARWEN_OK
+    let made = signed(alloc, bytes, name);
+    answered(alloc, made, answer)
 }
 
-/// Puts bytes at the front of a buffer.
-fn lay(new: &[u8], out: &mut [u8])
-    requires { length new.now ≤ length out.old }
-    ensures { out.new ≡ new.now ++ drop (length new.now) out.old }
+/// Tells whether all pages of the code signatures of a Mach-O file fit: `ARWEN_OK` or `ARWEN_UNFIT`, with a text that tells it.
+#[unsafe(no_mangle)]
+pub extern "C" fn arwen_verify(alloc: Global, bytes: &[u8], answer: &mut Answer) -> u32
+    ensures fits { result ≡ ARWEN_OK → Gives (IsVerified true bytes.now) answer.new }
+    ensures unfit { result ≡ ARWEN_UNFIT → Gives (IsVerified false bytes.now) answer.new }
+    ensures err { result ≢ ARWEN_OK → result ≢ ARWEN_UNFIT
+        → Refuses (OrMemory (TellsUnverified bytes.now)) result answer.new }
 {
-    out[..new.len()].copy_from_slice(new);
+    verified(alloc, bytes, answer)
 }
 
-/// Tells an error.
-fn tell(alloc: Global, error: &EditError, message: &mut [u8]) -> u32
-    ensures answer { result ≡ answer_to error.now }
-    ensures failed { IsTrue (not (result == ARWEN_OK)) }
-    ensures other { IsTrue (not (result == ARWEN_ROOM)) }
-    ensures message { EndsInNul message.new }
+/// Tells what a file is and what it asks of a loader: the text is a line of JSON, with this name of the file.
+#[unsafe(no_mangle)]
+pub extern "C" fn arwen_show(
+    alloc: Global,
+    bytes: &[u8],
+    name: &[u8],
+    answer: &mut Answer,
+) -> u32
+    ensures ok { result ≡ ARWEN_OK
+        → Gives (IsShown (utf8_lossy name.now) bytes.now) answer.new }
+    ensures err { result ≢ ARWEN_OK
+        → Refuses (OrMemory (TellsUnshown bytes.now)) result answer.new }
 {
-    match text_of(alloc, error) {
-        Ok(text) => put(text.as_bytes(), message),
-        Err(_) => put(b"out of memory", message),
-    }
-    status_of(error)
+    let made = shown(alloc, bytes, name);
+    answered(alloc, made, answer)
 }
 
-/// The answer that stands for an error.
-fn status_of(error: &EditError) -> u32
-    ensures answer { result ≡ answer_to error.now }
-    ensures failed { IsTrue (not (result == ARWEN_OK)) }
-    ensures other { IsTrue (not (result == ARWEN_ROOM)) }
+/// Tells the words for a cause; none for a number of none.
+#[unsafe(no_mangle)]
+pub extern "C" fn arwen_cause_text(cause: u32, text: &mut LentText<'static>)
+    ensures { text.new.bytes.now ≡ words_of cause }
 {
-    match error {
-        EditError::NoText => ARWEN_WORDS,
-        EditError::Elf(ElfCommandError::Edits(_)) => ARWEN_WORDS,
-        EditError::Macho(MachoCommandError::Edits(_)) => ARWEN_WORDS,
-        EditError::Elf(ElfCommandError::Memory) => ARWEN_MEMORY,
-        EditError::Macho(MachoCommandError::Memory) => ARWEN_MEMORY,
-        EditError::Memory => ARWEN_MEMORY,
-        EditError::Elf(_) => ARWEN_REFUSED,
-        EditError::Macho(_) => ARWEN_REFUSED,
-    }
+    text.bytes = cause_words(cause).as_bytes();
 }
 
-/// An error with its causes, from the outermost on.
-fn text_of(alloc: Global, error: &EditError) -> Result<String, AllocError> {
-    match error {
-        EditError::Elf(error) => elf_text(alloc, error),
-        EditError::Macho(error) => macho_text(alloc, error),
-        other => other.to_string(alloc),
-    }
-}
-
-/// The same of an error of an ELF file.
-fn elf_text(alloc: Global, error: &ElfCommandError) -> Result<String, AllocError> {
-    match error {
-        ElfCommandError::Elf(fault) => fault_text(alloc, fault),
-        ElfCommandError::ElfBatch(batch) => {
-            let text = fault_text(alloc, &batch.fault)?;
-            let index = batch.index;
-            format!(in alloc; "edit {index}: {text}")
-        }
-        ElfCommandError::Edits(fault) => format!(in alloc; "{error}: {fault}"),
-        other => other.to_string(alloc),
-    }
-}
-
-/// A fault of an ELF file with its cause.
-fn fault_text(alloc: Global, fault: &ElfError) -> Result<String, AllocError> {
-    match fault {
-        ElfError::Parse(cause) => format!(in alloc; "{fault}: {cause}"),
-        ElfError::Write(cause) => format!(in alloc; "{fault}: {cause}"),
-        ElfError::Modify(cause) => format!(in alloc; "{fault}: {cause}"),
-        other => other.to_string(alloc),
-    }
-}
-
-/// The same of an error of a Mach-O file.
-fn macho_text(alloc: Global, error: &MachoCommandError) -> Result<String, AllocError> {
-    match error {
-        MachoCommandError::Macho(fault) => macho_fault_text(alloc, fault),
-        MachoCommandError::MachoBatch(batch) => {
-            let text = macho_fault_text(alloc, &batch.fault)?;
-            let index = batch.index;
-            format!(in alloc; "edit {index}: {text}")
-        }
-        MachoCommandError::Edits(fault) => format!(in alloc; "{error}: {fault}"),
-        other => other.to_string(alloc),
-    }
-}
-
-/// A fault of a Mach-O file with its cause.
-fn macho_fault_text(alloc: Global, fault: &MachoError) -> Result<String, AllocError> {
-    match fault {
-        MachoError::Parsing(cause) => format!(in alloc; "{fault}: {cause}"),
-        other => other.to_string(alloc),
-    }
-}
-
-/// Puts a text into a buffer, cut so that a NUL stands behind it; nothing into an empty one.
-fn put(text: &[u8], buffer: &mut [u8])
-    ensures { EndsInNul buffer.new }
+/// Tells the version.
+#[unsafe(no_mangle)]
+pub extern "C" fn arwen_version(text: &mut LentText<'static>)
+    ensures { text.new.bytes.now ≡ codes "0.1.0" }
 {
-    if buffer.is_empty() {
-        return;
-    }
-    let count = text.len().min(buffer.len() - 1);
-    buffer[..count].copy_from_slice(&text[..count]);
-    buffer[count] = 0;
+    text.bytes = b"0.1.0";
 }
