@@ -1,17 +1,16 @@
-/* Edits a file in memory: reads OLD, makes the edits that the words name, writes NEW.
+/* Edits a file in memory: reads OLD, makes the edits that the words name, writes NEW, and prints the notes.
  *
- *     edit OLD NEW [--move-dynamic] WORD..      as: edit greet greet.new set-rpath '$ORIGIN'
+ *     edit OLD NEW [--move-dynamic] [--sign] WORD..      as: edit greet greet.new set-rpath '$ORIGIN'
  *
- * With --move-dynamic the dynamic section of an ELF file moves where it has no room. */
+ * With --move-dynamic the dynamic section of an ELF file moves where it has no room. With --sign pages that the edits touch are
+ * made to fit again in ad-hoc code signatures of a Mach-O file. */
 #include <stdio.h>
 #include <stdlib.h>
 #include <string.h>
 
 #include "arwen.h"
 
-/* Both functions take the same arguments. */
-typedef uint32_t edit_fn(const uint8_t *, size_t, const uint8_t *, size_t, uint8_t *, size_t, size_t *, uint8_t *, size_t);
-
+/* The bytes of a file; NULL where it can't be read. */
 static uint8_t *read_file(const char *path, size_t *len)
 {
     FILE *file = fopen(path, "rb");
@@ -27,60 +26,52 @@ static uint8_t *read_file(const char *path, size_t *len)
     return bytes;
 }
 
-/* The words with a NUL between two of them. */
-static uint8_t *join(char **words, int count, size_t *len)
+static int write_file(const char *path, arwen_text bytes)
 {
-    size_t room = 1;
-    for (int i = 0; i < count; i++)
-        room += strlen(words[i]) + 1;
-    uint8_t *joined = malloc(room);
-    *len = 0;
-    for (int i = 0; joined != NULL && i < count; i++) {
-        if (i > 0)
-            joined[(*len)++] = 0;
-        memcpy(joined + *len, words[i], strlen(words[i]));
-        *len += strlen(words[i]);
-    }
-    return joined;
+    FILE *file = fopen(path, "wb");
+    return file != NULL && fwrite(bytes.at, 1, bytes.len, file) == bytes.len && fclose(file) == 0;
+}
+
+/* The flag of an option; 0 of a word that is none. */
+static uint32_t flag_of(const char *word)
+{
+    if (strcmp(word, "--move-dynamic") == 0)
+        return ARWEN_MOVE_DYNAMIC;
+    return strcmp(word, "--sign") == 0 ? ARWEN_SIGN : 0;
 }
 
 int main(int argc, char **argv)
 {
-    int moves = argc > 3 && strcmp(argv[3], "--move-dynamic") == 0;
-    if (argc < 4 + moves) {
-        fprintf(stderr, "usage: edit OLD NEW [--move-dynamic] WORD..\n");
+    uint32_t flags = 0, status;
+    int first = 3, failed = 1;
+    while (first < argc && flag_of(argv[first]) != 0)
+        flags |= flag_of(argv[first++]);
+    if (argc <= first) {
+        fprintf(stderr, "usage: edit OLD NEW [--move-dynamic] [--sign] WORD..\n");
         return 2;
     }
-    edit_fn *apply = moves ? arwen_apply_moving : arwen_apply;
-    size_t len = 0, words_len = 0, size = 0;
+    size_t len = 0, count = (size_t)(argc - first);
     uint8_t *old = read_file(argv[1], &len);
-    uint8_t *words = join(argv + 3 + moves, argc - 3 - moves, &words_len);
+    arwen_text *words = malloc(count * sizeof *words);
     if (old == NULL || words == NULL) {
         fprintf(stderr, "edit: %s can't be read\n", argv[1]);
         return 1;
     }
-    /* Most edits add little. Where they add more, it is said how much is wanted. */
-    size_t room = len + 4096;
-    uint8_t message[256];
-    uint8_t *new = malloc(room);
-    uint32_t answer = new == NULL ? ARWEN_MEMORY : apply(old, len, words, words_len, new, room, &size, message, sizeof message);
-    if (answer == ARWEN_ROOM) {
-        free(new);
-        room = size;
-        new = malloc(room);
-        answer = new == NULL ? ARWEN_MEMORY : apply(old, len, words, words_len, new, room, &size, message, sizeof message);
+    for (size_t i = 0; i < count; i++) {
+        words[i].at = (const uint8_t *)argv[first + (int)i];
+        words[i].len = strlen(argv[first + (int)i]);
     }
-    if (answer != ARWEN_OK) {
-        fprintf(stderr, "edit: %s: %s\n", argv[1], new == NULL ? "out of memory" : (char *)message);
-        return 1;
-    }
-    FILE *file = fopen(argv[2], "wb");
-    if (file == NULL || fwrite(new, 1, size, file) != size || fclose(file) != 0) {
+    arwen_answer answer = ARWEN_ANSWER_INIT;
+    const uint8_t *name = (const uint8_t *)argv[1];
+    status = arwen_apply_words(old, len, words, count, name, strlen(argv[1]), flags, &answer);
+    if (status != ARWEN_OK)
+        fprintf(stderr, "edit: %s: %.*s\n", argv[1], (int)answer.text.len, (const char *)answer.text.at);
+    else if (!write_file(argv[2], answer.bytes))
         fprintf(stderr, "edit: %s can't be written\n", argv[2]);
-        return 1;
-    }
-    free(new);
+    else
+        failed = fprintf(stderr, "%.*s", (int)answer.text.len, (const char *)answer.text.at) < 0;
+    arwen_free(&answer);
     free(words);
     free(old);
-    return 0;
+    return failed;
 }

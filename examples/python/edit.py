@@ -1,61 +1,85 @@
 #!/usr/bin/env python3
-"""Edits a file in memory: reads OLD, makes the edits that the words name, writes NEW.
+"""Edits a file in memory: reads OLD, makes the edits that the words name, writes NEW, and prints the notes.
 
-    edit.py LIBRARY OLD NEW [--move-dynamic] WORD..      as: edit.py ./libarwen.so greet greet.new set-rpath '$ORIGIN'
+    edit.py LIBRARY OLD NEW [--move-dynamic] [--sign] WORD..      as: edit.py libarwen.so greet greet.new set-rpath '$ORIGIN'
 
-With --move-dynamic the dynamic section of an ELF file moves where it has no room.
-
-LIBRARY is a shared library that is made of libarwen_c.a: tests/try_c_callers shows how.
+With --move-dynamic the dynamic section of an ELF file moves where it has no room. With --sign pages that the edits touch are made to
+fit again in ad-hoc code signatures of a Mach-O file. LIBRARY is the shared library, as `./install` leaves it. The package in python/
+does the same, and more, without ctypes at hand.
 """
 import ctypes
+import os
 import sys
 
-OK, ROOM = 0, 3
+OK = 0
+FLAGS = {'--move-dynamic': 1, '--sign': 2}
+
+
+class Text(ctypes.Structure):
+    """arwen_text of arwen.h."""
+    _fields_ = [('at', ctypes.c_void_p), ('len', ctypes.c_size_t)]
+
+    def value(self):
+        return ctypes.string_at(self.at, self.len)
+
+
+class Answer(ctypes.Structure):
+    """arwen_answer of arwen.h."""
+    _fields_ = [('bytes', Text), ('text', Text), ('cause', ctypes.c_uint32), ('edit', ctypes.c_size_t)]
 
 
 class ArwenError(Exception):
     """Why a file was not edited."""
 
 
-def load(path, moves):
-    """The function of the library at a path, with or without leave that the dynamic section moves."""
-    library = ctypes.CDLL(path)
-    apply = library.arwen_apply_moving if moves else library.arwen_apply
+def load(path):
+    """The library at a path."""
+    library = ctypes.CDLL(os.path.abspath(path))
     lent = [ctypes.c_char_p, ctypes.c_size_t]
-    apply.argtypes = lent + lent + lent + [ctypes.POINTER(ctypes.c_size_t)] + lent
-    apply.restype = ctypes.c_uint32
-    return apply
+    library.arwen_apply_words.argtypes = [*lent, ctypes.POINTER(Text), ctypes.c_size_t, *lent, ctypes.c_uint32, ctypes.POINTER(Answer)]
+    library.arwen_apply_words.restype = ctypes.c_uint32
+    library.arwen_free.argtypes = [ctypes.POINTER(Answer)]
+    library.arwen_free.restype = None
+    return library
 
 
-def edited(apply, old, words):
-    """The bytes of a file after edits, which are words as those behind `arwen elf apply FILE`."""
-    joined = '\0'.join(words).encode()
-    size, message = ctypes.c_size_t(), ctypes.create_string_buffer(256)
-    room = len(old) + 4096
-    while True:
-        new = ctypes.create_string_buffer(room)
-        answer = apply(old, len(old), joined, len(joined), new, room, ctypes.byref(size), message, len(message))
-        if answer != ROOM:
-            break
-        room = size.value
-    if answer != OK:
-        raise ArwenError(message.value.decode(errors='replace'))
-    return new.raw[:size.value]
+def lent_words(words):
+    """Words as an array of texts, and the buffers that hold them."""
+    buffers = [ctypes.create_string_buffer(os.fsencode(word)) for word in words]
+    texts = (Text * max(len(words), 1))()
+    for text, buffer in zip(texts, buffers):
+        text.at, text.len = ctypes.addressof(buffer), len(buffer) - 1
+    return texts, buffers
+
+
+def edited(library, old, words, name, flags=0):
+    """The bytes of a file after edits, which are words as those behind `arwen elf apply FILE`, and the notes."""
+    texts, buffers = lent_words(words)
+    called, answer = os.fsencode(name), Answer()
+    status = library.arwen_apply_words(old, len(old), texts, len(buffers), called, len(called), flags, ctypes.byref(answer))
+    new, text = answer.bytes.value(), answer.text.value().decode()
+    library.arwen_free(ctypes.byref(answer))
+    if status != OK:
+        raise ArwenError(text or 'out of memory')
+    return new, text
 
 
 def main():
     if len(sys.argv) < 5:
         sys.exit(__doc__)
     library, old, new, *words = sys.argv[1:]
-    moves = words[0] == '--move-dynamic'
+    flags = 0
+    while words and words[0] in FLAGS:
+        flags |= FLAGS[words.pop(0)]
     with open(old, 'rb') as file:
         data = file.read()
     try:
-        made = edited(load(library, moves), data, words[1:] if moves else words)
+        made, notes = edited(load(library), data, words, old, flags)
     except ArwenError as error:
         sys.exit('edit.py: %s: %s' % (old, error))
     with open(new, 'wb') as file:
         file.write(made)
+    sys.stderr.write(notes)
 
 
 if __name__ == '__main__':

@@ -25,9 +25,7 @@ use command_words::Notes;
 use elf_commands::elf::edit_groups;
 use elf_commands::{GroupEdit, parse_elf_edits};
 use elf_format::opening::has_magic;
-use macho_commands::{
-    MachoCommand, Signing, batch, parse_macho_edits, run_macho_telling, sign,
-};
+use macho_commands::{MachoCommand, Signing, batch, parse_macho_edits, run_macho_telling, sign};
 use macho_edits::batch::MachoEdit;
 use std::alloc::{AllocError, Global};
 

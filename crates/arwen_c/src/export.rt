@@ -60,12 +60,7 @@ pub extern "C" fn arwen_apply_words(
 
 /// Makes all pages of ad-hoc code signatures of a Mach-O file fit.
 #[unsafe(no_mangle)]
-pub extern "C" fn arwen_sign(
-    alloc: Global,
-    bytes: &[u8],
-    name: &[u8],
-    answer: &mut Answer,
-) -> u32
+pub extern "C" fn arwen_sign(alloc: Global, bytes: &[u8], name: &[u8], answer: &mut Answer) -> u32
     ensures ok { result ≡ ARWEN_OK → Gives (IsSigned name.now bytes.now) answer.new }
     ensures err { result ≢ ARWEN_OK
         → Refuses (TellsUnsigned name.now bytes.now) result answer.new }
@@ -87,12 +82,7 @@ pub extern "C" fn arwen_verify(alloc: Global, bytes: &[u8], answer: &mut Answer)
 
 /// Tells what a file is and what it asks of a loader: the text is a line of JSON, with this name of the file.
 #[unsafe(no_mangle)]
-pub extern "C" fn arwen_show(
-    alloc: Global,
-    bytes: &[u8],
-    name: &[u8],
-    answer: &mut Answer,
-) -> u32
+pub extern "C" fn arwen_show(alloc: Global, bytes: &[u8], name: &[u8], answer: &mut Answer) -> u32
     ensures ok { result ≡ ARWEN_OK
         → Gives (IsShown (utf8_lossy name.now) bytes.now) answer.new }
     ensures err { result ≢ ARWEN_OK

@@ -1,2 +1,3 @@
+pub mod ForCallers
 pub mod ListSteps
 pub mod TextSteps

@@ -12,12 +12,15 @@ use Rattle.elf_edits.specs.TextModel.{Bytes}
 pub word_there : (text word : Text) → IsUtf8 text → word ≡ text → word_in text ≡ Ok word
 word_there text word is same = rw (is_utf8-from_IsUtf8 text is) (ap Ok (sym same))
 
-pub no_word : (text : Text) → (IsUtf8 text → ⊥) → word_in text ≡ Err NoText
-no_word text none = by (is_utf8 text) refl
+pub no_utf8 : (text : Text) → (IsUtf8 text → ⊥) → is_utf8 text ≡ false
+no_utf8 text none = by (is_utf8 text) refl
   where
-    by : (b : Bool) → is_utf8 text ≡ b → word_in text ≡ Err NoText
+    by : (b : Bool) → is_utf8 text ≡ b → is_utf8 text ≡ false
     by true is = absurd (none (IsUtf8-from_is_utf8 text is))
-    by false is = rw is refl
+    by false is = is
+
+pub no_word : (text : Text) → (IsUtf8 text → ⊥) → word_in text ≡ Err NoText
+no_word text none = rw (no_utf8 text none) refl
 
 -- ## Texts by two
 
