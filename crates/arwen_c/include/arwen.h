@@ -163,7 +163,7 @@ uint32_t arwen_show(const uint8_t *bytes, size_t bytes_len,
 #define ARWEN_CAUSE_MACHO_RPATH_MISSING 222
 #define ARWEN_CAUSE_MACHO_NAME_MISSING 223
 #define ARWEN_CAUSE_MACHO_ID_MISSING 224
-#define ARWEN_CAUSE_MACHO_NO_ROOM 225
+#define ARWEN_CAUSE_MACHO_NO_ROOM 225 /* where there is none behind the last edit, edit is the number of edits */
 
 /* A code signature isn't read, or can't be made to fit. */
 #define ARWEN_CAUSE_SIGNING_BAD_COMMAND 241

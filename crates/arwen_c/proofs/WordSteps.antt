@@ -1,5 +1,5 @@
 -- Texts that are words, read one after the other.
-use Rattle.std.proofs.Common.{◌≡◌, ◌∷◌, [], ◌++◌, ◌∙◌, ap, refl, sym, subst, true, Bor, Err, List, Ok, Result, map, ℕ, ◌+◌, ◌<◌, ◌≤◌, drop, get_or, length, append-nil, append_assoc}
+use Rattle.std.proofs.Common.{◌≡◌, ◌∷◌, [], ◌++◌, ◌∙◌, ap, refl, sym, subst, Bor, Err, List, Ok, Result, map, ℕ, ◌+◌, ◌<◌, ◌≤◌, drop, get_or, length, append-nil, append_assoc}
 use Rattle.std.proofs.lemmas.List.{drop_all, drop_more, map_push}
 use Rattle.std.proofs.lemmas.Str.{is_utf8-from_IsUtf8}
 use Rattle.std.specs.Str.{IsUtf8}

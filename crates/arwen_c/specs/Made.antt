@@ -1,12 +1,11 @@
 -- What calls make of the bytes of a file, and tell of it.
-use Rattle.std.specs.Prelude.{ℕ, ◌≡◌, ◌==◌, ◌++◌, ◌∷◌, [], ⊤, Bool, true, false, bit_and, if◌then◌else◌, not, List, Option, Some, Ok}
+use Rattle.std.specs.Prelude.{ℕ, ◌≡◌, ◌==◌, ◌++◌, ◌∷◌, [], ⊤, Bool, true, false, bit_and, not, List, Option, Some, Ok}
 use Rattle.std.specs.declared.alloc.Global.{Global}
 use Rattle.std.specs.declared.vec.Vec.{Vec}
 use Rattle.arwen_cli_facts.specs.Refusals.{Refuses}
 use Rattle.arwen_cli_facts.specs.declared.error.ShowError.TheVariants as shown
 use Rattle.arwen_cli_show.specs.Shown.{TellsOf}
 use Rattle.arwen_cli_show.specs.declared.show.Style.TheVariants.{Json}
-use Rattle.command_words.specs.Rows.{Text}
 use Rattle.command_words.specs.declared.noting.Notes.TheVariants.{Wanted}
 use Rattle.elf_commands.specs.ElfAsked.{ElfAsked, asked_of_words}
 use Rattle.elf_commands.specs.ElfCommandError.TheVariants as elf
