@@ -8,7 +8,7 @@ from typing import Any, Dict, Iterable, List, Tuple, Union
 from . import _library, elf, macho
 from ._edit import Edit, Text, encoded
 from ._errors import NotEdits, Refused
-from ._header import MEMORY, MOVE_DYNAMIC, OK, SIGN, UNFIT, WORDS
+from ._header import MEMORY, MOVE_DYNAMIC, OK, SIGN, UNFIT, WORDS, Cause
 
 #: The bytes of a file.
 Data = Union[bytes, bytearray, memoryview]
@@ -48,7 +48,7 @@ def _edit_from(edit: AnyEdit, at: int, functions: ModuleType, name: Name) -> Edi
     """An edit, made by the function that a tuple names where it isn't one yet."""
     if isinstance(edit, Edit):
         return edit
-    fault = 'an edit, or a tuple of its name and its values, is wanted'
+    fault, cause = 'an edit, or a tuple of its name and its values, is wanted', 0
     if isinstance(edit, tuple) and edit and isinstance(edit[0], str):
         called = edit[0].replace('-', '_')
         if called in functions.__all__:
@@ -58,18 +58,20 @@ def _edit_from(edit: AnyEdit, at: int, functions: ModuleType, name: Name) -> Edi
             except (TypeError, ValueError) as error:
                 fault = str(error)
         else:
-            fault = 'no edit of this file is called %s' % edit[0]
-    raise NotEdits(fault, os.fsdecode(name), edit=at)
+            fault, cause = 'no edit of this file is called %s' % edit[0], Cause.EDITS_UNKNOWN_KIND
+    raise NotEdits(fault, os.fsdecode(name), cause, _library.cause_text(cause), at)
 
 
-def _checked(answer: _library.Answer, name: Name) -> _library.Answer:
-    """The answer, if something was done; else the error that it tells."""
+def _checked(answer: _library.Answer, name: Name, count: int = 0) -> _library.Answer:
+    """The answer, if something was done; else the error that it tells. An edit past the last of so many is none: the number of all
+    edits stands for want of room."""
     if answer.status in (OK, UNFIT):
         return answer
     if answer.status == MEMORY:
         raise MemoryError(os.fsdecode(name))
     kind = NotEdits if answer.status == WORDS else Refused
-    raise kind(_decoded(answer.text), os.fsdecode(name), answer.cause, _library.cause_text(answer.cause), answer.edit)
+    edit = answer.edit if answer.edit is not None and answer.edit < count else None
+    raise kind(_decoded(answer.text), os.fsdecode(name), answer.cause, _library.cause_text(answer.cause), edit)
 
 
 def _decoded(text: bytes) -> str:
@@ -78,6 +80,10 @@ def _decoded(text: bytes) -> str:
 
 def _lines(text: bytes) -> List[str]:
     return [line for line in _decoded(text).split('\n') if line]
+
+
+def _result(answer: _library.Answer) -> Result:
+    return Result(answer.data, _lines(answer.text))
 
 
 def _flags(move_dynamic: bool, sign: bool) -> int:
@@ -93,8 +99,8 @@ def apply(data: Data, edits: Iterable[AnyEdit], name: Name = '', *, move_dynamic
     """
     functions = elf if is_elf(data) else macho
     made = [_edit_from(edit, at, functions, name) for at, edit in enumerate(edits)]
-    answer = _checked(_library.apply(bytes(data), made, os.fsencode(name), _flags(move_dynamic, sign)), name)
-    return Result(answer.data, _lines(answer.text))
+    answer = _library.apply(bytes(data), made, os.fsencode(name), _flags(move_dynamic, sign))
+    return _result(_checked(answer, name, len(made)))
 
 
 def apply_words(data: Data, words: Iterable[Text], name: Name = '', *, move_dynamic: bool = False, sign: bool = False) -> Result:
@@ -103,14 +109,13 @@ def apply_words(data: Data, words: Iterable[Text], name: Name = '', *, move_dyna
     if isinstance(words, (str, bytes)):
         raise TypeError('several words are wanted, not one')
     given = [encoded(word) for word in words]
-    answer = _checked(_library.apply_words(bytes(data), given, os.fsencode(name), _flags(move_dynamic, sign)), name)
-    return Result(answer.data, _lines(answer.text))
+    answer = _library.apply_words(bytes(data), given, os.fsencode(name), _flags(move_dynamic, sign))
+    return _result(_checked(answer, name, given.count(b'+') + 1))
 
 
 def sign(data: Data, name: Name = '') -> Result:
     """Makes all pages of ad-hoc code signatures of a Mach-O file fit. Errors: Refused, MemoryError."""
-    answer = _checked(_library.sign(bytes(data), os.fsencode(name)), name)
-    return Result(answer.data, _lines(answer.text))
+    return _result(_checked(_library.sign(bytes(data), os.fsencode(name)), name))
 
 
 def verify(data: Data, name: Name = '') -> Verdict:
