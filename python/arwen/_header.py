@@ -110,6 +110,7 @@ class Cause(IntEnum):
     MACHO_RPATH_MISSING = 222
     MACHO_NAME_MISSING = 223
     MACHO_ID_MISSING = 224
+    #: where there is none behind the last edit, edit is the number of edits
     MACHO_NO_ROOM = 225
     SIGNING_BAD_COMMAND = 241
     SIGNING_SEVERAL_SIGNATURES = 242
