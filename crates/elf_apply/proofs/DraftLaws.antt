@@ -20,7 +20,7 @@ use Rattle.elf_image.specs.SymbolEdits.{IsPutFor, with_dynamic_symbols}
 use Rattle.elf_image.proofs.ForCallers.SymbolsKept.{put_of_all}
 use Rattle.elf_image.specs.SymbolsRead.{OfRead}
 use Rattle.elf_image.specs.Views.{NamedSymbol}
-use Rattle.elf_image_symbol_edits.specs.EditedList.{EditedList}
+use Rattle.elf_image_symbols.specs.EditedList.{EditedList}
 use Rattle.elf_edits.specs.SymbolChanges.{AreSymbolsAfter}
 use Rattle.elf_image.specs.Segments.{with_stack_added, with_stack_flags}
 use Rattle.elf_edits.specs.declared.constants.TheConstants.{STACK_FLAGS}

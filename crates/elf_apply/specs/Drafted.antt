@@ -17,7 +17,7 @@ use Rattle.elf_image.specs.SymbolsRead.{OfRead}
 use Rattle.elf_image.specs.Versions.{VersionNeeds}
 use Rattle.elf_image.specs.Views.{NamedSymbol}
 use Rattle.elf_image.specs.declared.version.VersionNeed.{VersionNeed}
-use Rattle.elf_image_symbol_edits.specs.EditedList.{EditedList}
+use Rattle.elf_image_symbols.specs.EditedList.{EditedList}
 use Rattle.elf_edits.specs.declared.constants.TheConstants.{STACK_FLAGS}
 use Rattle.elf_edits.specs.Edit.{all_but_last, edited_entries}
 use Rattle.elf_edits.specs.Edited.{segments_with_leave, with_load_align, with_stack_changed}

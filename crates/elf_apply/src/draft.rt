@@ -17,7 +17,7 @@ use elf_edits::constants::STACK_FLAGS;
 use elf_edits::{ElfEdit, NewList, edit_list, edit_symbols};
 use elf_image::constants::PF_X;
 use elf_image::{Builder, Dynamic, VersionNeed};
-use elf_image_symbol_edits::EditedSymbols;
+use elf_image_symbols::EditedSymbols;
 use patch_bytes::ByteString;
 use std::alloc::{AllocError, Global};
 

@@ -10,7 +10,7 @@ use Rattle.elf_image.specs.Image.{seen_symbol}
 use Rattle.elf_image.specs.Names.{texts_of_symbols}
 use Rattle.elf_image.specs.Versions.{VersionNeeds}
 use Rattle.elf_image.specs.Views.{NamedSymbol}
-use Rattle.elf_image_symbol_edits.specs.EditedList.{as_global, with_global_version}
+use Rattle.elf_image_symbols.specs.EditedList.{as_global, with_global_version}
 use Rattle.elf_edits.specs.Edit.{ClearSymbolVersion, Edit, RenameDynamicSymbols, edited_entries, edited_needs, edited_symbols, touches_symbols}
 use Rattle.elf_edits.specs.Edited.{edited_view}
 use Rattle.elf_edits.specs.Laws.{SymbolsAreRenamedAtOnce, swap_of}

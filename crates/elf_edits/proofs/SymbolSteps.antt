@@ -9,7 +9,7 @@ use Rattle.std.proofs.lemmas.List.{drop_more}
 use Rattle.std.proofs.lemmas.Option.{get_or_from_slice_get, none-some, same_Some, slice_get_within}
 use Rattle.elf_image.specs.Options.{first_there}
 use Rattle.elf_image.specs.Views.{NamedSymbol}
-use Rattle.elf_image_symbol_edits.specs.EditedList.{EditedList, IsName, changed_at, with_global_version, with_name}
+use Rattle.elf_image_symbols.specs.EditedList.{EditedList, IsName, changed_at, with_global_version, with_name}
 use Rattle.elf_edits.specs.declared.symbols.SymbolChange.{SymbolChange}
 use Rattle.elf_edits.specs.declared.symbols.SymbolChange.TheVariants as changes
 use Rattle.elf_edits.specs.Changes.{name_for}

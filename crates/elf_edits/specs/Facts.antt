@@ -1,7 +1,7 @@
 -- What of an image causes look at.
 use Rattle.std.specs.Prelude.{ℕ, List, [], Bool, Option, Some, None}
-use Rattle.elf_image_symbol_edits.specs.declared.symbols_now.SymbolsNow.{SymbolsNow}
-use Rattle.elf_image_symbol_edits.specs.Loan.{symbols_now}
+use Rattle.elf_image_symbols.specs.declared.symbols_now.SymbolsNow.{SymbolsNow}
+use Rattle.elf_image_symbols.specs.Loan.{symbols_now}
 use Rattle.elf_edits.specs.declared.facts.Facts.{Facts as FactsHeld}
 use Rattle.elf_edits.specs.Symbols.{names_behind_first}
 

@@ -4,7 +4,7 @@ use Rattle.std.specs.Borrow.{Bor}
 use Rattle.std.specs.List.{list_any}
 use Rattle.std.specs.Str.{bytes_eq}
 use Rattle.elf_image.specs.Views.{NamedSymbol}
-use Rattle.elf_image_symbol_edits.specs.EditedList.{EditedList, IsName, with_name}
+use Rattle.elf_image_symbols.specs.EditedList.{EditedList, IsName, with_name}
 use Rattle.elf_edits.specs.declared.symbols.SymbolChange.{SymbolChange}
 use Rattle.elf_edits.specs.declared.symbols.SymbolChange.TheVariants as changes
 use Rattle.elf_edits.specs.Changes.{name_for}

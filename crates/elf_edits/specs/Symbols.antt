@@ -4,7 +4,7 @@ use Rattle.std.specs.Prelude.{ℕ, List, [], ◌∷◌, map, drop, Bool, ◌&&�
 use Rattle.std.specs.Str.{bytes_eq}
 use Rattle.elf_image.specs.Versions.{VersionNeeds}
 use Rattle.elf_image.specs.Views.{NamedSymbol}
-use Rattle.elf_image_symbol_edits.specs.EditedList.{with_global_version, with_name}
+use Rattle.elf_image_symbols.specs.EditedList.{with_global_version, with_name}
 use Rattle.elf_edits.specs.Texts.{value_of}
 
 -- every element but the first is changed

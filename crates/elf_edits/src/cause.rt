@@ -15,7 +15,7 @@ use crate::edit::{ElfEdit, Task};
 use crate::facts::Facts;
 use crate::symbols::rename_any;
 use elf_image::constants::EM_MIPS;
-use elf_image_symbol_edits::SymbolsNow;
+use elf_image_symbols::SymbolsNow;
 use std::alloc::{AllocError, Global};
 
 /// Why an edit of an ELF file is refused.

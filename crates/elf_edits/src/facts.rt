@@ -1,4 +1,4 @@
-use elf_image_symbol_edits::SymbolsNow;
+use elf_image_symbols::SymbolsNow;
 
 /// What of an image decides whether an edit is refused.
 #[derive(Clone, Copy)]

@@ -10,7 +10,7 @@ use crate::facts::Facts;
 use crate::list::any_run_path;
 use elf_image::constants::PT_GNU_STACK;
 use elf_image::{Builder, Dynamic, Segment};
-use elf_image_symbol_edits::SymbolsNow;
+use elf_image_symbols::SymbolsNow;
 use elf_image_uses::can_renumber;
 
 // Whether there is a program header for the stack.

@@ -1,8 +1,8 @@
 //! Dynamic symbols that edits make (gABI, Symbol Table; GNU symbol versioning).
 ghost use Rattle.std.specs.Prelude.{◌≡◌, ◌<◌, ◌≤◌, IfOk, MatchOption, Some, drop, false, length, option_map, slice_get};
 ghost use Rattle.std.specs.List.{list_any};
-ghost use Rattle.elf_image_symbol_edits.specs.EditedList.{IsName, changed_at};
-ghost use Rattle.elf_image_symbol_edits.specs.Loan.{symbols_now};
+ghost use Rattle.elf_image_symbols.specs.EditedList.{IsName, changed_at};
+ghost use Rattle.elf_image_symbols.specs.Loan.{symbols_now};
 ghost use Rattle.elf_edits.specs.Edit.{RenameDynamicSymbols, edit_model, texts_of};
 ghost use Rattle.elf_edits.specs.SymbolChanges.{AreSymbolsAfter, AreSymbolsChanged, BeginsAt, EndsAt, GivesNames, KeepsNames, changed_symbol, is_changed, renamed_by, renamed_from};
 ghost use Rattle.elf_edits.specs.Symbols.{behind_first, cleared, has_new_name, has_version_to_clear, names_behind_first};
@@ -11,7 +11,7 @@ ghost use Rattle.elf_edits.specs.Texts.{holds_nul, is_among};
 
 use crate::edit::ElfEdit;
 use crate::lookups::map_of;
-use elf_image_symbol_edits::{EditedSymbols, SymbolsNow};
+use elf_image_symbols::{EditedSymbols, SymbolsNow};
 use patch_bytes::ByteString;
 use std::alloc::{AllocError, Global};
 use std::collections::HashMap;

@@ -1,7 +1,7 @@
 //! The gABI's hash table.
 ghost use Rattle.std.specs.Prelude.{◌≡◌, ◌<◌, ◌≤◌, ◌^◌, length, IfOk, MatchResult};
 ghost use Rattle.elf_format.specs.Hashes.{gabi_hash};
-ghost use Rattle.elf_image_symbol_edits.specs.Loan.{symbols_now};
+ghost use Rattle.elf_image_symbols.specs.Loan.{symbols_now};
 ghost use Rattle.elf_tables.specs.Fields.{fields, words};
 ghost use Rattle.elf_tables.specs.declared.fault.TableFault.TheVariants.{NumberTooLarge};
 ghost use Rattle.elf_hashes.specs.Found.{ArePlaces, hashed_names, in_order};
@@ -10,7 +10,7 @@ ghost use Rattle.elf_hashes.specs.Gabi.{IsGabiTable, gabi_words};
 use crate::chains::make_chains;
 use crate::hashes::{Hashing, found_hashes, hashes};
 use elf_format::form::Form;
-use elf_image_symbol_edits::SymbolsNow;
+use elf_image_symbols::SymbolsNow;
 use elf_tables::{TableFault, push_words};
 use std::alloc::{AllocError, Global};
 

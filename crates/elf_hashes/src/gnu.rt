@@ -1,7 +1,7 @@
 //! The GNU hash table.
 ghost use Rattle.std.specs.Prelude.{◌≡◌, ◌<◌, ◌≤◌, ◌^◌, ◌%◌, ◌++◌, length, IfOk, MatchResult, OnOk};
 ghost use Rattle.elf_format.specs.Hashes.{gnu_hash};
-ghost use Rattle.elf_image_symbol_edits.specs.Loan.{symbols_now};
+ghost use Rattle.elf_image_symbols.specs.Loan.{symbols_now};
 ghost use Rattle.elf_tables.specs.Fields.{fields, words};
 ghost use Rattle.elf_tables.specs.declared.fault.TableFault.TheVariants.{NumberTooLarge};
 ghost use Rattle.elf_hashes.specs.Buckets.{heads, in_buckets};
@@ -12,7 +12,7 @@ use crate::chains::make_chains;
 use crate::filter::push_filter;
 use crate::hashes::{Hashing, hashes};
 use elf_format::form::Form;
-use elf_image_symbol_edits::SymbolsNow;
+use elf_image_symbols::SymbolsNow;
 use elf_tables::{TableFault, push_words};
 use std::alloc::{AllocError, Global};
 

@@ -3,12 +3,12 @@ ghost use Rattle.std.specs.Prelude.{◌≡◌, ◌<◌, ◌++◌, ◌∷◌, All
 ghost use Rattle.std.specs.List.{filter_map};
 ghost use Rattle.elf_format.specs.Hashes.{gnu_hash as gnu_hash_of};
 ghost use Rattle.elf_image_symbols.specs.FrontText.{front_text};
-ghost use Rattle.elf_image_symbol_edits.specs.Loan.{symbols_now};
+ghost use Rattle.elf_image_symbols.specs.Loan.{symbols_now};
 ghost use Rattle.elf_hashes.specs.Buckets.{hashes_of};
 ghost use Rattle.elf_hashes.specs.Found.{ArePlaces, found_hashes as hashes_found, found_name, hashed_names, in_order, is_found as is_symbol_found};
 ghost use Rattle.elf_hashes.specs.Steps.{hash_by};
 
-use elf_image_symbol_edits::SymbolsNow;
+use elf_image_symbols::SymbolsNow;
 use elf_tables::{gnu_hash_of_front, sysv_hash_of_front};
 use std::alloc::{AllocError, Global};
 

@@ -1,7 +1,7 @@
 //! The order that a GNU hash table asks for.
 ghost use Rattle.std.specs.Prelude.{◌≡◌, ◌<◌, ◌≤◌, ◌^◌, ◌++◌, ◌∷◌, All, Some, drop, length, option_map, slice_get, IfOk, MatchResult, OnOk};
 ghost use Rattle.std.specs.List.{flat_map};
-ghost use Rattle.elf_image_symbol_edits.specs.Loan.{symbols_now};
+ghost use Rattle.elf_image_symbols.specs.Loan.{symbols_now};
 ghost use Rattle.elf_tables.specs.declared.fault.TableFault.TheVariants.{NumberTooLarge};
 ghost use Rattle.elf_format.specs.Hashes.{gnu_hash};
 ghost use Rattle.elf_hashes.specs.Found.{found_hashes, is_local as is_symbol_local, is_sought as is_symbol_sought};
@@ -10,7 +10,7 @@ ghost use Rattle.elf_hashes.specs.Steps.{walk};
 
 use crate::chains::{Chained, make_chains};
 use crate::hashes::own_hashes;
-use elf_image_symbol_edits::SymbolsNow;
+use elf_image_symbols::SymbolsNow;
 use elf_tables::TableFault;
 use std::alloc::{AllocError, Global};
 

@@ -1,7 +1,7 @@
 //! The versions of symbols in an order.
 ghost use Rattle.std.specs.Prelude.{◌≡◌, All, false, is_some, true, IfOk, IsTrue, MatchResult};
 ghost use Rattle.std.specs.List.{list_any};
-ghost use Rattle.elf_image_symbol_edits.specs.Loan.{symbols_now};
+ghost use Rattle.elf_image_symbols.specs.Loan.{symbols_now};
 ghost use Rattle.elf_tables.specs.declared.fault.TableFault.TheVariants.{NumberTooLarge};
 ghost use Rattle.elf_tables.specs.VersionRecords.{is_index_too_large};
 ghost use Rattle.elf_hashes.specs.Found.{ArePlaces, in_order};
@@ -9,7 +9,7 @@ ghost use Rattle.elf_hashes.specs.Versions.{AreVersionsOf, versions_of};
 
 use elf_format::form::Form;
 use elf_format::version_id::VersionId;
-use elf_image_symbol_edits::SymbolsNow;
+use elf_image_symbols::SymbolsNow;
 use elf_tables::{TableFault, build_versym as build_versions};
 use std::alloc::{AllocError, Global};
 

@@ -28,4 +28,4 @@ pub use Rattle.elf_image.proofs.ListsLeft
 pub use Rattle.elf_image.proofs.NeedsKept
 -- loaded segments that were laid out anew: what is left of the program headers that were read, and where the loaded ones end
 pub use Rattle.elf_image.proofs.Unclaimed
-pub use Rattle.elf_image_symbol_edits.proofs.ForCallers.FrontLaws
+pub use Rattle.elf_image_symbols.proofs.ForCallers.FrontLaws

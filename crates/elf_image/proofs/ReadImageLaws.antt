@@ -17,7 +17,7 @@ use Rattle.elf_format.specs.Views.{NamedSymbol, named_symbols, names_of}
 use Rattle.elf_format.proofs.ForCallers.ImageShows.{image_from}
 use Rattle.elf_format.proofs.ForCallers.Accepted.{accepted}
 use Rattle.elf_image.specs.ReadImage.{AreDynamicSymbols, AreSectionsOf, AreStaticSymbols, AreSymbolsOf, HoldsParts, IsSectionOf, IsSymbolOf, ReadImagesHoldParts, section_with}
-use Rattle.elf_image_symbol_edits.specs.TableSymbols.{kept_as}
+use Rattle.elf_image_symbols.specs.TableSymbols.{kept_as}
 use Rattle.elf_format.proofs.ForCallers.Lengths.{length-versions_read}
 use Rattle.elf_format.proofs.ForCallers.ImageTexts.{image_made}
 

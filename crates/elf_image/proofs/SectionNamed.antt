@@ -8,7 +8,7 @@ use Rattle.patch_bytes.specs.Memory.{◌>>=◌}
 use Rattle.elf_format.specs.declared.constants.TheConstants.{SHN_LORESERVE, SHT_DYNSYM, SHT_GNU_HASH, SHT_HASH, SHT_SYMTAB}
 use Rattle.elf_format.specs.Image.{Image, ImageSection}
 use Rattle.elf_format.specs.Views.{NamedSymbol}
-use Rattle.elf_image_symbol_edits.specs.EditedList.{changed_at}
+use Rattle.elf_image_symbols.specs.EditedList.{changed_at}
 use Rattle.elf_image.specs.Complete.{has_section}
 use Rattle.elf_image.specs.Edited.{IsEdited, IsName, IsSameSection}
 use Rattle.elf_image.specs.Kept.{KeptSection, interpreter_number, kept_at_number, kept_of_type, kept_sections}

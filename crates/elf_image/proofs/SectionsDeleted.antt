@@ -14,8 +14,8 @@ use Rattle.elf_format.specs.File.{segment_of_type}
 use Rattle.elf_format.specs.Image.{Image, ImageSection, counted}
 use Rattle.elf_format.specs.Options.{first_there, is_one_of, is_some_and}
 use Rattle.elf_format.specs.Views.{NamedSymbol}
-use Rattle.elf_image_symbol_edits.specs.Changes.{no_symbol}
-use Rattle.elf_image_symbol_edits.specs.EditedList.{EditedList, without_numbers}
+use Rattle.elf_image_symbols.specs.Changes.{no_symbol}
+use Rattle.elf_image_symbols.specs.EditedList.{EditedList, without_numbers}
 use Rattle.elf_image.specs.Along.{goes_along, symbols_along}
 use Rattle.elf_image.specs.Complete.{AreRelocated, IsFirstThere, has_section}
 use Rattle.elf_image.specs.Deleted.{CanDelete, does_interpreter_go, is_left, numbers_left, parts_left, segments_left, with_deleted, without_sections}

@@ -8,7 +8,7 @@ use Rattle.std.proofs.lemmas.Bool.{eqb-true, false≢true}
 use Rattle.std.proofs.lemmas.Option.{get_or_from_slice_get, same_Some, slice_get-get_or, slice_get_within}
 use Rattle.elf_format.specs.Image.{Image, ImageSection, counted}
 use Rattle.elf_format.proofs.ForCallers.Lengths.{length-counted, slice_index-counted}
-use Rattle.elf_image_symbol_edits.specs.EditedList.{changed_at}
+use Rattle.elf_image_symbols.specs.EditedList.{changed_at}
 use Rattle.elf_image.specs.Deleted.{is_left, numbers_left, parts_left}
 use Rattle.elf_image.specs.Edited.{ArePicked, IsSameSection}
 use Rattle.elf_image.specs.Kept.{KeptSection, kept_at_number, kept_from, kept_of_type, kept_sections}

@@ -10,11 +10,11 @@ use Rattle.elf_format.specs.Options.{each}
 use Rattle.elf_format.specs.File.{Parts, section_of_type}
 use Rattle.elf_format.specs.Image.{Image, ImageSection, counted, dynamic_symbols_read, image_of, section_read, static_symbols}
 use Rattle.elf_format.specs.Views.{NamedSymbol}
-use Rattle.elf_image_symbol_edits.specs.EditedList.{EditedList}
+use Rattle.elf_image_symbols.specs.EditedList.{EditedList}
 use Rattle.elf_image.specs.ImageSteps.{NamedParts, named_in}
 use Rattle.elf_format.specs.Stages.{parts_read}
 use Rattle.elf_image.specs.Names.{are_same_texts}
-use Rattle.elf_image_symbol_edits.specs.declared.lists.SymbolLists.{SymbolLists}
+use Rattle.elf_image_symbols.specs.declared.lists.SymbolLists.{SymbolLists}
 use Rattle.elf_image.specs.SymbolsRead.{AreSymbolsOfImage, AreSymbolsOfFile, AreSymbolsRead, HasDynamicSymbolsOf, HasStaticSymbolsOf, lists_read}
 use Rattle.elf_image.proofs.ReadComplete.{same_texts-refl}
 use Rattle.elf_image.proofs.ReadImageLaws.{read_images_hold_parts}

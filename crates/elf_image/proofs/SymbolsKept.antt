@@ -11,9 +11,9 @@ use Rattle.elf_format.specs.declared.version_id.VersionId.{VersionId}
 use Rattle.elf_format.specs.File.{Parts, section_of_type}
 use Rattle.elf_format.specs.Image.{Image, image_of, symbols_of}
 use Rattle.elf_format.specs.Views.{NamedSymbol}
-use Rattle.elf_image_symbol_edits.specs.EditedList.{EditedList, IsEditedSymbol, as_global, changed_at, with_global_version, with_name}
-use Rattle.elf_image_symbol_edits.specs.EditedList.{ArePicked as AreEditedSymbols}
-use Rattle.elf_image_symbol_edits.specs.Changes.{no_symbol}
+use Rattle.elf_image_symbols.specs.EditedList.{EditedList, IsEditedSymbol, as_global, changed_at, with_global_version, with_name}
+use Rattle.elf_image_symbols.specs.EditedList.{ArePicked as AreEditedSymbols}
+use Rattle.elf_image_symbols.specs.Changes.{no_symbol}
 use Rattle.elf_image.specs.Complete.{AreRelocated, IsFirstThere, has_section}
 use Rattle.elf_image.specs.Edited.{ArePicked, IsEdited, IsName, IsSameDynamicSymbol, IsSameSymbol, IsVersionOf}
 use Rattle.elf_image.specs.Names.{are_names_changed, are_same_texts, texts_of_symbols}

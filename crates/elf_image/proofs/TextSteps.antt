@@ -17,7 +17,7 @@ use Rattle.elf_format.specs.declared.records.SymbolNumbers.{SymbolNumbers}
 use Rattle.elf_format.specs.Records.{symbols_in}
 use Rattle.elf_format.specs.Rules.{data_of, file_of, linked_texts, raw_entries, texts_of}
 use Rattle.elf_image.specs.TextSteps.{named_section}
-use Rattle.elf_image_symbol_edits.specs.TableSymbols.{table_symbols, versions_in}
+use Rattle.elf_image_symbols.specs.TableSymbols.{table_symbols, versions_in}
 use Rattle.elf_format.specs.Views.{named_symbols, names_of}
 
 -- ## Sections

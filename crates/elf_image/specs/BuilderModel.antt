@@ -3,7 +3,7 @@ use Rattle.std.specs.Prelude.{map}
 use Rattle.std.specs.Option.{option_map}
 use Rattle.elf_image.specs.declared.builder.Builder.TheInside.{Inside}
 use Rattle.elf_format.specs.Image.{Image}
-use Rattle.elf_image_symbol_edits.specs.EditedLists.{lists_at_read}
+use Rattle.elf_image_symbols.specs.EditedLists.{lists_at_read}
 use Rattle.elf_image.specs.Edited.{IsEdited}
 use Rattle.elf_image.specs.SymbolsRead.{AreSymbolsOfFile}
 use Rattle.elf_image.specs.ImageModel.{definition_model, entry_model, needs_model, section_model, segment_model, text_model}

@@ -10,7 +10,7 @@ use Rattle.elf_format.specs.File.{is_loaded, segment_of_type}
 use Rattle.elf_format.specs.Image.{Image, ImageSection, image_of}
 use Rattle.elf_format.specs.Versions.{VersionNeeds}
 use Rattle.elf_format.specs.Views.{NamedSymbol}
-use Rattle.elf_image_symbol_edits.specs.EditedList.{as_global}
+use Rattle.elf_image_symbols.specs.EditedList.{as_global}
 use Rattle.elf_image.specs.Complete.{IsComplete}
 use Rattle.elf_image_parts.specs.DynamicList.{IsListed, all_but_last, holds_nul, tables_of}
 use Rattle.elf_image_parts.specs.Segments.{added_stack, loads_end}

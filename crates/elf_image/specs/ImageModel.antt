@@ -4,4 +4,4 @@ pub use Rattle.elf_image_parts.specs.PartModels.{entry_model, section_model, seg
 -- the versions of a file
 pub use Rattle.elf_image_versions.specs.VersionsModel.{definition_model, name_model, needs_model}
 -- and its symbols
-pub use Rattle.elf_image_symbol_edits.specs.SymbolModel.{symbol_model}
+pub use Rattle.elf_image_symbols.specs.SymbolModel.{symbol_model}

@@ -41,8 +41,8 @@ pub mod ImageSteps
 pub mod Copies
 pub mod TextSteps
 pub use Rattle.elf_image_versions.specs.declared.version.VersionDef
-pub use Rattle.elf_image_symbol_edits.specs.FrontText
-pub use Rattle.elf_image_symbol_edits.specs.Loan
-pub use Rattle.elf_image_symbol_edits.specs.TableSymbols
+pub use Rattle.elf_image_symbols.specs.FrontText
+pub use Rattle.elf_image_symbols.specs.Loan
+pub use Rattle.elf_image_symbols.specs.TableSymbols
 pub use Rattle.elf_image_parts.specs.declared.section.Section
-pub use Rattle.elf_image_symbol_edits.specs.EditedList
+pub use Rattle.elf_image_symbols.specs.EditedList

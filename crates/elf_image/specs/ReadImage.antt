@@ -10,7 +10,7 @@ use Rattle.elf_format.specs.declared.records.SectionHeader.{SectionHeader}
 use Rattle.elf_format.specs.declared.records.SymbolNumbers.{SymbolNumbers}
 use Rattle.elf_format.specs.Rules.{ArePartsOf, MeetsRules, accepted_parts, data_of, dynamic_texts_of, file_of, texts_of}
 use Rattle.elf_format.specs.Views.{NamedSymbol}
-use Rattle.elf_image_symbol_edits.specs.TableSymbols.{kept_as}
+use Rattle.elf_image_symbols.specs.TableSymbols.{kept_as}
 
 -- a section header's numbers, what its bytes are and the bytes themselves, under a name
 abbrev pub section_with : Parts → SectionHeader → List ℕ → ImageSection

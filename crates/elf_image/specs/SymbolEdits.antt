@@ -2,7 +2,7 @@
 use Rattle.std.specs.Prelude.{ℕ, ◌≡◌, [], ◌∷◌, All, Contains, false, true}
 use Rattle.elf_format.specs.declared.constants.TheConstants.{SHT_DYNSYM, SHT_SYMTAB}
 use Rattle.elf_format.specs.Image.{Image}
-use Rattle.elf_image_symbol_edits.specs.EditedList.{EditedList}
+use Rattle.elf_image_symbols.specs.EditedList.{EditedList}
 use Rattle.elf_image.specs.Complete.{AreRelocated, IsFirstThere}
 use Rattle.elf_image.specs.Kept.{kept_sections}
 use Rattle.elf_image.specs.Names.{are_names_changed}

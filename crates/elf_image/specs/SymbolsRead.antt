@@ -5,7 +5,7 @@ use Rattle.elf_format.specs.declared.constants.TheConstants.{SHT_DYNSYM, SHT_SYM
 use Rattle.elf_format.specs.File.{Parts, section_of_type}
 use Rattle.elf_format.specs.Image.{Image, dynamic_symbols_read, image_of, static_symbols}
 use Rattle.elf_format.specs.Stages.{parts_read}
-use Rattle.elf_image_symbol_edits.specs.declared.lists.SymbolLists.{SymbolLists}
+use Rattle.elf_image_symbols.specs.declared.lists.SymbolLists.{SymbolLists}
 
 -- the lists of symbols of the file that has these parts
 unfoldable pub lists_read : Parts → Option SymbolLists

@@ -8,8 +8,8 @@ use elf_format::header::Header;
 use elf_image_parts::dynamic::Dynamic;
 use elf_image_parts::section::Section;
 use elf_image_parts::segment;
-use elf_image_symbol_edits::SymbolsNow;
-use elf_image_symbol_edits::lists::EditedLists;
+use elf_image_symbols::SymbolsNow;
+use elf_image_symbols::lists::EditedLists;
 use patch_bytes::{ByteOrder2, ByteString, Wide};
 use std::alloc::{AllocError, Global};
 use std::marker::Model;
@@ -54,7 +54,7 @@ impl<'data> Model for Builder<'data> {
 
 impl<'data> Builder<'data> {
     ghost use Rattle.elf_image.specs.Edited.{IsEdited};
-    ghost use Rattle.elf_image_symbol_edits.specs.Loan.{numbers_now, symbols_now};
+    ghost use Rattle.elf_image_symbols.specs.Loan.{numbers_now, symbols_now};
 
     /// The class (gABI, ELF Identification, `EI_CLASS`). Takes no memory.
     pub fn class(&self) -> Wide

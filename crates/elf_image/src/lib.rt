@@ -19,5 +19,5 @@ pub use elf_format::{
 pub use elf_image_parts::segments::loads_end;
 pub use elf_image_parts::spare::is_movable_type;
 pub use elf_image_parts::{Dynamic, Section, dynamic, section, segment};
-pub use elf_image_symbol_edits::{EditedSymbols, Symbol, Symbols, SymbolsNow};
+pub use elf_image_symbols::{EditedSymbols, Symbol, Symbols, SymbolsNow};
 pub use elf_image_versions::version::{self, VersionDef, VersionNeed, VersionNeedName, Versions};

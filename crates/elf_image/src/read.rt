@@ -3,7 +3,7 @@ ghost use Rattle.std.specs.Prelude.{◌≡◌, ◌≢◌, Ok, Err, MatchResult, 
 ghost use Rattle.elf_format.specs.Image.{counted as numbers_below, image_of, interpreter_read};
 ghost use Rattle.elf_image.specs.ImageSteps.{ImageRead, LinksRead, TextsRead, image_built, image_by_groups, image_gathered, listed_in, listed_model, named_in, named_model};
 ghost use Rattle.elf_image.specs.Edited.{IsEdited};
-ghost use Rattle.elf_image_symbol_edits.specs.EditedLists.{edits_of_none};
+ghost use Rattle.elf_image_symbols.specs.EditedLists.{edits_of_none};
 ghost use Rattle.elf_image.specs.ImageModel.{segment_model, text_model};
 ghost use Rattle.elf_image.specs.SymbolsRead.{AreSymbolsOfFile, AreSymbolsRead};
 ghost use Rattle.elf_format.specs.Answers.{Gives, borrowed};
@@ -32,7 +32,7 @@ use elf_format::view_fault::ViewFault;
 use elf_image_parts::dynamic::Dynamic;
 use elf_image_parts::section::Section;
 use elf_image_placement::placement::{check_placement, header_table_loaded};
-use elf_image_symbol_edits::lists::{EditedLists, SymbolLists};
+use elf_image_symbols::lists::{EditedLists, SymbolLists};
 use elf_image_versions::dynamic::{check_links, raw_entries};
 use elf_image_versions::headers::{Headers, read_headers};
 use elf_image_versions::kept::{definitions, needs};

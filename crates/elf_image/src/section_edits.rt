@@ -2,7 +2,7 @@
 ghost use Rattle.std.specs.Prelude.{◌≡◌, ◌<◌, filter, if◌then◌else◌, length, map, true, None as none};
 ghost use Rattle.std.specs.List.Sorted.{IsNonDecreasing};
 ghost use Rattle.elf_format.specs.Options.{is_one_of, is_some_and};
-ghost use Rattle.elf_image_symbol_edits.specs.EditedList.{IsName, changed_at};
+ghost use Rattle.elf_image_symbols.specs.EditedList.{IsName, changed_at};
 ghost use Rattle.elf_image.specs.Along.{symbols_along};
 ghost use Rattle.elf_image.specs.Deleted.{CanDelete, numbers_left, parts_left, segments_left, without_sections};
 ghost use Rattle.elf_image.specs.ImageModel.{section_model, segment_model, text_model};

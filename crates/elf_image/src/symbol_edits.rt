@@ -1,14 +1,14 @@
 //! The changes of symbols (gABI, Symbol Table; GNU symbol versioning).
 ghost use Rattle.std.specs.Prelude.{◌≡◌, ◌<◌, ◌↔◌, length, not, remove, slice_index, true, IsTrue};
 ghost use Rattle.elf_format.specs.declared.constants.TheConstants.{SHT_DYNSYM as DYNSYM, SHT_SYMTAB as SYMTAB};
-ghost use Rattle.elf_image_symbol_edits.specs.EditedList.{EditedList, IsName, changed_at, with_global_version, with_name};
+ghost use Rattle.elf_image_symbols.specs.EditedList.{EditedList, IsName, changed_at, with_global_version, with_name};
 ghost use Rattle.elf_image.specs.Names.{are_names_changed};
 ghost use Rattle.elf_image.specs.Renumbering.{can_renumber};
 ghost use Rattle.elf_image.specs.SymbolEdits.{IsPutFor, IsStaticPutFor, IsUnnamed, with_dynamic_symbols, with_static_symbols};
 ghost use Rattle.elf_image.specs.SymbolsRead.{HasDynamicSymbolsOf, HasStaticSymbolsOf, OfRead};
 
 use crate::builder::Builder;
-use elf_image_symbol_edits::EditedSymbols;
+use elf_image_symbols::EditedSymbols;
 use patch_bytes::ByteString;
 
 impl<'data> Builder<'data> {

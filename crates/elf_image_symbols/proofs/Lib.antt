@@ -2,4 +2,10 @@ pub mod NameSteps
 pub mod ShownSteps
 pub mod SeenSteps
 pub mod FrontLaws
+pub mod ListLaws
+pub mod RisingLaws
+pub mod ChangeLaws
+pub mod SymbolLaws
+pub mod EditedLaws
+pub mod SpreadLaws
 pub mod ForCallers

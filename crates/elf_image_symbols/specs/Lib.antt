@@ -2,6 +2,13 @@ pub mod TableSymbols
 pub mod SymbolModel
 pub mod SymbolsModel
 pub mod FrontText
+pub mod EditedList
+pub mod EditedLists
+pub mod Rising
+pub mod Changes
+pub mod EditedModel
+pub mod Loan
+pub mod Rows
 pub use Rattle.elf_format.specs.ByteString
 pub use Rattle.elf_format.specs.Memory
 pub use Rattle.elf_format.specs.Image

@@ -28,7 +28,7 @@ impl<'t> Texts<'t> {
     ghost use Rattle.patch_bytes.specs.ByteString.{bytes_of_each};
     ghost use Rattle.elf_layout_needs.specs.ImageModel.{definition_model, entry_model, name_model, needs_model, section_model};
     ghost use Rattle.elf_layout_needs.specs.Texts.{texts_of_definitions, texts_of_entries, texts_of_entry, texts_of_needs, texts_of_symbols};
-    ghost use Rattle.elf_image_symbol_edits.specs.Loan.{symbols_now};
+    ghost use Rattle.elf_image_symbols.specs.Loan.{symbols_now};
     ghost use Rattle.elf_layout_needs.specs.Staying.{staying_entries, unmarked_names, unmarked_needs, with_unmarked_names};
 
     // No text. Takes no memory.

@@ -8,7 +8,7 @@ ghost use Rattle.elf_format.specs.declared.constants.TheConstants.{SHT_REL as RE
 ghost use Rattle.elf_hashes.specs.Found.{is_found as may_be_found};
 ghost use Rattle.elf_image.specs.ImageModel.{needs_model, section_model};
 ghost use Rattle.elf_image.specs.Renumbering.{is_opaque as is_kept};
-ghost use Rattle.elf_image_symbol_edits.specs.Loan.{symbols_now};
+ghost use Rattle.elf_image_symbols.specs.Loan.{symbols_now};
 ghost use Rattle.elf_layout_needs.specs.Staying.{unmarked_needs};
 ghost use Rattle.elf_notes.specs.Notes.{AreLeft, is_hashed_anew as are_tables_made_anew, is_unread as are_numbers_kept, leaves_out as does_leave_out, old_needs, stands_in as stands_in_for, versioned_of};
 

@@ -4,7 +4,7 @@ ghost use Rattle.std.specs.HashSet.{keys};
 ghost use Rattle.elf_edits.specs.Changes.{has_name};
 ghost use Rattle.elf_edits.specs.Symbols.{names_behind_first};
 ghost use Rattle.elf_edits.specs.Texts.{is_among as among};
-ghost use Rattle.elf_image_symbol_edits.specs.Loan.{symbols_now};
+ghost use Rattle.elf_image_symbols.specs.Loan.{symbols_now};
 
 use crate::sets::{names_in, set_of, take_out};
 use elf_edits::symbols::is_named;

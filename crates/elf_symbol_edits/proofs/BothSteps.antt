@@ -4,7 +4,7 @@ use Rattle.std.specs.Prelude.{◌||◌, IfSome, if◌then◌else◌}
 use Rattle.std.specs.List.{list_any}
 use Rattle.elf_format.specs.Image.{Image}
 use Rattle.elf_format.specs.Views.{NamedSymbol}
-use Rattle.elf_image_symbol_edits.specs.EditedList.{EditedList}
+use Rattle.elf_image_symbols.specs.EditedList.{EditedList}
 use Rattle.elf_image.specs.Deleted.{numbers_left, parts_left}
 use Rattle.elf_image.specs.Edited.{IsEdited}
 use Rattle.elf_image.specs.Renumbering.{can_renumber}

@@ -9,8 +9,8 @@ use Rattle.elf_format.specs.declared.constants.TheConstants.{SHT_DYNSYM, SHT_SYM
 use Rattle.elf_format.specs.Image.{Image}
 use Rattle.elf_format.specs.Options.{is_one_of}
 use Rattle.elf_format.specs.Views.{NamedSymbol}
-use Rattle.elf_image_symbol_edits.specs.EditedList.{EditedList, without_numbers}
-use Rattle.elf_image_symbol_edits.specs.EditedList.{stays as symbol_stays}
+use Rattle.elf_image_symbols.specs.EditedList.{EditedList, without_numbers}
+use Rattle.elf_image_symbols.specs.EditedList.{stays as symbol_stays}
 use Rattle.elf_image.specs.Complete.{AreRelocated, IsFirstThere}
 use Rattle.elf_image.specs.Deleted.{numbers_left, parts_left}
 use Rattle.elf_image.specs.Edited.{IsEdited}

@@ -15,7 +15,7 @@ use Rattle.elf_edits.specs.Symbols.{behind_first, has_new_name}
 use Rattle.elf_edits.specs.Texts.{holds_nul, value_of}
 use Rattle.elf_image.specs.ImageModel.{text_model}
 use Rattle.elf_image.specs.SectionEdits.{with_section_name}
-use Rattle.elf_image_symbol_edits.specs.EditedList.{IsName, changed_at}
+use Rattle.elf_image_symbols.specs.EditedList.{IsName, changed_at}
 use Rattle.elf_symbol_edits.specs.Named.{is_section_renamed, renamed_section, section_name}
 use Rattle.elf_symbol_edits.specs.Steps.{AreNames, named_if, with_name_at, with_names, with_names_behind, with_section_names}
 use Rattle.elf_symbol_edits.specs.SymbolEdit.{RenameSections, edited, written}

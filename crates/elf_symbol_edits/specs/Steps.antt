@@ -6,7 +6,7 @@ use Rattle.elf_edits.specs.Texts.{has_some}
 use Rattle.elf_image.specs.Deleted.{without_sections}
 use Rattle.elf_image.specs.SectionEdits.{with_section_name}
 use Rattle.elf_image.specs.SymbolEdits.{IsPutFor, with_dynamic_symbols, with_static_symbols}
-use Rattle.elf_image_symbol_edits.specs.EditedList.{EditedList, IsName, changed_at}
+use Rattle.elf_image_symbols.specs.EditedList.{EditedList, IsName, changed_at}
 use Rattle.elf_symbol_edits.specs.SymbolEdit.{without_dynamic_symbols, without_symbols}
 
 -- ## Symbols

@@ -4,12 +4,12 @@ ghost use Rattle.std.specs.HashSet.{keys};
 ghost use Rattle.elf_edits.specs.Changes.{has_name};
 ghost use Rattle.elf_edits.specs.TextModel.{texts_model};
 ghost use Rattle.elf_edits.specs.Texts.{is_among};
-ghost use Rattle.elf_image_symbol_edits.specs.Loan.{numbers_now, symbols_now};
+ghost use Rattle.elf_image_symbols.specs.Loan.{numbers_now, symbols_now};
 ghost use Rattle.elf_symbol_edits.specs.Named.{named_sections, numbers_passing, section_name, symbol_name};
 
 use elf_edits::lookups::set_of;
 use elf_image::Builder;
-use elf_image_symbol_edits::SymbolsNow;
+use elf_image_symbols::SymbolsNow;
 use std::alloc::{AllocError, Global};
 use std::collections::HashSet;
 

@@ -5,7 +5,7 @@ ghost use Rattle.std.specs.List.Sorted.{IsNonDecreasing};
 ghost use Rattle.elf_edits.specs.Changes.{name_for};
 ghost use Rattle.elf_edits.specs.TextModel.{pairs_model};
 ghost use Rattle.elf_edits.specs.Texts.{holds_nul as nul_in, value_of};
-ghost use Rattle.elf_image_symbol_edits.specs.EditedList.{IsName};
+ghost use Rattle.elf_image_symbols.specs.EditedList.{IsName};
 ghost use Rattle.elf_image.specs.Along.{symbols_along};
 ghost use Rattle.elf_image.specs.Deleted.{CanDelete, without_sections};
 ghost use Rattle.elf_image.specs.ImageModel.{section_model, text_model};

@@ -8,7 +8,7 @@ ghost use Rattle.elf_edits.specs.Cause.{fixed_names};
 ghost use Rattle.elf_edits.specs.Symbols.{has_new_name};
 ghost use Rattle.elf_edits.specs.TextModel.{pairs_model};
 ghost use Rattle.elf_edits.specs.Texts.{has_some, holds_nul as nul_in};
-ghost use Rattle.elf_image_symbol_edits.specs.EditedList.{without_numbers};
+ghost use Rattle.elf_image_symbols.specs.EditedList.{without_numbers};
 ghost use Rattle.elf_image.specs.Relocated.{is_symbol_used as are_symbols_used};
 ghost use Rattle.elf_image.specs.Renumbering.{can_renumber as can_image_renumber};
 ghost use Rattle.elf_image.specs.Staying.{staying, table_number as number_of_table};
@@ -19,7 +19,7 @@ ghost use Rattle.elf_symbol_edits.specs.SymbolEdit.{RenameAllSymbols, RenameSymb
 
 use elf_edits::symbols::renamed;
 use elf_image::Builder;
-use elf_image_symbol_edits::EditedSymbols;
+use elf_image_symbols::EditedSymbols;
 use std::alloc::{AllocError, Global};
 
 // Puts symbols for a link editor in place, where there are some, and tells whether there are.

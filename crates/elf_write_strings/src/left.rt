@@ -5,7 +5,7 @@ ghost use Rattle.std.specs.Str.{bytes_eq};
 ghost use Rattle.elf_format.specs.Options.{is_some_and};
 ghost use Rattle.elf_image.specs.ImageModel.{needs_model, section_model};
 ghost use Rattle.elf_image.specs.Names.{are_same_texts};
-ghost use Rattle.elf_image_symbol_edits.specs.Loan.{numbers_now, symbols_now};
+ghost use Rattle.elf_image_symbols.specs.Loan.{numbers_now, symbols_now};
 ghost use Rattle.elf_layout_plan.specs.Texts.{texts_of_symbols};
 ghost use Rattle.elf_write_spec.specs.Ready.{IsEditedReady};
 ghost use Rattle.elf_write_strings.specs.LeftSteps.{is_text_left};
@@ -16,7 +16,7 @@ use crate::texts::{are_left, list_texts};
 use crate::told::has_texts_in;
 use elf_image::constants::{SHT_DYNAMIC, SHT_DYNSYM, SHT_GNU_VERNEED, SHT_SYMTAB};
 use elf_image::{Builder, Section, VersionNeed};
-use elf_image_symbol_edits::SymbolsNow;
+use elf_image_symbols::SymbolsNow;
 use elf_layout_sizes::StayingNeeds;
 use std::alloc::{AllocError, Global};
 

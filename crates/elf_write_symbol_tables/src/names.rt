@@ -1,10 +1,10 @@
 //! Where the names of symbols stand in a string table that is told anew.
 ghost use Rattle.std.specs.Prelude.{◌≡◌, ◌<◌, Some, length, option_map};
 ghost use Rattle.std.specs.List.{slice_get};
-ghost use Rattle.elf_image_symbol_edits.specs.Loan.{symbols_now};
+ghost use Rattle.elf_image_symbols.specs.Loan.{symbols_now};
 ghost use Rattle.elf_write_symbol_tables.specs.NamePlaces.{TellsNames, begins_empty as begins_empty_text, place_in, place_of_named};
 
-use elf_image_symbol_edits::SymbolsNow;
+use elf_image_symbols::SymbolsNow;
 use elf_tables::Finished;
 
 // Whether the empty text stands at 0 of a table.

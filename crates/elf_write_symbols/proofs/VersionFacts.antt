@@ -15,7 +15,7 @@ use Rattle.elf_format.specs.Views.{NamedSymbol}
 use Rattle.elf_hashes.specs.Found.{in_order}
 use Rattle.elf_hashes.specs.Versions.{AreVersionsOf, versions_of}
 use Rattle.elf_image.specs.Edited.{IsVersionOf}
-use Rattle.elf_image_symbol_edits.specs.EditedList.{as_global}
+use Rattle.elf_image_symbols.specs.EditedList.{as_global}
 use Rattle.elf_write_spec.specs.VersionRecords.{is_index_too_large}
 use Rattle.elf_write_spec.specs.Ready.{IsEditedReady, IsSectionOfType}
 use Rattle.elf_write_spec.proofs.ForCallers.VersionBytes.{versions_were}

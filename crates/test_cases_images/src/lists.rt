@@ -1,6 +1,6 @@
 //! The lists that an image shows, a line for each item.
 ghost use Rattle.std.specs.Prelude.{◌<◌, length};
-ghost use Rattle.elf_image_symbol_edits.specs.Loan.{symbols_now};
+ghost use Rattle.elf_image_symbols.specs.Loan.{symbols_now};
 
 use elf_image::{Dynamic, Segment, Symbol, SymbolsNow, VersionDef, VersionNeed, VersionNeedName};
 use std::io;

@@ -1,6 +1,6 @@
 ghost use Rattle.std.specs.Prelude.{◌≤◌, ◌^◌, IfOk, length, map};
 ghost use Rattle.elf_image.specs.ImageModel.{entry_model, section_model};
-ghost use Rattle.elf_image_symbol_edits.specs.Loan.{symbols_now};
+ghost use Rattle.elf_image_symbols.specs.Loan.{symbols_now};
 ghost use Rattle.elf_layout_plan.specs.Texts.{texts_of_entries, texts_of_symbols};
 ghost use Rattle.elf_write_strings.specs.PlacedTexts.{names_of_sections, AreSectionsAt, AreSymbolsAt, EntriesStand, EntryStands, TellsAll, TellsEntry};
 ghost use Rattle.elf_write_strings.specs.VersionPlaces.{HasMore};
@@ -8,7 +8,7 @@ ghost use Rattle.elf_write_strings.specs.VersionPlaces.{HasMore};
 use crate::versions::place_text;
 use elf_format::records::{EntryNumbers, SectionHeader, SymbolNumbers};
 use elf_image::{Dynamic, Section};
-use elf_image_symbol_edits::SymbolsNow;
+use elf_image_symbols::SymbolsNow;
 use elf_tables::Finished;
 use std::alloc::AllocError;
 

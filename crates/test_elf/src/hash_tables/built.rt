@@ -1,6 +1,6 @@
 //! Symbols, and tables of them.
 ghost use Rattle.std.specs.Prelude.{◌↔◌, All, is_some, IsTrue};
-ghost use Rattle.elf_image_symbol_edits.specs.Loan.{symbols_now};
+ghost use Rattle.elf_image_symbols.specs.Loan.{symbols_now};
 ghost use Rattle.elf_hashes.specs.Found.{ArePlaces};
 
 use elf_format::form::Form;
@@ -8,7 +8,7 @@ use elf_format::{ByteOrder2, Wide};
 use elf_hashes::{
     GnuSizes, TableFault, build_gnu_hash, build_hash, build_versym, gnu_hashes, order_for_gnu_hash,
 };
-use elf_image_symbol_edits::{EditedSymbols, Symbols, SymbolsNow};
+use elf_image_symbols::{EditedSymbols, Symbols, SymbolsNow};
 use std::alloc::Global;
 
 pub(crate) const LITTLE_64: Form = Form {

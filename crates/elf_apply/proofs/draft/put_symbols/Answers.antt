@@ -1,7 +1,7 @@
 -- The image has other names than were read only where they can change.
 use Rattle.std.proofs.Common.{Option, subst}
 use Rattle.std.specs.Prelude.{IfSome}
-use Rattle.elf_image_symbol_edits.specs.EditedList.{EditedList}
+use Rattle.elf_image_symbols.specs.EditedList.{EditedList}
 use Rattle.elf_apply.specs.Drafted.{AreSymbolsFor}
 use Rattle.elf_apply.proofs.DraftLaws.{can_put_symbols}
 use Rattle.elf_apply.proofs.draft.put_symbols.Goals as goal

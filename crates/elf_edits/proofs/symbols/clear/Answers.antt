@@ -1,5 +1,5 @@
 -- Where there is no version to clear, the symbol is as it was.
-use Rattle.elf_image_symbol_edits.specs.Loan.{symbols_now}
+use Rattle.elf_image_symbols.specs.Loan.{symbols_now}
 use Rattle.elf_edits.proofs.SymbolSteps.{none_cleared, one_cleared}
 use Rattle.elf_edits.proofs.symbols.clear.Goals as goal
 

@@ -1,6 +1,6 @@
 -- The names are compared the other way round.
 use Rattle.std.proofs.Common.{◌∙◌}
-use Rattle.elf_image_symbol_edits.specs.Loan.{symbols_now}
+use Rattle.elf_image_symbols.specs.Loan.{symbols_now}
 use Rattle.elf_edits.proofs.SymbolSteps.{named_among}
 use Rattle.elf_edits.proofs.symbols.is_named.Goals as goal
 

@@ -1,8 +1,8 @@
 -- The map is asked for the symbol's name.
 use Rattle.std.proofs.Common.{◌∙◌, List, ap, subst, sym, ℕ}
 use Rattle.patch_bytes.specs.ByteString.{StringValue}
-use Rattle.elf_image_symbol_edits.specs.EditedList.{IsName}
-use Rattle.elf_image_symbol_edits.specs.Loan.{symbols_now}
+use Rattle.elf_image_symbols.specs.EditedList.{IsName}
+use Rattle.elf_image_symbols.specs.Loan.{symbols_now}
 use Rattle.elf_edits.proofs.SymbolSteps.{named_there, none_renamed, one_renamed}
 use Rattle.elf_edits.proofs.symbols.rename.Goals as goal
 

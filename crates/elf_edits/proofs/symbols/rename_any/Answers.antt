@@ -2,7 +2,7 @@
 use Rattle.std.proofs.Common.{◌∙◌, List, ap, ℕ}
 use Rattle.std.specs.List.{list_any}
 use Rattle.elf_image.specs.Views.{NamedSymbol}
-use Rattle.elf_image_symbol_edits.specs.Loan.{symbols_now}
+use Rattle.elf_image_symbols.specs.Loan.{symbols_now}
 use Rattle.elf_edits.specs.Symbols.{has_new_name, names_behind_first}
 use Rattle.elf_edits.specs.TextModel.{pairs_model}
 use Rattle.elf_edits.proofs.SymbolSteps.{one_pair, pair_found_names, same_found_names}

@@ -1,8 +1,8 @@
 -- The name is compared with that of the symbol.
 use Rattle.std.proofs.Common.{◌∙◌, List, ap, subst, sym, ℕ}
 use Rattle.patch_bytes.specs.ByteString.{StringValue}
-use Rattle.elf_image_symbol_edits.specs.EditedList.{IsName}
-use Rattle.elf_image_symbol_edits.specs.Loan.{symbols_now}
+use Rattle.elf_image_symbols.specs.EditedList.{IsName}
+use Rattle.elf_image_symbols.specs.Loan.{symbols_now}
 use Rattle.elf_edits.proofs.SymbolSteps.{no_one_renamed, the_one_renamed}
 use Rattle.elf_edits.proofs.symbols.rename_one.Goals as goal
 

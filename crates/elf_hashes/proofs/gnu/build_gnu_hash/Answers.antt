@@ -1,7 +1,7 @@
 -- There are as many hashes as symbols.
 use Rattle.std.proofs.Common.{arith}
 use Rattle.elf_format.specs.Hashes.{gnu_hash}
-use Rattle.elf_image_symbol_edits.specs.Loan.{symbols_now}
+use Rattle.elf_image_symbols.specs.Loan.{symbols_now}
 use Rattle.elf_hashes.proofs.HashSteps.{length-made}
 use Rattle.elf_hashes.proofs.gnu.build_gnu_hash.Goals as goal
 

@@ -4,7 +4,7 @@ use Rattle.std.specs.Prelude.{if◌then◌else◌, option_map, slice_get}
 use Rattle.std.proofs.lemmas.Option.{same_Some}
 use Rattle.elf_format.specs.Views.{NamedSymbol}
 use Rattle.elf_image_symbols.specs.FrontText.{front_text}
-use Rattle.elf_image_symbol_edits.specs.Loan.{symbols_now}
+use Rattle.elf_image_symbols.specs.Loan.{symbols_now}
 use Rattle.elf_hashes.specs.Found.{found_name, is_found}
 use Rattle.elf_hashes.specs.Steps.{hash_by}
 use Rattle.elf_hashes.proofs.HashSteps.{with_part}

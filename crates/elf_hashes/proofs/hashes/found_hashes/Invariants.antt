@@ -1,6 +1,6 @@
 use Rattle.std.proofs.Common.{◌≡◌, map, take}
 use Rattle.std.specs.Prelude.{option_map}
-use Rattle.elf_image_symbol_edits.specs.Loan.{symbols_now}
+use Rattle.elf_image_symbols.specs.Loan.{symbols_now}
 use Rattle.elf_hashes.specs.Found.{found_name}
 use Rattle.elf_hashes.specs.Steps.{hash_by}
 use Rattle.elf_hashes.proofs.hashes.found_hashes.Given as goal

@@ -2,7 +2,7 @@
 use Rattle.std.proofs.Common.{◌/◌, Some, ap, ◌∙◌}
 use Rattle.std.specs.Prelude.{◌==◌, option_map, slice_get}
 use Rattle.elf_format.specs.declared.records.SymbolNumbers.{SymbolNumbers}
-use Rattle.elf_image_symbol_edits.specs.Loan.{symbols_now}
+use Rattle.elf_image_symbols.specs.Loan.{symbols_now}
 use Rattle.elf_image_symbols.specs.TableSymbols.{symbol_with}
 use Rattle.elf_hashes.specs.Found.{is_local}
 use Rattle.elf_hashes.proofs.HashSteps.{with_part}

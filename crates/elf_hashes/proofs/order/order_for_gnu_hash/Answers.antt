@@ -1,7 +1,7 @@
 -- The order is whole.
 use Rattle.std.proofs.Common.{◌≡◌, ℕ, ◌<◌, List, Option, length, ap, ◌∙◌, arith}
 use Rattle.elf_format.specs.Hashes.{gnu_hash}
-use Rattle.elf_image_symbol_edits.specs.Loan.{symbols_now}
+use Rattle.elf_image_symbols.specs.Loan.{symbols_now}
 use Rattle.elf_hashes.specs.Buckets.{chains, hashes_of, heads, in_buckets}
 use Rattle.elf_hashes.specs.Found.{hashed_names}
 use Rattle.elf_hashes.proofs.HashSteps.{own-behind}

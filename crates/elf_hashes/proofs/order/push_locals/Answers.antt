@@ -1,7 +1,7 @@
 -- One symbol's position more, or none.
 use Rattle.std.proofs.Common.{◌++◌, drop, ◌∙◌}
 use Rattle.std.specs.Prelude.{slice_get}
-use Rattle.elf_image_symbol_edits.specs.Loan.{symbols_now}
+use Rattle.elf_image_symbols.specs.Loan.{symbols_now}
 use Rattle.elf_hashes.specs.Found.{is_local}
 use Rattle.elf_hashes.specs.Order.{places_where}
 use Rattle.elf_hashes.proofs.OrderSteps.{places-no, places-yes}

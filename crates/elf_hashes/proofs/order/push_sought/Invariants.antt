@@ -1,5 +1,5 @@
 use Rattle.std.proofs.Common.{◌≡◌, ◌++◌, drop}
-use Rattle.elf_image_symbol_edits.specs.Loan.{symbols_now}
+use Rattle.elf_image_symbols.specs.Loan.{symbols_now}
 use Rattle.elf_hashes.specs.Found.{is_sought}
 use Rattle.elf_hashes.specs.Order.{places_where}
 use Rattle.elf_hashes.proofs.order.push_sought.Given as goal

@@ -2,7 +2,7 @@
 use Rattle.std.proofs.Common.{◌≡◌, List, ap, sym, ◌∙◌}
 use Rattle.std.specs.List.{list_any}
 use Rattle.elf_format.specs.declared.version_id.VersionId.{VersionId}
-use Rattle.elf_image_symbol_edits.specs.Loan.{symbols_now}
+use Rattle.elf_image_symbols.specs.Loan.{symbols_now}
 use Rattle.elf_tables.specs.VersionRecords.{is_index_too_large}
 use Rattle.elf_hashes.specs.Found.{in_order}
 use Rattle.elf_hashes.specs.Versions.{versions_of}

@@ -1,7 +1,7 @@
 -- One symbol's version more, or none.
 use Rattle.std.proofs.Common.{arith}
 use Rattle.elf_image_symbols.specs.SymbolModel.{symbol_model}
-use Rattle.elf_image_symbol_edits.specs.Loan.{symbols_now}
+use Rattle.elf_image_symbols.specs.Loan.{symbols_now}
 use Rattle.elf_hashes.proofs.VersionSteps.{versions-none, versions-some}
 use Rattle.elf_hashes.proofs.versions.versions.Goals as goal
 use Rattle.elf_hashes.proofs.versions.versions.Goals.{in-Some+in_ok-push-in-Some, in-None}

@@ -1,5 +1,5 @@
 use Rattle.std.proofs.Common.{◌≡◌, take}
-use Rattle.elf_image_symbol_edits.specs.Loan.{symbols_now}
+use Rattle.elf_image_symbols.specs.Loan.{symbols_now}
 use Rattle.elf_hashes.specs.Found.{in_order}
 use Rattle.elf_hashes.specs.Versions.{versions_of}
 use Rattle.elf_hashes.proofs.versions.versions.Given as goal

@@ -1,7 +1,7 @@
 -- A number that is found is one of them, and no other.
 use Rattle.std.proofs.Common.{◌∙◌}
 use Rattle.std.proofs.lemmas.List.Sorted.{searched}
-use Rattle.elf_image_symbol_edits.proofs.ListLaws.{is_one_of-searched}
+use Rattle.elf_image_symbols.proofs.ListLaws.{is_one_of-searched}
 use Rattle.elf_image.proofs.section_edits.contains.Goals as goal
 
 pub returns : goal.returns

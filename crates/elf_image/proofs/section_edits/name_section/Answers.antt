@@ -1,7 +1,7 @@
 -- The section with the name is put in its place.
 use Rattle.std.proofs.Common.{◌∙◌, ap, arith, map, sym}
 use Rattle.std.proofs.lemmas.List.{get_or-map, length-map, map-set}
-use Rattle.elf_image_symbol_edits.proofs.ListLaws.{changed_at-set}
+use Rattle.elf_image_symbols.proofs.ListLaws.{changed_at-set}
 use Rattle.elf_image.specs.ImageModel.{section_model}
 use Rattle.elf_image.specs.SectionEdits.{with_section_name}
 use Rattle.elf_image.proofs.section_edits.name_section.Goals as goal

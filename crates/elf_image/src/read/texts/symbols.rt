@@ -11,8 +11,8 @@ ghost use Rattle.elf_image.specs.SymbolsRead.{AreSymbolsRead, lists_read};
 use elf_format::constants::{SHT_DYNSYM, SHT_GNU_VERSYM, SHT_SYMTAB};
 use elf_format::lookups::{bytes_of, linked_section, section_bytes, section_of_type};
 use elf_format::records::EntryNumbers;
-use elf_image_symbol_edits::Symbols;
-use elf_image_symbol_edits::lists::SymbolLists;
+use elf_image_symbols::Symbols;
+use elf_image_symbols::lists::SymbolLists;
 use elf_image_versions::headers::Headers;
 use elf_image_versions::texts::dynamic_texts;
 

@@ -1,7 +1,7 @@
 use Rattle.std.proofs.Common.{◌≡◌, drop, map}
 use Rattle.std.specs.List.{list_any}
 use Rattle.elf_image.specs.ImageModel.{section_model}
-use Rattle.elf_image_symbol_edits.specs.Loan.{symbols_now}
+use Rattle.elf_image_symbols.specs.Loan.{symbols_now}
 use Rattle.elf_notes.specs.Notes.{leaves_out}
 use Rattle.elf_notes.proofs.notes.any_leaves_out.Given as goal
 

@@ -2,7 +2,7 @@
 use Rattle.std.proofs.Common.{◌∙◌, drop}
 use Rattle.std.specs.Prelude.{slice_get}
 use Rattle.std.specs.List.{list_any}
-use Rattle.elf_image_symbol_edits.specs.Loan.{symbols_now}
+use Rattle.elf_image_symbols.specs.Loan.{symbols_now}
 use Rattle.elf_notes.specs.Notes.{stands_in}
 use Rattle.elf_notes.proofs.SymbolSteps.{any_ends, any_goes, with_part}
 use Rattle.elf_notes.proofs.notes.do_any_stand_in.Goals as goal

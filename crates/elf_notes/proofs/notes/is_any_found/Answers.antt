@@ -3,7 +3,7 @@ use Rattle.std.proofs.Common.{◌∙◌, arith, drop, take}
 use Rattle.std.specs.Prelude.{slice_get}
 use Rattle.std.specs.List.{list_any}
 use Rattle.elf_hashes.specs.Found.{is_found}
-use Rattle.elf_image_symbol_edits.specs.Loan.{symbols_now}
+use Rattle.elf_image_symbols.specs.Loan.{symbols_now}
 use Rattle.elf_notes.proofs.SymbolSteps.{any_ends, any_goes, with_part, within}
 use Rattle.elf_notes.proofs.notes.is_any_found.Goals as goal
 

@@ -1,7 +1,7 @@
 use Rattle.std.proofs.Common.{◌≡◌, drop, take}
 use Rattle.std.specs.List.{list_any}
 use Rattle.elf_hashes.specs.Found.{is_found}
-use Rattle.elf_image_symbol_edits.specs.Loan.{symbols_now}
+use Rattle.elf_image_symbols.specs.Loan.{symbols_now}
 use Rattle.elf_notes.proofs.notes.is_any_found.Given as goal
 
 -- none so far is found

@@ -5,7 +5,7 @@ use Rattle.std.specs.HashSet.{keys}
 use Rattle.elf_edits.specs.Changes.{has_name}
 use Rattle.elf_edits.specs.Symbols.{names_behind_first}
 use Rattle.elf_edits.specs.Texts.{is_among}
-use Rattle.elf_image_symbol_edits.specs.Loan.{symbols_now}
+use Rattle.elf_image_symbols.specs.Loan.{symbols_now}
 use Rattle.elf_notes.proofs.NameSteps.{all_there, take_out_last}
 use Rattle.elf_notes.proofs.SymbolSteps.{named_more, none_has, none_left, none_named}
 use Rattle.elf_notes.proofs.symbols.leave_out_symbols.Goals as goal

@@ -4,7 +4,7 @@ use Rattle.std.specs.HashSet.{keys}
 use Rattle.elf_edits.specs.Changes.{has_name}
 use Rattle.elf_edits.specs.Symbols.{names_behind_first}
 use Rattle.elf_edits.specs.Texts.{is_among}
-use Rattle.elf_image_symbol_edits.specs.Loan.{symbols_now}
+use Rattle.elf_image_symbols.specs.Loan.{symbols_now}
 use Rattle.elf_notes.proofs.symbols.leave_out_symbols.Given as goal
 
 -- the set is without the names of the symbols so far

@@ -5,7 +5,7 @@ use Rattle.std.specs.HashSet.{keys}
 use Rattle.std.proofs.lemmas.Result.{IfOk-weaker}
 use Rattle.elf_edits.specs.Symbols.{names_behind_first}
 use Rattle.elf_edits.specs.Texts.{is_among}
-use Rattle.elf_image_symbol_edits.specs.Loan.{symbols_now}
+use Rattle.elf_image_symbols.specs.Loan.{symbols_now}
 use Rattle.elf_notes.specs.Notes.{Name}
 use Rattle.elf_notes.proofs.NameSteps.{two_left_out}
 use Rattle.elf_notes.proofs.symbols.unmatched_symbols_of.Goals as goal

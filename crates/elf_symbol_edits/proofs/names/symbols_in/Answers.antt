@@ -5,7 +5,7 @@ use Rattle.std.specs.HashSet.{keys}
 use Rattle.std.specs.List.{slice_get, zip}
 use Rattle.elf_edits.specs.Changes.{has_name}
 use Rattle.elf_format.specs.Views.{NamedSymbol}
-use Rattle.elf_image_symbol_edits.specs.Loan.{numbers_now, symbols_now}
+use Rattle.elf_image_symbols.specs.Loan.{numbers_now, symbols_now}
 use Rattle.elf_edits.proofs.ForCallers.{keeps_all, keeps_none, keeps_one}
 use Rattle.elf_symbol_edits.specs.Named.{numbers_passing, symbol_name}
 use Rattle.elf_symbol_edits.proofs.NumberSteps.{part_there, zip_short, zip_there}

@@ -3,7 +3,7 @@ use Rattle.std.specs.Prelude.{◌&&◌, ◌==◌, filter, not}
 use Rattle.std.specs.HashSet.{keys}
 use Rattle.std.specs.List.{zip}
 use Rattle.elf_edits.specs.Changes.{has_name}
-use Rattle.elf_image_symbol_edits.specs.Loan.{numbers_now, symbols_now}
+use Rattle.elf_image_symbols.specs.Loan.{numbers_now, symbols_now}
 use Rattle.elf_symbol_edits.specs.Named.{numbers_passing, symbol_name}
 use Rattle.elf_symbol_edits.proofs.names.symbols_in.Given as goal
 

@@ -6,7 +6,7 @@ use Rattle.elf_edits.specs.Changes.{has_name}
 use Rattle.elf_edits.specs.TextModel.{texts_model}
 use Rattle.elf_edits.specs.Texts.{is_among}
 use Rattle.elf_format.specs.Views.{NamedSymbol}
-use Rattle.elf_image_symbol_edits.specs.Loan.{numbers_now, symbols_now}
+use Rattle.elf_image_symbols.specs.Loan.{numbers_now, symbols_now}
 use Rattle.elf_symbol_edits.specs.Named.{symbol_name}
 use Rattle.elf_symbol_edits.proofs.NumberSteps.{passing_same}
 use Rattle.elf_symbol_edits.proofs.names.symbols_with.Goals as goal

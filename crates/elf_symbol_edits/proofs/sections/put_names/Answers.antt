@@ -4,7 +4,7 @@ use Rattle.std.proofs.lemmas.List.{map-append}
 use Rattle.patch_bytes.specs.ByteString.{StringValue}
 use Rattle.elf_image.specs.ImageModel.{text_model}
 use Rattle.std.specs.Prelude.{IfSome}
-use Rattle.elf_image_symbol_edits.specs.EditedList.{IsName}
+use Rattle.elf_image_symbols.specs.EditedList.{IsName}
 use Rattle.elf_symbol_edits.specs.Steps.{AreNames, with_section_names}
 use Rattle.elf_symbol_edits.proofs.RenameSteps.{All-pushed, as_many, name_put, one_less, place_left}
 use Rattle.elf_symbol_edits.proofs.sections.put_names.Goals as goal

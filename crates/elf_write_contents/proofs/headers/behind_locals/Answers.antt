@@ -2,7 +2,7 @@ use Rattle.std.proofs.Common.{◌∙◌, List, true, false, refl, sym}
 use Rattle.elf_format.specs.Views.{NamedSymbol}
 use Rattle.elf_write_symbol_tables.proofs.ForCallers.SymbolSteps.{with_part}
 use Rattle.elf_write_symbol_tables.specs.Found.{is_local}
-use Rattle.elf_image_symbol_edits.specs.Loan.{symbols_now}
+use Rattle.elf_image_symbols.specs.Loan.{symbols_now}
 use Rattle.elf_write_spec.specs.Headers.{behind_locals as behind_all}
 use Rattle.std.specs.Prelude.{slice_get}
 use Rattle.elf_write_contents.proofs.HeadersLists.{behind_more}

@@ -1,5 +1,5 @@
 use Rattle.std.proofs.Common.{◌≡◌, take}
-use Rattle.elf_image_symbol_edits.specs.Loan.{symbols_now}
+use Rattle.elf_image_symbols.specs.Loan.{symbols_now}
 use Rattle.elf_write_spec.specs.Headers.{behind_locals as behind_all}
 use Rattle.elf_write_contents.proofs.headers.behind_locals.Given as goal
 

@@ -4,7 +4,7 @@ use Rattle.std.specs.Prelude.{◌==◌, option_map, slice_get}
 use Rattle.elf_format.specs.declared.records.SymbolNumbers.{SymbolNumbers}
 use Rattle.elf_write_symbol_tables.proofs.ForCallers.SymbolSteps.{with_part}
 use Rattle.elf_write_symbol_tables.specs.Found.{is_local}
-use Rattle.elf_image_symbol_edits.specs.Loan.{symbols_now}
+use Rattle.elf_image_symbols.specs.Loan.{symbols_now}
 use Rattle.elf_write_symbol_tables.specs.TableSymbols.{symbol_with}
 use Rattle.elf_write_contents.proofs.headers.is_local.Goals as goal
 

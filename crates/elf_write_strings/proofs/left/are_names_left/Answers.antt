@@ -1,7 +1,7 @@
 use Rattle.std.proofs.Common.{◌≡◌, ◌∙◌, List, length, sym, arith}
 use Rattle.std.proofs.lemmas.List.{length-map}
 use Rattle.elf_format.specs.Views.{NamedSymbol}
-use Rattle.elf_image_symbol_edits.specs.Loan.{numbers_now, symbols_now}
+use Rattle.elf_image_symbols.specs.Loan.{numbers_now, symbols_now}
 use Rattle.elf_layout_plan.specs.Texts.{texts_of_symbols}
 use Rattle.elf_write_strings.specs.WrittenStrings.{are_texts_left}
 use Rattle.elf_write_strings.proofs.NamesLeft.{left_all, left_on, left_out}

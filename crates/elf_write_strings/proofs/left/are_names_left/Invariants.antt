@@ -1,5 +1,5 @@
 use Rattle.std.proofs.Common.{◌≡◌, drop}
-use Rattle.elf_image_symbol_edits.specs.Loan.{numbers_now, symbols_now}
+use Rattle.elf_image_symbols.specs.Loan.{numbers_now, symbols_now}
 use Rattle.elf_layout_plan.specs.Texts.{texts_of_symbols}
 use Rattle.elf_write_strings.specs.WrittenStrings.{are_texts_left}
 use Rattle.elf_write_strings.proofs.left.are_names_left.Given as goal

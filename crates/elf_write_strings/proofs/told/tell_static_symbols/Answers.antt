@@ -3,7 +3,7 @@ use Rattle.std.proofs.Common.{◌∙◌, List, ℕ, sym, subst}
 use Rattle.elf_format.specs.declared.constants.TheConstants.{SHT_SYMTAB}
 use Rattle.elf_format.specs.declared.records.SymbolNumbers.{SymbolNumbers}
 use Rattle.elf_format.specs.Views.{NamedSymbol}
-use Rattle.elf_image_symbol_edits.specs.Loan.{symbols_now}
+use Rattle.elf_image_symbols.specs.Loan.{symbols_now}
 use Rattle.elf_layout_plan.specs.Texts.{texts_of_symbols}
 use Rattle.elf_write_strings.specs.PlacedTexts.{AreSymbolsAt}
 use Rattle.elf_write_strings.specs.VersionPlaces.{content_in}

@@ -1,6 +1,6 @@
 -- The symbol is there with its number, and its name has the next place in the order of the table.
 use Rattle.elf_image.specs.ImageModel.{section_model}
-use Rattle.elf_image_symbol_edits.specs.Loan.{numbers_now, symbols_now}
+use Rattle.elf_image_symbols.specs.Loan.{numbers_now, symbols_now}
 use Rattle.elf_write_symbol_tables.proofs.RecordsGiven.{dynamic_ordered_at, dynamic_within}
 use Rattle.elf_write_symbol_tables.proofs.dynamic.ordered_record.Goals as goal
 

@@ -1,4 +1,4 @@
-use Rattle.elf_image_symbol_edits.specs.Loan.{symbols_now}
+use Rattle.elf_image_symbols.specs.Loan.{symbols_now}
 use Rattle.elf_write_symbol_tables.proofs.SectionsKept.{kept_here}
 use Rattle.elf_write_symbol_tables.proofs.statics.is_section_kept.Goals as goal
 

@@ -1,6 +1,6 @@
 -- The symbol is there with its number, and with the name that it had at read.
 use Rattle.elf_image.specs.ImageModel.{section_model}
-use Rattle.elf_image_symbol_edits.specs.Loan.{numbers_now}
+use Rattle.elf_image_symbols.specs.Loan.{numbers_now}
 use Rattle.elf_write_symbol_tables.proofs.RecordsGiven.{static_named_at, static_within}
 use Rattle.elf_write_symbol_tables.proofs.statics.record_as_named.Goals as goal
 

@@ -2,7 +2,7 @@
 use Rattle.std.proofs.Common.{List, sym, subst}
 use Rattle.elf_format.specs.Views.{NamedSymbol}
 use Rattle.elf_image.specs.ImageModel.{section_model}
-use Rattle.elf_image_symbol_edits.specs.Loan.{numbers_now, symbols_now}
+use Rattle.elf_image_symbols.specs.Loan.{numbers_now, symbols_now}
 use Rattle.elf_write_symbol_tables.specs.NamePlaces.{TellsNames}
 use Rattle.elf_write_symbol_tables.proofs.RecordsGiven.{static_told_at, static_within}
 use Rattle.elf_write_symbol_tables.proofs.statics.told_record.Goals as goal

@@ -8,7 +8,7 @@ use Rattle.elf_format.specs.Views.{NamedSymbol}
 use Rattle.elf_hashes.specs.Found.{hashed_names, in_order}
 use Rattle.elf_hashes.specs.Gabi.{IsGabiTable}
 use Rattle.elf_image.specs.ImageModel.{section_model}
-use Rattle.elf_image_symbol_edits.specs.Loan.{symbols_now}
+use Rattle.elf_image_symbols.specs.Loan.{symbols_now}
 use Rattle.elf_write_spec.specs.Contents.{gabi_buckets}
 use Rattle.elf_write_spec.proofs.ForCallers.OrderFacts.{length-order}
 use Rattle.elf_write_symbols.proofs.FinalOrder.{all, lent_names, lent_places}

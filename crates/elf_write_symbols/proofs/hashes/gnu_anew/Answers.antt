@@ -9,7 +9,7 @@ use Rattle.elf_hashes.specs.declared.gnu.GnuSizes.{GnuSizes}
 use Rattle.elf_hashes.specs.Found.{found_hashes, hashed_names, in_order}
 use Rattle.elf_hashes.specs.Gnu.{IsGnuTable}
 use Rattle.elf_image.specs.ImageModel.{section_model}
-use Rattle.elf_image_symbol_edits.specs.Loan.{symbols_now}
+use Rattle.elf_image_symbols.specs.Loan.{symbols_now}
 use Rattle.elf_write_spec.specs.Contents.{sizes_in}
 use Rattle.elf_write_spec.proofs.ForCallers.OrderFacts.{length-order}
 use Rattle.elf_write_symbols.proofs.FinalOrder.{all, lent_names, lent_places, small_shift, some_buckets, some_words}

@@ -9,7 +9,7 @@ use Rattle.elf_format.specs.Views.{NamedSymbol}
 use Rattle.elf_hashes.specs.Found.{in_order}
 use Rattle.elf_hashes.specs.Versions.{AreVersionsOf, versions_of}
 use Rattle.elf_image.specs.ImageModel.{section_model}
-use Rattle.elf_image_symbol_edits.specs.Loan.{symbols_now}
+use Rattle.elf_image_symbols.specs.Loan.{symbols_now}
 use Rattle.elf_write_spec.specs.VersionRecords.{is_index_too_large}
 use Rattle.elf_write_symbols.proofs.FinalOrder.{lent_places, lent_versions}
 use Rattle.elf_write_symbols.proofs.ReadyFacts.{facts}

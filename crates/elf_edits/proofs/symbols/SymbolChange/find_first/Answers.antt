@@ -3,7 +3,7 @@ use Rattle.std.proofs.Common.{◌∙◌, ap, arith, drop, List, refl, sym}
 use Rattle.std.specs.List.{list_any}
 use Rattle.std.proofs.lemmas.List.{drop_all}
 use Rattle.elf_image.specs.Views.{NamedSymbol}
-use Rattle.elf_image_symbol_edits.specs.Loan.{symbols_now}
+use Rattle.elf_image_symbols.specs.Loan.{symbols_now}
 use Rattle.elf_edits.specs.SymbolChanges.{is_changed}
 use Rattle.elf_edits.proofs.SymbolSteps.{any_ends, any_goes, left_first, left_more}
 use Rattle.elf_edits.proofs.symbols.SymbolChange.find_first.Goals as goal

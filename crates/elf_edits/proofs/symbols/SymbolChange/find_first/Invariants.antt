@@ -1,6 +1,6 @@
 use Rattle.std.proofs.Common.{◌≡◌, ◌≤◌, drop}
 use Rattle.std.specs.List.{list_any}
-use Rattle.elf_image_symbol_edits.specs.Loan.{symbols_now}
+use Rattle.elf_image_symbols.specs.Loan.{symbols_now}
 use Rattle.elf_edits.specs.SymbolChanges.{changed_to, is_changed}
 use Rattle.elf_edits.proofs.symbols.SymbolChange.find_first.Given as goal
 

@@ -1,6 +1,6 @@
 -- A first one is found.
 use Rattle.std.proofs.Common.{◌∙◌}
-use Rattle.elf_image_symbol_edits.specs.Loan.{symbols_now}
+use Rattle.elf_image_symbols.specs.Loan.{symbols_now}
 use Rattle.elf_edits.proofs.SymbolSteps.{any_found}
 use Rattle.elf_edits.proofs.symbols.SymbolChange.is_about_any.Goals as goal
 

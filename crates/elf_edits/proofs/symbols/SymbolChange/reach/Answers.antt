@@ -1,7 +1,7 @@
 -- One symbol after another.
 use Rattle.std.proofs.Common.{◌∙◌, arith, List, refl, sym}
 use Rattle.elf_image.specs.Views.{NamedSymbol}
-use Rattle.elf_image_symbol_edits.specs.Loan.{symbols_now}
+use Rattle.elf_image_symbols.specs.Loan.{symbols_now}
 use Rattle.elf_edits.proofs.SymbolSteps.{left_more, left_whole}
 use Rattle.elf_edits.proofs.symbols.SymbolChange.reach.Goals as goal
 use Rattle.elf_edits.proofs.symbols.SymbolChange.reach.Goals.{then-is_about, else-is_about}

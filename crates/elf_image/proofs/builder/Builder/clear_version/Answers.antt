@@ -1,6 +1,6 @@
 -- The image with that version was read and edited; the symbols that were read stay those.
 use Rattle.std.proofs.Common.{subst, sym, true}
-use Rattle.elf_image_symbol_edits.specs.EditedList.{EditedList}
+use Rattle.elf_image_symbols.specs.EditedList.{EditedList}
 use Rattle.elf_image.specs.BuilderModel.{image_model}
 use Rattle.elf_image.specs.Edited.{IsEdited}
 use Rattle.elf_image.specs.SymbolsRead.{AreSymbolsOfFile}

@@ -3,7 +3,7 @@ use Rattle.std.proofs.Common.{◌≡◌, ◌∙◌, ℕ, Bool, List, None, ap, m
 use Rattle.std.specs.Prelude.{if◌then◌else◌}
 use Rattle.elf_format.specs.Image.{Image}
 use Rattle.elf_format.specs.Options.{is_one_of, is_some_and}
-use Rattle.elf_image_symbol_edits.specs.EditedList.{EditedList, without_numbers}
+use Rattle.elf_image_symbols.specs.EditedList.{EditedList, without_numbers}
 use Rattle.elf_image.specs.Along.{symbols_along}
 use Rattle.elf_image.specs.BuilderModel.{image_model}
 use Rattle.elf_image.specs.Deleted.{CanDelete, does_interpreter_go, parts_left, segments_left, without_sections}

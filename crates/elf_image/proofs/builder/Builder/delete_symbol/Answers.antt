@@ -3,8 +3,8 @@ use Rattle.std.proofs.Common.{subst, sym, true}
 use Rattle.std.specs.Prelude.{slice_index}
 use Rattle.elf_format.specs.declared.constants.TheConstants.{SHT_SYMTAB}
 use Rattle.elf_format.specs.Image.{Image}
-use Rattle.elf_image_symbol_edits.specs.EditedList.{EditedList}
-use Rattle.elf_image_symbol_edits.specs.EditedList.{ArePicked as AreEditedSymbols}
+use Rattle.elf_image_symbols.specs.EditedList.{EditedList}
+use Rattle.elf_image_symbols.specs.EditedList.{ArePicked as AreEditedSymbols}
 use Rattle.elf_image.specs.BuilderModel.{image_model}
 use Rattle.elf_image.specs.Edited.{IsEdited}
 use Rattle.elf_image.specs.SymbolEdits.{IsUnnamed}

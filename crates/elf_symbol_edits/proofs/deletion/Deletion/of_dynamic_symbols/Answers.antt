@@ -3,7 +3,7 @@ use Rattle.std.proofs.Common.{◌≡◌, ◌∙◌, []}
 use Rattle.elf_edits.specs.TextModel.{texts_model}
 use Rattle.elf_edits.specs.Texts.{is_among}
 use Rattle.elf_format.specs.Image.{Image}
-use Rattle.elf_image_symbol_edits.specs.Loan.{numbers_now, symbols_now}
+use Rattle.elf_image_symbols.specs.Loan.{numbers_now, symbols_now}
 use Rattle.elf_symbol_edits.specs.Named.{named_dynamic_symbols, symbol_name}
 use Rattle.elf_symbol_edits.specs.SymbolEdit.{DeleteDynamicSymbols}
 use Rattle.elf_symbol_edits.proofs.DeletionSteps.{deletion_same, is_deletion, passing_of, rising_dynamic_symbols}

@@ -1,7 +1,7 @@
 -- One symbol more.
 use Rattle.std.proofs.Common.{◌<◌, length, arith}
 use Rattle.elf_format.specs.Views.{NamedSymbol}
-use Rattle.elf_image_symbol_edits.specs.Loan.{symbols_now}
+use Rattle.elf_image_symbols.specs.Loan.{symbols_now}
 use Rattle.elf_write_strings.proofs.TellsPlaced.{name_at, names_up_to, symbol_at_place, symbols_told}
 use Rattle.elf_write_strings.proofs.VersionsPlacing.{more-trans}
 use Rattle.elf_write_strings.proofs.told.placed.place_symbols.Goals as goal

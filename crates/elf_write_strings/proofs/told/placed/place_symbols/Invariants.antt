@@ -1,6 +1,6 @@
 use Rattle.std.proofs.Common.{ℕ, ◌<◌, get_or}
 use Rattle.elf_format.specs.Views.{NamedSymbol}
-use Rattle.elf_image_symbol_edits.specs.Loan.{symbols_now}
+use Rattle.elf_image_symbols.specs.Loan.{symbols_now}
 use Rattle.elf_write_strings.specs.VersionPlaces.{HasMore, Tells}
 use Rattle.elf_write_strings.proofs.told.placed.place_symbols.Given as goal
 

@@ -4,8 +4,8 @@ use Rattle.std.specs.Prelude.{is_some, slice_get}
 use Rattle.std.proofs.lemmas.Bool.{cases_lt}
 use Rattle.std.proofs.lemmas.Option.{same_Some, slice_get-get_or}
 use Rattle.elf_format.specs.Views.{NamedSymbol}
-use Rattle.elf_image_symbol_edits.specs.Loan.{symbols_now}
-use Rattle.elf_image_symbol_edits.specs.SymbolModel.{symbol_model}
+use Rattle.elf_image_symbols.specs.Loan.{symbols_now}
+use Rattle.elf_image_symbols.specs.SymbolModel.{symbol_model}
 use Rattle.test_elf.proofs.hash_tables.built.have_versions.Goals as goal
 
 pub loop-i-preserved : goal.loop-i-preserved

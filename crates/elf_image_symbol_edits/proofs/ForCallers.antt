@@ -1,2 +1,0 @@
--- For callers: what the crates above may cite.
-pub use Rattle.elf_image_symbols.proofs.FrontLaws

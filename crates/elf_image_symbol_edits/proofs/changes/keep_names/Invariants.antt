@@ -1,8 +1,0 @@
-use Rattle.std.proofs.Common.{ℕ, ◌<◌, slice_index_or}
-use Rattle.elf_image_symbols.specs.Views.{NamedSymbol}
-use Rattle.elf_image_symbol_edits.specs.declared.change.Change.{Change}
-use Rattle.elf_image_symbol_edits.specs.Changes.{Leaves}
-use Rattle.elf_image_symbol_edits.proofs.changes.keep_names.Given as goal
-
-abbrev pub invariant-loop-change : goal.invariant-loop-change
-invariant-loop-change l = (k : ℕ) (d : Change) → k < l.change-index → Leaves (λ (y : NamedSymbol). y.name) l.table (slice_index_or l.changes k d)

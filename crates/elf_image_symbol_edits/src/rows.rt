@@ -1,7 +1,0 @@
-//! Symbols under edits. The function does nothing: its contract is computed.
-ghost use Rattle.elf_image_symbol_edits.specs.Rows.{EditRows};
-
-/// Symbols under edits.
-pub fn edit_rows()
-    ensures { EditRows }
-{}
