@@ -7,7 +7,7 @@ use Rattle.elf_format.specs.declared.records.SectionHeader.{SectionHeader}
 use Rattle.elf_format.specs.File.{Parts, linked_section, section_of_type}
 use Rattle.elf_format.specs.Records.{symbol_size}
 use Rattle.elf_format.specs.Rules.{raw_entries}
-use Rattle.elf_image_details.specs.declared.detail.Detail.{Detail}
+use Rattle.elf_image_flaws.specs.declared.detail.Detail.{Detail}
 use Rattle.elf_image_reasons.specs.Details.{list_detail, tables_detail}
 
 of_list : Parts → SectionHeader → Option Detail

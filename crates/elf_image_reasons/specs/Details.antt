@@ -18,10 +18,10 @@ use Rattle.elf_format.specs.declared.records.SegmentHeader.{SegmentHeader}
 use Rattle.elf_format.specs.Records.{section_header_size, segment_header_size, symbol_size}
 use Rattle.elf_format.specs.Rules.{file_of, linked_texts, raw_entries, segment_table_range}
 use Rattle.elf_format.specs.Stages.{parts_read}
-use Rattle.elf_image_details.specs.declared.detail.Detail.{Detail}
-use Rattle.elf_image_details.specs.declared.detail.Detail.TheVariants as details
-use Rattle.elf_image_details.specs.declared.detail.Piece.{Piece}
-use Rattle.elf_image_details.specs.declared.detail.Piece.TheVariants as pieces
+use Rattle.elf_image_flaws.specs.declared.detail.Detail.{Detail}
+use Rattle.elf_image_flaws.specs.declared.detail.Detail.TheVariants as details
+use Rattle.elf_image_flaws.specs.declared.detail.Piece.{Piece}
+use Rattle.elf_image_flaws.specs.declared.detail.Piece.TheVariants as pieces
 use Rattle.elf_image_reasons.specs.declared.rule.Rule.{Rule}
 use Rattle.elf_image_reasons.specs.declared.rule.Rule.TheVariants as rules
 use Rattle.elf_image_flaws.specs.declared.flaws.Flaw.{Flaw}

@@ -11,7 +11,7 @@ use elf_format::constants::{PT_DYNAMIC, PT_INTERP, SHT_DYNAMIC};
 use elf_format::entries::show_entry;
 use elf_format::lookups::{section_of_type, segment_of_type};
 use elf_format::records::{EntryNumbers, SectionHeader, SegmentHeader};
-use elf_image_details::detail::{Detail, Piece};
+use elf_image_flaws::detail::{Detail, Piece};
 use elf_image_flaws::links::place_of_type;
 use elf_image_rules::headers::Headers;
 use elf_image_versions::texts::dynamic_texts;

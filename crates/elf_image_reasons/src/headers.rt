@@ -10,7 +10,7 @@ use elf_format::form::Form;
 use elf_format::numbers::{part, read_file_header};
 use elf_format::opening::form;
 use elf_format::records::FileHeader;
-use elf_image_details::detail::{Detail, Piece};
+use elf_image_flaws::detail::{Detail, Piece};
 use elf_image_flaws::flaws::first_there;
 
 // The byte at a position, 0 past the end.

@@ -5,7 +5,7 @@ ghost use Rattle.elf_image_reasons.specs.Details.{loaded_range as loaded_by, mee
 
 use elf_format::range::Range;
 use elf_format::records::{SectionHeader, SegmentHeader};
-use elf_image_details::detail::{Detail, Piece};
+use elf_image_flaws::detail::{Detail, Piece};
 use elf_image_flaws::flaws::first_there;
 use std::alloc::{AllocError, Global};
 

@@ -8,7 +8,7 @@ ghost use Rattle.elf_image_reasons.specs.Details.{is_not_shown as not_shown, is_
 
 use crate::rule::Rule;
 use elf_format::records::{SectionHeader, SegmentHeader};
-use elf_image_details::detail::{Detail, Piece};
+use elf_image_flaws::detail::{Detail, Piece};
 
 // Whether a loaded segment holds a section.
 fn some_holds(segments: &[SegmentHeader], section: SectionHeader) -> bool

@@ -12,7 +12,7 @@ use crate::placed::{wrong_section, wrong_segment};
 use crate::rule::Rule;
 use crate::tables::tables_detail;
 use elf_format::records::EntryNumbers;
-use elf_image_details::detail::Detail;
+use elf_image_flaws::detail::Detail;
 use elf_image_flaws::flaws::{Flaw, first_there};
 use elf_image_flaws::links::broken_links;
 use elf_image_flaws::names::broken_texts;

@@ -14,7 +14,7 @@ use elf_format::constants::{
 };
 use elf_format::lookups::{has_tag, linked_section, section_of_type, value_of_tag};
 use elf_format::records::{EntryNumbers, SectionHeader};
-use elf_image_details::detail::Detail;
+use elf_image_flaws::detail::Detail;
 use elf_image_flaws::flaws::first_there;
 use elf_image_rules::headers::Headers;
 

@@ -1,5 +1,5 @@
 use crate::line::write_detail;
-use elf_image_flaws::flaws::Flaw;
+use crate::flaws::Flaw;
 use std::fmt;
 
 /// What of a file has a range of its bytes.

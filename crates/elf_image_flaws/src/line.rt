@@ -2,7 +2,7 @@
 use crate::detail::{Detail, Piece};
 use crate::tag_names::{tag_meaning, tag_name};
 use elf_format::constants::SHT_STRTAB;
-use elf_image_flaws::flaws::Flaw;
+use crate::flaws::Flaw;
 use std::fmt;
 
 // What stands in the place of a `#`.
