@@ -1,8 +1,9 @@
 -- For callers: what the crates above may cite. These are laws of the words of specs/; no other module of
 -- this crate's proofs is meant for them.
-
 -- blocks that stay: no two of them share an address
 pub use Rattle.elf_layout_plan.proofs.ApartBlocks
+pub use Rattle.elf_layout_plan.proofs.NeedSteps
+
 -- what is known of an edited image and the one that was read: its loaded segments and its sections stand where those stood
 pub use Rattle.elf_layout_plan.proofs.ApartFacts
 -- sections that can't move stay where they are
@@ -65,3 +66,9 @@ pub use Rattle.elf_tables.proofs.ForCallers.TableBack
 pub use Rattle.elf_tables.proofs.ForCallers.EditedLaws
 pub use Rattle.elf_tables.proofs.ForCallers.KeptSections
 pub use Rattle.elf_tables.proofs.ForCallers.ReadImageLaws
+
+-- what is known of texts, and of images that were read and edited
+pub use Rattle.elf_layout_plan.proofs.ForCallers.SameTexts
+pub use Rattle.elf_layout_plan.proofs.ForCallers.EditedLaws
+pub use Rattle.elf_layout_plan.proofs.ForCallers.KeptSections
+pub use Rattle.elf_layout_plan.proofs.ForCallers.ReadImageLaws

@@ -39,4 +39,6 @@ pub mod ApartRead
 pub mod ApartNotes
 pub mod ApartShown
 pub mod ApartNoteLaw
+pub mod NeedSteps
+pub mod SymbolSteps
 pub mod ForCallers

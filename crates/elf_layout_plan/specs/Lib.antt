@@ -25,6 +25,9 @@ pub mod FilePlaced
 pub mod Laws
 pub mod PlacedLaws
 pub mod ApartLaws
+pub mod Staying
+pub mod StayingModel
+pub mod WrittenNeeds
 pub use Rattle.elf_tables.specs.Fields
 pub use Rattle.elf_tables.specs.ReadBack
 pub use Rattle.elf_tables.specs.Spelled

@@ -8,9 +8,9 @@ use Rattle.std.proofs.lemmas.Slice.Eq.{bytes_eq-Decides}
 use Rattle.elf_format.specs.declared.constants.TheConstants.{SHT_DYNAMIC, SHT_DYNSYM, SHT_GNU_VERDEF, SHT_GNU_VERNEED, SHT_SYMTAB}
 use Rattle.elf_format.specs.Image.{Image}
 use Rattle.elf_format.specs.Options.{list_at}
-use Rattle.elf_layout_needs.specs.Needs.{written_entries, written_needs}
-use Rattle.elf_layout_needs.specs.Texts.{are_names_changed, are_same_texts, if_linked, if_names, is_subsequence, is_table_copied, texts_in_use, texts_of_definitions, texts_of_entries, texts_of_needs, texts_of_symbols}
-use Rattle.elf_layout_needs.proofs.ForCallers.SameTexts.{names_kept, subsequence_of_itself}
+use Rattle.elf_layout_plan.specs.Needs.{written_entries, written_needs}
+use Rattle.elf_layout_plan.specs.Texts.{are_names_changed, are_same_texts, if_linked, if_names, is_subsequence, is_table_copied, texts_in_use, texts_of_definitions, texts_of_entries, texts_of_needs, texts_of_symbols}
+use Rattle.elf_layout_plan.proofs.ForCallers.SameTexts.{names_kept, subsequence_of_itself}
 use Rattle.elf_layout_sizes.specs.declared.other_texts.Others.{Others}
 use Rattle.elf_layout_sizes.specs.Inner.{Edit, is_linked}
 use Rattle.elf_layout_sizes.specs.OtherTexts.{HasDynamicNamesOf, HasNamesOf, HasOtherDynamicNames, HasStaticNamesOf, HaveSameCounts, count_of, others_in_use, with_names}

@@ -5,7 +5,7 @@ use Rattle.std.proofs.lemmas.List.{drop_more}
 use Rattle.std.proofs.lemmas.List.Sums.{sum_by-cons}
 use Rattle.std.proofs.lemmas.Option.{get_or_from_slice_get, none-some, same_Some, slice_get_within}
 use Rattle.elf_format.specs.Views.{NamedSymbol}
-use Rattle.elf_layout_needs.specs.Texts.{texts_of_symbols}
+use Rattle.elf_layout_plan.specs.Texts.{texts_of_symbols}
 
 -- what is left from a position on begins with what stands there
 pub rest_at : {A : Type 0} → (xs : List A) (i : ℕ) (x : A) → slice_get xs i ≡ Some x → drop i xs ≡ x ∷ drop (i + 1) xs

@@ -4,7 +4,7 @@ use Rattle.std.proofs.lemmas.List.{drop_more, drop_all}
 use Rattle.std.proofs.lemmas.Bool.{cases_lt, ne_eqb}
 use Rattle.std.specs.Str.{bytes_eq}
 use Rattle.std.specs.Prelude.{nat_eq}
-use Rattle.elf_layout_needs.specs.Texts.{is_subsequence}
+use Rattle.elf_layout_plan.specs.Texts.{is_subsequence}
 
 -- nothing is left of no texts
 pub none_left : (ts : List (List ℕ)) → length ts ≡ 0 → is_subsequence ts [] ≡ true

@@ -10,11 +10,11 @@ use Rattle.elf_format.specs.Hashes.{gnu_header}
 use Rattle.elf_format.specs.Options.{is_some_and}
 use Rattle.elf_format.specs.Records.{symbol_size}
 use Rattle.elf_format.specs.Views.{NamedSymbol}
-use Rattle.elf_layout_needs.specs.Strings.{table_length}
-use Rattle.elf_layout_needs.specs.Kept.{interpreter_number, link_of_type}
-use Rattle.elf_layout_needs.specs.Sizes.{definitions_size, dynamic_size, gnu_table_size, hash_size, interpreter_size, needs_size}
-use Rattle.elf_layout_needs.specs.Texts.{is_table_copied, texts_in_use}
-use Rattle.elf_layout_needs.specs.Needs.{written_needs}
+use Rattle.elf_layout_plan.specs.Strings.{table_length}
+use Rattle.elf_layout_plan.specs.Kept.{interpreter_number, link_of_type}
+use Rattle.elf_layout_plan.specs.Sizes.{definitions_size, dynamic_size, gnu_table_size, hash_size, interpreter_size, needs_size}
+use Rattle.elf_layout_plan.specs.Texts.{is_table_copied, texts_in_use}
+use Rattle.elf_layout_plan.specs.Needs.{written_needs}
 
 -- An edited image, and the one that was read from the same bytes.
 pub record Edit : Type 0 where

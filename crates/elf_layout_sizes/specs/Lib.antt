@@ -5,5 +5,5 @@ pub mod UsersModel
 pub mod SizingModel
 pub mod MadeTables
 pub mod KnownTables
-pub use Rattle.elf_layout_needs.specs.Staying
-pub use Rattle.elf_layout_needs.specs.Written
+pub use Rattle.elf_layout_plan.specs.Staying
+pub use Rattle.elf_layout_plan.specs.WrittenNeeds

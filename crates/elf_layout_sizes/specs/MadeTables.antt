@@ -1,9 +1,9 @@
 -- String tables that are made anew (gABI, String Table).
 use Rattle.std.specs.Prelude.{ℕ, ◌≡◌, ◌≤◌, ◌<◌, ◌^◌, false, Some}
 use Rattle.elf_format.specs.Image.{Image}
-use Rattle.elf_layout_needs.specs.Strings.{IsTableOf, PlacesStand, Strings, table_length}
-use Rattle.elf_layout_needs.specs.Kept.{dynamic_strings_number}
-use Rattle.elf_layout_needs.specs.Texts.{is_table_copied, texts_in_use}
+use Rattle.elf_layout_plan.specs.Strings.{IsTableOf, PlacesStand, Strings, table_length}
+use Rattle.elf_layout_plan.specs.Kept.{dynamic_strings_number}
+use Rattle.elf_layout_plan.specs.Texts.{is_table_copied, texts_in_use}
 
 -- The table that had that number isn't copied, and this one holds the texts that the image uses of it.
 pub record IsMade (read image : Image) (number : ℕ) (table : Strings) : Type 0 where

@@ -1,10 +1,10 @@
 -- The users of texts, seen as the image whose texts they are.
 use Rattle.std.specs.Prelude.{◌≡◌, IsTrue}
 use Rattle.std.specs.Option.{option_map}
-use Rattle.elf_layout_needs.specs.SymbolsRead.{HasStaticSymbolsOf}
-use Rattle.elf_layout_needs.specs.Needs.{written_entries, written_needs}
-use Rattle.elf_layout_needs.specs.Texts.{are_names_changed}
-use Rattle.elf_layout_needs.specs.Staying.{staying_entries, unmarked_needs}
+use Rattle.elf_layout_plan.specs.SymbolsRead.{HasStaticSymbolsOf}
+use Rattle.elf_layout_plan.specs.Needs.{written_entries, written_needs}
+use Rattle.elf_layout_plan.specs.Texts.{are_names_changed}
+use Rattle.elf_layout_plan.specs.Staying.{staying_entries, unmarked_needs}
 use Rattle.elf_layout_sizes.specs.declared.users.Users.TheInside.{Inside}
 use Rattle.elf_layout_sizes.specs.Inner.{Edit}
 use Rattle.elf_layout_sizes.specs.Seen.{AreLinks}

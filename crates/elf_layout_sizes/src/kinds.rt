@@ -1,19 +1,19 @@
 //! How large a section is to be, by its kind.
 ghost use Rattle.std.specs.Prelude.{◌≡◌, ℕ, ◌<◌, ◌^◌, false, true, Some, MatchResult, SomeIff};
-ghost use Rattle.elf_layout_needs.specs.ImageModel.{section_model};
+ghost use Rattle.elf_layout_plan.specs.ImageModel.{section_model};
 ghost use Rattle.elf_layout_sizes.specs.Inner.{fits_class};
-ghost use Rattle.elf_layout_needs.specs.TableFault.TheVariants.{NumberTooLarge};
+ghost use Rattle.elf_layout_plan.specs.TableFault.TheVariants.{NumberTooLarge};
 
 use crate::known::{Known, known_strings};
 use crate::strings::made_for;
 use crate::tables::{gabi_size, gnu_size};
 use crate::users::Users;
 use crate::versions::{definitions_size, grown};
-use elf_layout_needs::constants::{
+use elf_layout_plan::constants::{
     SHT_DYNAMIC, SHT_DYNSYM, SHT_GNU_HASH, SHT_GNU_VERDEF, SHT_GNU_VERNEED, SHT_GNU_VERSYM,
     SHT_HASH, SHT_STRTAB, SHT_SYMTAB,
 };
-use elf_layout_needs::{Builder, Finished, Section, TableFault, is_numbered};
+use elf_layout_plan::{Builder, Finished, Section, TableFault, is_numbered};
 use patch_bytes::Wide;
 use std::alloc::{AllocError, Global};
 use std::marker::Model;
@@ -55,10 +55,10 @@ impl<'a, 'data> Model for Sizing<'a, 'data> {
 
 impl<'a, 'data> Sizing<'a, 'data> {
     ghost use Rattle.std.specs.Prelude.{◌≡◌, ◌==◌, ◌<◌, ◌*◌, ◌^◌, ◌||◌, false, true, nat_le, IfOk, IfSome, IsTrue, MatchResult, SomeIff};
-    ghost use Rattle.elf_layout_needs.specs.Kept.{image_at_read};
+    ghost use Rattle.elf_layout_plan.specs.Kept.{image_at_read};
     ghost use Rattle.elf_format.specs.Records.{symbol_size};
-    ghost use Rattle.elf_layout_needs.specs.Sizes.{hash_size, interpreter_size};
-    ghost use Rattle.elf_layout_needs.specs.Texts.{is_table_copied};
+    ghost use Rattle.elf_layout_plan.specs.Sizes.{hash_size, interpreter_size};
+    ghost use Rattle.elf_layout_plan.specs.Texts.{is_table_copied};
     ghost use Rattle.elf_layout_sizes.specs.MadeTables.{IsMadeOfDynamic};
     ghost use Rattle.elf_layout_sizes.specs.Inner.{do_all_fit, do_strings_fit, does_size_fit, lists_size, size_by, sizes_by, strings_length};
 

@@ -4,7 +4,7 @@ ghost use Rattle.elf_layout_sizes.specs.KnownTables.{IsKnown, IsKnownTable};
 
 use crate::strings::made_for;
 use crate::users::Users;
-use elf_layout_needs::{Finished, TableFault};
+use elf_layout_plan::{Finished, TableFault};
 use std::alloc::{AllocError, Global};
 
 // A string table with its number at read, where it is made anew; `None` where it is copied.

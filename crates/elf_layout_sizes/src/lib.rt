@@ -15,4 +15,4 @@ mod versions;
 pub use crate::links::dynamic_strings_number;
 pub use crate::sizes::{NewSizes, new_sizes_of, new_sizes_with_strings, sizes_of};
 pub use crate::strings::made_table;
-pub use elf_layout_needs::StayingNeeds;
+pub use elf_layout_plan::StayingNeeds;

@@ -1,10 +1,10 @@
 //! The string tables that the users of texts link to (gABI, Sections, `sh_link`).
 ghost use Rattle.std.specs.Prelude.{◌≡◌};
-ghost use Rattle.elf_layout_needs.specs.Kept.{dynamic_strings_number as strings_number};
+ghost use Rattle.elf_layout_plan.specs.Kept.{dynamic_strings_number as strings_number};
 ghost use Rattle.elf_layout_sizes.specs.Seen.{AreLinks};
 
-use elf_layout_needs::Builder;
-use elf_layout_needs::constants::{
+use elf_layout_plan::Builder;
+use elf_layout_plan::constants::{
     SHT_DYNAMIC, SHT_DYNSYM, SHT_GNU_VERDEF, SHT_GNU_VERNEED, SHT_SYMTAB,
 };
 

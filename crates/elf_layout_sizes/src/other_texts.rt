@@ -1,6 +1,6 @@
 //! The texts of a string table that aren't names of symbols, by which it is often told whether the table is copied.
 ghost use Rattle.std.specs.Prelude.{◌≡◌, ◌&&◌, List, ℕ, IfSome, IsTrue};
-ghost use Rattle.elf_layout_needs.specs.Texts.{is_subsequence as is_subsequence_of};
+ghost use Rattle.elf_layout_plan.specs.Texts.{is_subsequence as is_subsequence_of};
 ghost use Rattle.elf_layout_sizes.specs.OtherTexts.{HaveSameCounts, count_of, with_names};
 
 use crate::strings::is_subsequence;

@@ -1,12 +1,12 @@
 ghost use Rattle.std.specs.Prelude.{◌≡◌, IfErr, IfOk, IfSome, IsTrue, MatchResult, OnOk, false, true};
-ghost use Rattle.elf_layout_needs.specs.Kept.{image_at_read};
-ghost use Rattle.elf_layout_needs.specs.Refusals.{AreNoSizes, do_sizes_of_image_fit, sizes_of_image};
-ghost use Rattle.elf_layout_needs.specs.Sizes.{do_sizes_fit, new_sizes};
+ghost use Rattle.elf_layout_plan.specs.Kept.{image_at_read};
+ghost use Rattle.elf_layout_plan.specs.Refusals.{AreNoSizes, do_sizes_of_image_fit, sizes_of_image};
+ghost use Rattle.elf_layout_plan.specs.Sizes.{do_sizes_fit, new_sizes};
 ghost use Rattle.elf_layout_sizes.specs.MadeTables.{IsMadeOfDynamic};
-ghost use Rattle.elf_layout_needs.specs.TableFault.TheVariants.{NumberTooLarge};
+ghost use Rattle.elf_layout_plan.specs.TableFault.TheVariants.{NumberTooLarge};
 
 use crate::kinds::Sizing;
-use elf_layout_needs::{Builder, Finished, LayoutFault, TableFault, read_source};
+use elf_layout_plan::{Builder, Finished, LayoutFault, TableFault, read_source};
 use std::alloc::Global;
 
 /// The new size of each section in bytes, in the order of the sections. `NumberTooLarge` where a size, or the offset of a

@@ -1,14 +1,14 @@
 //! Whether a string table is copied, and the table where it is made anew.
 ghost use Rattle.std.specs.Prelude.{◌≡◌, ℕ, ◌≤◌, ◌<◌, ◌^◌, List, ◌∷◌, drop, length, IfErr, IfOk, IsTrue, MatchOption, MatchResult};
-ghost use Rattle.elf_layout_needs.specs.TableFault.TheVariants.{NumberTooLarge};
-ghost use Rattle.elf_layout_needs.specs.Strings.{HoldNoNul, IsTableOf, PlacesStand, table_length};
-ghost use Rattle.elf_layout_needs.specs.Kept.{image_at_read};
-ghost use Rattle.elf_layout_needs.specs.Texts.{is_subsequence as is_subsequence_of, is_table_copied, texts_in_use};
+ghost use Rattle.elf_layout_plan.specs.TableFault.TheVariants.{NumberTooLarge};
+ghost use Rattle.elf_layout_plan.specs.Strings.{HoldNoNul, IsTableOf, PlacesStand, table_length};
+ghost use Rattle.elf_layout_plan.specs.Kept.{image_at_read};
+ghost use Rattle.elf_layout_plan.specs.Texts.{is_subsequence as is_subsequence_of, is_table_copied, texts_in_use};
 ghost use Rattle.elf_layout_sizes.specs.MadeTables.{IsMade, IsTooLong};
 
 use crate::texts::Texts;
 use crate::users::Users;
-use elf_layout_needs::{Builder, Finished, TableFault};
+use elf_layout_plan::{Builder, Finished, TableFault};
 use std::alloc::{AllocError, Global};
 
 // How many of the first texts are found once another text was looked at, where `next` of them were before.

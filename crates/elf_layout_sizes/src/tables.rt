@@ -4,12 +4,12 @@ ghost use Rattle.patch_bytes.specs.Memory.{memory_of};
 ghost use Rattle.patch_bytes.specs.Number.{word_size};
 ghost use Rattle.elf_format.specs.Hashes.{gnu_header, word_of_table};
 ghost use Rattle.elf_image_symbols.specs.Loan.{symbols_now};
-ghost use Rattle.elf_layout_needs.specs.Sizes.{gabi_table_size, is_found as is_found_symbol};
+ghost use Rattle.elf_layout_plan.specs.Sizes.{gabi_table_size, is_found as is_found_symbol};
 ghost use Rattle.elf_layout_sizes.specs.Inner.{gnu_size_with as size_of_gnu};
 
 use crate::versions::grown;
 use elf_format::numbers::word_at;
-use elf_layout_needs::{Form, SymbolsNow};
+use elf_layout_plan::{Form, SymbolsNow};
 use patch_bytes::Wide;
 
 // The number of buckets that a gABI hash table had, 0 where it isn't there (gABI, Hash Table).

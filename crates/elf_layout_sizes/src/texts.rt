@@ -1,5 +1,5 @@
 //! The texts that stand in a string table, as they are gathered.
-use elf_layout_needs::{
+use elf_layout_plan::{
     Dynamic, Finished, Section, StayingNeeds, StringTable, SymbolsNow, TableFault, VersionDef,
     VersionNeed, VersionNeedName,
 };
@@ -23,13 +23,13 @@ impl<'t> Model for Texts<'t> {
 
 impl<'t> Texts<'t> {
     ghost use Rattle.std.specs.Prelude.{◌≡◌, ◌≤◌, ◌<◌, ◌^◌, [], ◌∷◌, ◌++◌, get_or, length, map, IfOk, MatchResult, OnOk};
-    ghost use Rattle.elf_layout_needs.specs.TableFault.TheVariants.{NumberTooLarge};
-    ghost use Rattle.elf_layout_needs.specs.Strings.{HoldNoNul, IsTableOf, PlacesStand, table_length};
+    ghost use Rattle.elf_layout_plan.specs.TableFault.TheVariants.{NumberTooLarge};
+    ghost use Rattle.elf_layout_plan.specs.Strings.{HoldNoNul, IsTableOf, PlacesStand, table_length};
     ghost use Rattle.patch_bytes.specs.ByteString.{bytes_of_each};
-    ghost use Rattle.elf_layout_needs.specs.ImageModel.{definition_model, entry_model, name_model, needs_model, section_model};
-    ghost use Rattle.elf_layout_needs.specs.Texts.{texts_of_definitions, texts_of_entries, texts_of_entry, texts_of_needs, texts_of_symbols};
+    ghost use Rattle.elf_layout_plan.specs.ImageModel.{definition_model, entry_model, name_model, needs_model, section_model};
+    ghost use Rattle.elf_layout_plan.specs.Texts.{texts_of_definitions, texts_of_entries, texts_of_entry, texts_of_needs, texts_of_symbols};
     ghost use Rattle.elf_image_symbols.specs.Loan.{symbols_now};
-    ghost use Rattle.elf_layout_needs.specs.Staying.{staying_entries, unmarked_names, unmarked_needs, with_unmarked_names};
+    ghost use Rattle.elf_layout_plan.specs.Staying.{staying_entries, unmarked_names, unmarked_needs, with_unmarked_names};
 
     // No text. Takes no memory.
     pub(crate) fn new(alloc: Global) -> Self

@@ -3,10 +3,10 @@ use crate::links::{Links, links_of};
 use crate::other_texts::{Others, have_same_counts, is_known_copied};
 use crate::texts::Texts;
 use crate::versions::{grown, needs_size};
-use elf_layout_needs::constants::{
+use elf_layout_plan::constants::{
     SHT_DYNAMIC, SHT_DYNSYM, SHT_GNU_VERDEF, SHT_GNU_VERNEED, SHT_SYMTAB,
 };
-use elf_layout_needs::{Builder, Section, StayingNeeds, is_numbered};
+use elf_layout_plan::{Builder, Section, StayingNeeds, is_numbered};
 use std::alloc::{AllocError, Global};
 use std::marker::Model;
 
@@ -36,13 +36,13 @@ impl<'a, 'data> Model for Users<'a, 'data> {
 impl<'a, 'data> Users<'a, 'data> {
     ghost use Rattle.std.specs.Prelude.{◌≡◌, ◌<◌, ◌^◌, ◌++◌, length, IfOk, IfSome, IsTrue, OnOk, SomeIff};
     ghost use Rattle.elf_format.specs.Options.{list_at};
-    ghost use Rattle.elf_layout_needs.specs.ImageModel.{section_model};
-    ghost use Rattle.elf_layout_needs.specs.Kept.{dynamic_strings_number, image_at_read};
-    ghost use Rattle.elf_layout_needs.specs.Sizes.{dynamic_size as size_of_dynamic, needs_size as size_of_needs};
-    ghost use Rattle.elf_layout_needs.specs.Strings.{HoldNoNul};
-    ghost use Rattle.elf_layout_needs.specs.Needs.{written_entries, written_needs};
+    ghost use Rattle.elf_layout_plan.specs.ImageModel.{section_model};
+    ghost use Rattle.elf_layout_plan.specs.Kept.{dynamic_strings_number, image_at_read};
+    ghost use Rattle.elf_layout_plan.specs.Sizes.{dynamic_size as size_of_dynamic, needs_size as size_of_needs};
+    ghost use Rattle.elf_layout_plan.specs.Strings.{HoldNoNul};
+    ghost use Rattle.elf_layout_plan.specs.Needs.{written_entries, written_needs};
     ghost use Rattle.elf_layout_sizes.specs.OtherTexts.{HasDynamicNamesOf, HasNamesOf, HasOtherDynamicNames, HasStaticNamesOf, others_in_use};
-    ghost use Rattle.elf_layout_needs.specs.Texts.{are_names_changed as have_names_changed, if_linked, if_names, is_table_copied, texts_in_use, texts_of_definitions, texts_of_entries, texts_of_needs, texts_of_symbols};
+    ghost use Rattle.elf_layout_plan.specs.Texts.{are_names_changed as have_names_changed, if_linked, if_names, is_table_copied, texts_in_use, texts_of_definitions, texts_of_entries, texts_of_needs, texts_of_symbols};
 
     // What is known of the users of an edited image's texts.
     pub(crate) fn new(

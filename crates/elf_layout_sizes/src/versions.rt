@@ -1,10 +1,10 @@
 //! The sizes of version records.
 ghost use Rattle.std.specs.Prelude.{◌≡◌, ◌+◌, ◌*◌, ◌<◌, ◌^◌, map, SomeIff};
-ghost use Rattle.elf_layout_needs.specs.ImageModel.{definition_model, needs_model};
-ghost use Rattle.elf_layout_needs.specs.Sizes.{definitions_size as size_of_definitions, needs_size as size_of_needs};
-ghost use Rattle.elf_layout_needs.specs.Staying.{unmarked_needs};
+ghost use Rattle.elf_layout_plan.specs.ImageModel.{definition_model, needs_model};
+ghost use Rattle.elf_layout_plan.specs.Sizes.{definitions_size as size_of_definitions, needs_size as size_of_needs};
+ghost use Rattle.elf_layout_plan.specs.Staying.{unmarked_needs};
 
-use elf_layout_needs::{StayingNeeds, VersionDef, VersionNeed};
+use elf_layout_plan::{StayingNeeds, VersionDef, VersionNeed};
 
 // A size with a part more: so many bytes, and so many for each of a count. `None` where it is past 64 bits.
 pub(crate) fn grown(size: u64, front: u64, each: u64, count: usize) -> Option<u64>

@@ -9,7 +9,7 @@ ghost use Rattle.elf_hashes.specs.Found.{is_found as may_be_found};
 ghost use Rattle.elf_image.specs.ImageModel.{needs_model, section_model};
 ghost use Rattle.elf_image.specs.Renumbering.{is_opaque as is_kept};
 ghost use Rattle.elf_image_symbols.specs.Loan.{symbols_now};
-ghost use Rattle.elf_layout_needs.specs.Staying.{unmarked_needs};
+ghost use Rattle.elf_layout_plan.specs.Staying.{unmarked_needs};
 ghost use Rattle.elf_notes.specs.Notes.{AreLeft, is_hashed_anew as are_tables_made_anew, is_unread as are_numbers_kept, leaves_out as does_leave_out, old_needs, stands_in as stands_in_for, versioned_of};
 
 use crate::findings::{Findings, entries_of};
@@ -21,7 +21,7 @@ use elf_format::constants::{SHT_GNU_HASH, SHT_REL, SHT_RELA};
 use elf_format::numbers::word_at;
 use elf_format::{Form, SectionData};
 use elf_image::{Builder, Section, SymbolsNow, VersionNeed};
-use elf_layout_needs::StayingNeeds;
+use elf_layout_plan::StayingNeeds;
 use elf_layout_plan::read_source;
 use std::alloc::{AllocError, Global};
 use std::collections::HashSet;

@@ -1,8 +1,8 @@
 -- The sizes by the sections and their numbers are the new sizes.
 use Rattle.std.proofs.Common.{◌≡◌, ℕ, Vec, Global, Ok, Err}
 use Rattle.std.proofs.lemmas.Result.{err_from_is_err_and}
-use Rattle.elf_layout_needs.specs.TableFault.{TableFault}
-use Rattle.elf_layout_needs.specs.TableFault.TheVariants.{NumberTooLarge}
+use Rattle.elf_layout_plan.specs.TableFault.{TableFault}
+use Rattle.elf_layout_plan.specs.TableFault.TheVariants.{NumberTooLarge}
 use Rattle.elf_layout_sizes.proofs.SizeSteps.{same_answer}
 use Rattle.elf_layout_sizes.proofs.sizes.gathered.Goals as goal
 

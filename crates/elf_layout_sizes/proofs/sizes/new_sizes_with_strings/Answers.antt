@@ -2,11 +2,11 @@
 use Rattle.std.proofs.Common.{◌≡◌, false, refl, sym, ap, ◌∙◌}
 use Rattle.std.proofs.lemmas.Result.{err_from_is_err_and}
 use Rattle.elf_format.specs.Image.{Image}
-use Rattle.elf_layout_needs.specs.TableFault.{TableFault}
-use Rattle.elf_layout_needs.specs.TableFault.TheVariants as table
-use Rattle.elf_layout_needs.specs.Faults.{fault_of_table}
-use Rattle.elf_layout_needs.specs.Refusals.{AreNoSizes, do_sizes_of_image_fit}
-use Rattle.elf_layout_needs.specs.Sizes.{do_sizes_fit}
+use Rattle.elf_layout_plan.specs.TableFault.{TableFault}
+use Rattle.elf_layout_plan.specs.TableFault.TheVariants as table
+use Rattle.elf_layout_plan.specs.Faults.{fault_of_table}
+use Rattle.elf_layout_plan.specs.Refusals.{AreNoSizes, do_sizes_of_image_fit}
+use Rattle.elf_layout_plan.specs.Sizes.{do_sizes_fit}
 use Rattle.elf_layout_sizes.proofs.sizes.new_sizes_with_strings.Goals as goal
 
 no_sizes : (image : Image) (e : TableFault) → (e ≡ table.NumberTooLarge → do_sizes_of_image_fit image ≡ false) → AreNoSizes image (fault_of_table e)

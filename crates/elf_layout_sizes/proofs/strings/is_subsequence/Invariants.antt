@@ -1,5 +1,5 @@
 use Rattle.std.proofs.Common.{◌≡◌, ◌≤◌, drop, length}
-use Rattle.elf_layout_needs.specs.Texts.{is_subsequence}
+use Rattle.elf_layout_plan.specs.Texts.{is_subsequence}
 use Rattle.elf_layout_sizes.proofs.strings.is_subsequence.Given as goal
 
 -- those that aren't found yet are the ones that are left with some left out, where all are

@@ -2,7 +2,7 @@
 use Rattle.std.proofs.Common.{drop, ◌∙◌, arith}
 use Rattle.std.specs.Prelude.{count_by, slice_get}
 use Rattle.elf_image_symbols.specs.Loan.{symbols_now}
-use Rattle.elf_layout_needs.specs.Sizes.{is_found}
+use Rattle.elf_layout_plan.specs.Sizes.{is_found}
 use Rattle.elf_layout_sizes.proofs.SymbolSteps.{counted_next, counted_on, with_part}
 use Rattle.elf_layout_sizes.proofs.tables.count_found.Goals as goal
 use Rattle.elf_layout_sizes.proofs.tables.count_found.Goals.{then-is_found, else-is_found}

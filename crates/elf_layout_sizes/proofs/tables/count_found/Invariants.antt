@@ -1,7 +1,7 @@
 use Rattle.std.proofs.Common.{◌≡◌, ◌+◌, ◌≤◌, drop}
 use Rattle.std.specs.Prelude.{count_by}
 use Rattle.elf_image_symbols.specs.Loan.{symbols_now}
-use Rattle.elf_layout_needs.specs.Sizes.{is_found}
+use Rattle.elf_layout_plan.specs.Sizes.{is_found}
 use Rattle.elf_layout_sizes.proofs.tables.count_found.Given as goal
 
 -- those so far and those of what is left

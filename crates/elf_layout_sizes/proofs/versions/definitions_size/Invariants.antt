@@ -1,6 +1,6 @@
 use Rattle.std.proofs.Common.{◌≡◌, ◌+◌, ◌<◌, ◌^◌, drop, map}
-use Rattle.elf_layout_needs.specs.ImageModel.{definition_model}
-use Rattle.elf_layout_needs.specs.Sizes.{definitions_size}
+use Rattle.elf_layout_plan.specs.ImageModel.{definition_model}
+use Rattle.elf_layout_plan.specs.Sizes.{definitions_size}
 use Rattle.elf_layout_sizes.proofs.versions.definitions_size.Given as goal
 
 -- the size so far, with that of the records that are left

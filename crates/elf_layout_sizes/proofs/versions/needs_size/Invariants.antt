@@ -1,7 +1,7 @@
 use Rattle.std.proofs.Common.{◌≡◌, ◌+◌, ◌<◌, ◌^◌, drop, map}
-use Rattle.elf_layout_needs.specs.ImageModel.{needs_model}
-use Rattle.elf_layout_needs.specs.Sizes.{needs_size}
-use Rattle.elf_layout_needs.specs.Staying.{unmarked_needs}
+use Rattle.elf_layout_plan.specs.ImageModel.{needs_model}
+use Rattle.elf_layout_plan.specs.Sizes.{needs_size}
+use Rattle.elf_layout_plan.specs.Staying.{unmarked_needs}
 use Rattle.elf_layout_sizes.proofs.versions.needs_size.Given as goal
 
 -- the size so far, with that of the records that are left

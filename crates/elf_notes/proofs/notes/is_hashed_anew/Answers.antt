@@ -2,7 +2,7 @@
 use Rattle.std.proofs.Common.{◌≡◌, Bool, true, false, not, refl, ap, ◌∙◌}
 use Rattle.elf_image.specs.Kept.{image_at_read}
 use Rattle.elf_image.specs.Names.{are_names_changed}
-use Rattle.elf_layout_needs.proofs.ForCallers.NeedSteps.{at_read}
+use Rattle.elf_layout_plan.proofs.ForCallers.NeedSteps.{at_read}
 use Rattle.elf_notes.proofs.notes.is_hashed_anew.Goals as goal
 
 not_not : (b : Bool) → not (not b) ≡ b

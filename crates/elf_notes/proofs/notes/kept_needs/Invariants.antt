@@ -2,7 +2,7 @@ use Rattle.std.proofs.Common.{◌≡◌, ◌++◌, drop, filter, map}
 use Rattle.std.specs.HashSet.{keys}
 use Rattle.elf_edits.specs.Changes.{has_name}
 use Rattle.elf_image.specs.ImageModel.{needs_model}
-use Rattle.elf_layout_needs.specs.Staying.{unmarked_needs}
+use Rattle.elf_layout_plan.specs.Staying.{unmarked_needs}
 use Rattle.elf_notes.proofs.notes.kept_needs.Given as goal
 
 -- the names so far, with those of the needs that are left

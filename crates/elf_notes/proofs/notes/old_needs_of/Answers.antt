@@ -7,7 +7,7 @@ use Rattle.elf_edits.specs.Entries.{needed_names}
 use Rattle.elf_edits.specs.Texts.{is_among}
 use Rattle.elf_edits.specs.Changes.{has_name}
 use Rattle.elf_image.specs.ImageModel.{needs_model}
-use Rattle.elf_layout_needs.specs.Staying.{unmarked_needs}
+use Rattle.elf_layout_plan.specs.Staying.{unmarked_needs}
 use Rattle.elf_notes.specs.Notes.{Name, needed_of}
 use Rattle.elf_notes.proofs.NameSteps.{by_set, none_dropped}
 use Rattle.elf_notes.proofs.notes.old_needs_of.Goals as goal

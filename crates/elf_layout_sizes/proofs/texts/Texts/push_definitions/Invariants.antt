@@ -1,6 +1,6 @@
 use Rattle.std.proofs.Common.{◌≡◌, ◌++◌, drop, map}
-use Rattle.elf_layout_needs.specs.ImageModel.{definition_model}
-use Rattle.elf_layout_needs.specs.Texts.{texts_of_definitions}
+use Rattle.elf_layout_plan.specs.ImageModel.{definition_model}
+use Rattle.elf_layout_plan.specs.Texts.{texts_of_definitions}
 use Rattle.elf_layout_sizes.proofs.texts.Texts.push_definitions.Given as goal
 
 -- what is there so far, with the names of the versions that are left, is all of it

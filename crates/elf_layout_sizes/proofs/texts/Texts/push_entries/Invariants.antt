@@ -1,7 +1,7 @@
 use Rattle.std.proofs.Common.{◌≡◌, ◌++◌, drop, map}
-use Rattle.elf_layout_needs.specs.ImageModel.{entry_model}
-use Rattle.elf_layout_needs.specs.Texts.{texts_of_entries}
-use Rattle.elf_layout_needs.specs.Staying.{staying_entries}
+use Rattle.elf_layout_plan.specs.ImageModel.{entry_model}
+use Rattle.elf_layout_plan.specs.Texts.{texts_of_entries}
+use Rattle.elf_layout_plan.specs.Staying.{staying_entries}
 use Rattle.elf_layout_sizes.proofs.texts.Texts.push_entries.Given as goal
 
 -- what is there so far, with the texts of the entries that are left, is all of it

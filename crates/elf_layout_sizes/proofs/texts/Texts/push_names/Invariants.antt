@@ -1,6 +1,6 @@
 use Rattle.std.proofs.Common.{◌≡◌, ◌++◌, drop, map}
-use Rattle.elf_layout_needs.specs.ImageModel.{name_model}
-use Rattle.elf_layout_needs.specs.Staying.{unmarked_names}
+use Rattle.elf_layout_plan.specs.ImageModel.{name_model}
+use Rattle.elf_layout_plan.specs.Staying.{unmarked_names}
 use Rattle.elf_layout_sizes.proofs.texts.Texts.push_names.Given as goal
 
 -- what is there so far, with the names that are left, is all of it

@@ -1,7 +1,7 @@
 use Rattle.std.proofs.Common.{◌≡◌, ◌++◌, drop, map}
-use Rattle.elf_layout_needs.specs.ImageModel.{needs_model}
-use Rattle.elf_layout_needs.specs.Texts.{texts_of_needs}
-use Rattle.elf_layout_needs.specs.Staying.{unmarked_needs}
+use Rattle.elf_layout_plan.specs.ImageModel.{needs_model}
+use Rattle.elf_layout_plan.specs.Texts.{texts_of_needs}
+use Rattle.elf_layout_plan.specs.Staying.{unmarked_needs}
 use Rattle.elf_layout_sizes.proofs.texts.Texts.push_needs.Given as goal
 
 -- what is there so far, with the texts of the records that are left, is all of it

@@ -1,6 +1,6 @@
 -- One name after another.
 use Rattle.elf_image_symbols.specs.Loan.{symbols_now}
-use Rattle.elf_layout_needs.specs.Texts.{texts_of_symbols}
+use Rattle.elf_layout_plan.specs.Texts.{texts_of_symbols}
 use Rattle.std.proofs.Common.{◌++◌}
 use Rattle.elf_layout_sizes.proofs.SymbolSteps.{name_gathered}
 use Rattle.elf_layout_sizes.proofs.texts.Texts.push_symbols.Goals as goal

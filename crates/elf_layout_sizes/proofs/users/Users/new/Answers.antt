@@ -1,8 +1,8 @@
 -- The links are the image's, what stays is what is written, and what is told of symbols is so.
 use Rattle.std.proofs.Common.{◌≡◌, Bool, true, false, refl, ap, ◌∙◌}
 use Rattle.std.specs.Prelude.{not}
-use Rattle.elf_layout_needs.specs.Texts.{are_names_changed}
-use Rattle.elf_layout_needs.proofs.ForCallers.NeedSteps.{at_read}
+use Rattle.elf_layout_plan.specs.Texts.{are_names_changed}
+use Rattle.elf_layout_plan.proofs.ForCallers.NeedSteps.{at_read}
 use Rattle.elf_layout_sizes.proofs.users.Users.new.Goals as goal
 
 not_not : (b : Bool) → not (not b) ≡ b

@@ -1,6 +1,6 @@
 -- All is as it was read.
 use Rattle.std.proofs.Common.{refl, sym}
-use Rattle.elf_layout_needs.proofs.ForCallers.SameTexts.{names_same}
+use Rattle.elf_layout_plan.proofs.ForCallers.SameTexts.{names_same}
 use Rattle.elf_layout_sizes.proofs.users.Users.of_read.Goals as goal
 
 pub invariant_of-result : goal.invariant_of-result

@@ -1,5 +1,5 @@
 -- The texts of all users, one behind the other.
-use Rattle.elf_layout_needs.specs.Texts.{texts_in_use}
+use Rattle.elf_layout_plan.specs.Texts.{texts_in_use}
 use Rattle.elf_layout_sizes.proofs.TextSteps.{six_parts}
 use Rattle.elf_layout_sizes.proofs.users.Users.push_all.Goals as goal
 

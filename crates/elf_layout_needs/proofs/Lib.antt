@@ -1,3 +1,0 @@
-pub mod NeedSteps
-pub mod SymbolSteps
-pub mod ForCallers

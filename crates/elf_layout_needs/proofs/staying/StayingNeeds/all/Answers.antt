@@ -1,9 +1,0 @@
--- No mark.
-use Rattle.std.proofs.Common.{Bool, List, false, subst, sym}
-use Rattle.elf_layout_needs.specs.Written.{AreWritten}
-use Rattle.elf_layout_needs.proofs.NeedSteps.{all_written}
-use Rattle.elf_layout_needs.proofs.staying.StayingNeeds.all.Goals as goal
-
-pub returns : goal.returns
-returns c read =
-    subst (λ (marks : List Bool). AreWritten read read (record { marks = marks; are_gone = false })) (sym c.new.ensures.items) (all_written read)
