@@ -1,3 +1,7 @@
+pub mod EntryLaws
+pub mod TableSteps
+pub mod InverseSteps
+pub mod SameNumbers
 pub mod WholeLists
 pub mod LinkedLists
 pub mod SingleTypes

@@ -28,7 +28,7 @@ use Rattle.elf_image.specs.Relocated.{are_relocations, is_against, names_symbol}
 use Rattle.elf_image.specs.Complete.{AreRelocated}
 use Rattle.elf_image.specs.Staying.{table_number}
 use Rattle.elf_layout_plan.specs.Plan.{resized}
-use Rattle.elf_relocations.specs.Renumbered.{AreRenumbered, new_symbol, renumbered}
+use Rattle.elf_write_spec.specs.Renumbered.{AreRenumbered, new_symbol, renumbered}
 use Rattle.elf_write_spec.specs.Contents.{AreRelocationsOf, AreStaticRelocationsOf, IsContentOfKind, content_at_number}
 use Rattle.elf_write_spec.specs.Final.{is_static_renumbered, new_dynamic_symbols, new_static_symbols}
 use Rattle.elf_write_spec.specs.ReadBack.{HasWrittenParts, written_parts}

@@ -11,7 +11,7 @@ use Rattle.elf_image.specs.Kept.{image_at_read}
 use Rattle.elf_image.specs.Names.{are_names_changed}
 use Rattle.elf_image.specs.Relocated.{are_relocations, is_against}
 use Rattle.elf_image.specs.Staying.{table_number}
-use Rattle.elf_relocations.specs.Renumbered.{new_symbol, renumbered}
+use Rattle.elf_write_spec.specs.Renumbered.{new_symbol, renumbered}
 use Rattle.elf_write_spec.specs.Final.{is_static_renumbered, new_dynamic_symbol, new_dynamic_symbols, new_static_symbol, new_static_symbols}
 use Rattle.elf_write_spec.specs.KeptSymbols.{new_symbol_for}
 use Rattle.elf_write_spec.specs.Output.{IsPlannedOutput, Output}

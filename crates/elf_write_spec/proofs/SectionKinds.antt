@@ -22,7 +22,7 @@ use Rattle.elf_image.specs.Staying.{table_number}
 use Rattle.elf_layout_plan.specs.Memory.{Resized}
 use Rattle.elf_layout_plan.specs.Plan.{Layout}
 use Rattle.elf_layout_plan.specs.Texts.{is_table_copied}
-use Rattle.elf_relocations.specs.Renumbered.{AreRenumbered}
+use Rattle.elf_write_spec.specs.Renumbered.{AreRenumbered}
 use Rattle.elf_write_spec.specs.Contents.{AreRelocationsOf, AreStaticRelocationsOf, IsContentOfKind, gabi_buckets, sizes_in}
 use Rattle.elf_write_spec.specs.Final.{are_symbols_kept, are_versions_kept, final, is_static_renumbered, new_dynamic_symbols, new_static_symbols}
 use Rattle.elf_write_spec.specs.WrittenFile.{Unchanged, is_kind_copied}

@@ -25,7 +25,7 @@ use Rattle.elf_hashes.specs.Found.{hashed_names}
 use Rattle.elf_hashes.specs.Gabi.{IsGabiTable}
 use Rattle.elf_hashes.specs.Gnu.{IsGnuTable}
 use Rattle.elf_hashes.specs.Versions.{AreVersionsOf}
-use Rattle.elf_relocations.specs.Renumbered.{AreRenumbered}
+use Rattle.elf_write_spec.specs.Renumbered.{AreRenumbered}
 use Rattle.elf_image.specs.Names.{are_names_changed}
 use Rattle.elf_image.specs.Relocated.{is_against}
 use Rattle.elf_image.specs.Staying.{table_number}

@@ -7,7 +7,7 @@ use Rattle.elf_format.specs.Records.{relocations_in}
 use Rattle.elf_format.specs.Views.{NamedSymbol}
 use Rattle.elf_image.specs.Relocated.{are_relocations, is_against}
 use Rattle.elf_image.specs.Staying.{table_number}
-use Rattle.elf_relocations.specs.Renumbered.{renumbered}
+use Rattle.elf_write_spec.specs.Renumbered.{renumbered}
 use Rattle.elf_write_spec.specs.Final.{final_symbol, new_dynamic_symbol, new_static_symbol}
 
 -- the number by which a relocation of a section names its symbol once the file is written; none is named by 0

@@ -1,3 +1,7 @@
+pub mod Renumbered
+pub mod Inverse
+pub mod Steps
+pub mod Rows
 pub mod Final
 pub mod Ready
 pub mod Base
@@ -11,7 +15,6 @@ pub mod KeptSymbols
 pub mod KeptSegments
 pub mod WrittenFile
 pub mod Laws
-pub use Rattle.elf_relocations.specs.Renumbered
 pub use Rattle.elf_layout_plan.specs.Plan
 pub use Rattle.elf_layout_plan.specs.Sizes
 pub use Rattle.elf_layout_plan.specs.VersionRecords

@@ -1,5 +1,5 @@
 //! Relocations whose symbols get other numbers. The function does nothing: its contract is computed.
-ghost use Rattle.elf_relocations.specs.Rows.{RelocationRows};
+ghost use Rattle.elf_write_spec.specs.Rows.{RelocationRows};
 
 /// Relocations before and after, and numbers that don't fit.
 pub fn relocation_rows()

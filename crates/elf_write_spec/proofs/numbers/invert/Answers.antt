@@ -1,7 +1,7 @@
 -- One position after another.
 use Rattle.std.proofs.Common.{◌≡◌, ◌<◌, length, get_or, refl, arith}
-use Rattle.elf_relocations.proofs.InverseSteps.{inside, invert-all, invert-more}
-use Rattle.elf_relocations.proofs.numbers.invert.Goals as goal
+use Rattle.elf_write_spec.proofs.InverseSteps.{inside, invert-all, invert-more}
+use Rattle.elf_write_spec.proofs.numbers.invert.Goals as goal
 
 pub offset_bounds-numbers-order : goal.offset_bounds-numbers-order
 offset_bounds-numbers-order c =

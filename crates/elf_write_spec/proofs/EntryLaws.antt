@@ -12,8 +12,8 @@ use Rattle.patch_bytes.proofs.NumberLaws.{length-bytes_of, length-with_number, n
 use Rattle.elf_format.specs.declared.constants.TheConstants.{SHT_RELA}
 use Rattle.elf_format.specs.declared.form.Form.{Form}
 use Rattle.elf_format.specs.Records.{Relocation, relocation, relocation_size}
-use Rattle.elf_relocations.specs.Renumbered.{new_symbol, renumbered, symbol_limit}
-use Rattle.elf_relocations.specs.Steps.{new_info, symbol_in}
+use Rattle.elf_write_spec.specs.Renumbered.{new_symbol, renumbered, symbol_limit}
+use Rattle.elf_write_spec.specs.Steps.{new_info, symbol_in}
 
 -- ## Three words, of which the second is another
 

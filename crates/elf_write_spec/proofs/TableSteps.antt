@@ -10,8 +10,8 @@ use Rattle.elf_format.specs.declared.form.Form.{Form}
 use Rattle.elf_format.specs.Form.{records}
 use Rattle.elf_format.specs.Records.{Relocation, relocation, relocation_size}
 use Rattle.elf_format.proofs.ForCallers.TableSteps.{rest_left}
-use Rattle.elf_relocations.specs.Renumbered.{AreRenumbered, do_relocations_fit, does_relocation_fit, new_symbol, renumbered, symbol_limit}
-use Rattle.elf_relocations.proofs.EntryLaws.{changed_entry, kept-changed_entry, length-changed_entry, relocation-changed}
+use Rattle.elf_write_spec.specs.Renumbered.{AreRenumbered, do_relocations_fit, does_relocation_fit, new_symbol, renumbered, symbol_limit}
+use Rattle.elf_write_spec.proofs.EntryLaws.{changed_entry, kept-changed_entry, length-changed_entry, relocation-changed}
 
 -- ## Where a loop starts and ends
 

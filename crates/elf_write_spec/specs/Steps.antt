@@ -2,7 +2,7 @@
 use Rattle.std.specs.Prelude.{ℕ, ◌+◌, ◌*◌, ◌/◌, ◌%◌, ◌^◌, List}
 use Rattle.elf_format.specs.declared.form.Form.{Form}
 use Rattle.elf_format.specs.Form.{by_class, field_of}
-use Rattle.elf_relocations.specs.Renumbered.{new_symbol}
+use Rattle.elf_write_spec.specs.Renumbered.{new_symbol}
 
 -- as many types as a relocation can name
 abbrev pub type_count : Form → ℕ

@@ -2,7 +2,7 @@
 ghost use Rattle.std.specs.Prelude.{◌≡◌, ◌↔◌, ◌^◌, ◌<◌, ◌≤◌, length, IfOk, IsPermutation, MatchResult};
 ghost use Rattle.elf_format.specs.Image.{counted};
 ghost use Rattle.elf_tables.specs.declared.fault.TableFault.TheVariants.{NumberTooLarge};
-ghost use Rattle.elf_relocations.specs.Inverse.{IsInverse};
+ghost use Rattle.elf_write_spec.specs.Inverse.{IsInverse};
 
 use elf_tables::TableFault;
 use std::alloc::{AllocError, Global};

@@ -1,8 +1,8 @@
 //! Single relocations.
 ghost use Rattle.std.specs.Prelude.{◌≡◌, ◌+◌, ◌*◌, ◌/◌, ◌%◌, ◌^◌, ◌<◌, ◌≤◌, ◌++◌, length, nat_lt, IsTrue, OnOk};
 ghost use Rattle.patch_bytes.specs.Number.{bytes_of, with_number, word_size as size_of_word};
-ghost use Rattle.elf_relocations.specs.Renumbered.{is_symbol_below, new_symbol as new_symbol_by, symbol_limit as limit_of_symbols};
-ghost use Rattle.elf_relocations.specs.Steps.{info_in, new_info as new_info_by, symbol_in, type_count};
+ghost use Rattle.elf_write_spec.specs.Renumbered.{is_symbol_below, new_symbol as new_symbol_by, symbol_limit as limit_of_symbols};
+ghost use Rattle.elf_write_spec.specs.Steps.{info_in, new_info as new_info_by, symbol_in, type_count};
 
 use elf_format::form::Form;
 use elf_format::numbers::read_field;

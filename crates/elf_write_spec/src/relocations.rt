@@ -1,7 +1,7 @@
 //! The relocations of a section.
 ghost use Rattle.std.specs.Prelude.{◌≡◌, ◌↔◌, length, false, true, IfOk, IsTrue, MatchResult};
 ghost use Rattle.elf_tables.specs.declared.fault.TableFault.TheVariants.{NumberTooLarge};
-ghost use Rattle.elf_relocations.specs.Renumbered.{AreRenumbered, do_relocations_fit as do_all_fit, are_symbols_below};
+ghost use Rattle.elf_write_spec.specs.Renumbered.{AreRenumbered, do_relocations_fit as do_all_fit, are_symbols_below};
 
 use crate::entry::{does_symbol_fit, push_renumbered};
 use elf_format::form::Form;

@@ -10,7 +10,7 @@ use Rattle.std.proofs.lemmas.List.Sorted.{All-permutation, Contains-permutation}
 use Rattle.std.proofs.lemmas.Map.Keys.{IsDistinct-IsPermutation, IsDistinct-from_apart, apart_from_distinct}
 use Rattle.elf_format.specs.Image.{counted}
 use Rattle.elf_format.proofs.ForCallers.Lengths.{length-counted, slice_index-counted}
-use Rattle.elf_relocations.specs.Inverse.{IsInverse}
+use Rattle.elf_write_spec.specs.Inverse.{IsInverse}
 
 -- the numbers below a number differ
 apart-counted : (n i j d : ℕ) → i < j → j < length (counted n) → eqb (get_or (counted n) i d) (get_or (counted n) j d) ≡ false

@@ -5,10 +5,10 @@ use Rattle.std.specs.List.{list_all}
 use Rattle.std.proofs.lemmas.Bool.{ltb-true}
 use Rattle.elf_format.specs.Form.{records}
 use Rattle.elf_format.specs.Records.{Relocation, relocation, relocation_size}
-use Rattle.elf_relocations.specs.Renumbered.{AreRenumbered, does_relocation_fit, is_symbol_below, new_symbol, symbol_limit}
-use Rattle.elf_relocations.proofs.EntryLaws.{symbol_of, two_words_there}
-use Rattle.elf_relocations.proofs.TableSteps.{Turn, all_there, at_end, changed_bytes, count_of, from_start, made-ends, made-goes, made-starts, passes, renumbered-changed, room_left, turn}
-use Rattle.elf_relocations.proofs.relocations.renumber.Goals as goal
+use Rattle.elf_write_spec.specs.Renumbered.{AreRenumbered, does_relocation_fit, is_symbol_below, new_symbol, symbol_limit}
+use Rattle.elf_write_spec.proofs.EntryLaws.{symbol_of, two_words_there}
+use Rattle.elf_write_spec.proofs.TableSteps.{Turn, all_there, at_end, changed_bytes, count_of, from_start, made-ends, made-goes, made-starts, passes, renumbered-changed, room_left, turn}
+use Rattle.elf_write_spec.proofs.relocations.renumber.Goals as goal
 
 pub loop-init : goal.loop-init
 loop-init c =

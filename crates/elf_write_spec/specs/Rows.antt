@@ -5,7 +5,7 @@ use Rattle.patch_bytes.specs.declared.number.Wide.TheVariants.{W32, W64}
 use Rattle.elf_format.specs.declared.constants.TheConstants.{SHT_REL, SHT_RELA}
 use Rattle.elf_format.specs.declared.form.Form.{Form}
 use Rattle.elf_format.specs.Records.{Relocation, relocations_in}
-use Rattle.elf_relocations.specs.Renumbered.{do_relocations_fit, are_symbols_below, new_symbol, renumbered}
+use Rattle.elf_write_spec.specs.Renumbered.{do_relocations_fit, are_symbols_below, new_symbol, renumbered}
 
 abbrev pub wide : Form
 wide = record { wide = W64; order = Little }

@@ -1,8 +1,8 @@
 use Rattle.std.proofs.Common.{◌≤◌, ◌-◌, ◌*◌, length, true}
 use Rattle.elf_format.specs.Records.{Relocation, relocation_size}
-use Rattle.elf_relocations.specs.Renumbered.{does_relocation_fit, is_symbol_below}
-use Rattle.elf_relocations.proofs.TableSteps.{AllPass, IsMade, count_of}
-use Rattle.elf_relocations.proofs.relocations.renumber.Given as goal
+use Rattle.elf_write_spec.specs.Renumbered.{does_relocation_fit, is_symbol_below}
+use Rattle.elf_write_spec.proofs.TableSteps.{AllPass, IsMade, count_of}
+use Rattle.elf_write_spec.proofs.relocations.renumber.Given as goal
 
 -- those that are left are there, name symbols, and fit; with what was made they give the whole
 abbrev pub invariant-loop : goal.invariant-loop

@@ -7,7 +7,7 @@ use Rattle.elf_format.specs.declared.form.Form.{Form}
 use Rattle.elf_format.specs.Image.{counted}
 use Rattle.elf_format.specs.Records.{Relocation, relocations_in}
 use Rattle.elf_format.proofs.ForCallers.Lengths.{slice_index-counted}
-use Rattle.elf_relocations.specs.Renumbered.{AreRenumbered, are_symbols_below, is_symbol_below, new_symbol, renumbered}
+use Rattle.elf_write_spec.specs.Renumbered.{AreRenumbered, are_symbols_below, is_symbol_below, new_symbol, renumbered}
 
 -- each symbol's number is its own, and 0 stays
 new_symbol-same : (n symbol : ℕ) → is_symbol_below n symbol ≡ true → new_symbol (counted n) symbol ≡ symbol

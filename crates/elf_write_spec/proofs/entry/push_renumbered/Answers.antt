@@ -3,10 +3,10 @@ use Rattle.std.proofs.Common.{◌≡◌, ℕ, ◌+◌, ◌*◌, ◌/◌, ◌%◌
 use Rattle.std.specs.Prelude.{if◌then◌else◌, is_ok}
 use Rattle.std.proofs.lemmas.List.{take_rest}
 use Rattle.patch_bytes.specs.Number.{bytes_of, word_size}
-use Rattle.elf_relocations.specs.Renumbered.{new_symbol}
-use Rattle.elf_relocations.specs.Steps.{new_info, type_count}
-use Rattle.elf_relocations.proofs.EntryLaws.{pushed_parts}
-use Rattle.elf_relocations.proofs.entry.push_renumbered.Goals as goal
+use Rattle.elf_write_spec.specs.Renumbered.{new_symbol}
+use Rattle.elf_write_spec.specs.Steps.{new_info, type_count}
+use Rattle.elf_write_spec.proofs.EntryLaws.{pushed_parts}
+use Rattle.elf_write_spec.proofs.entry.push_renumbered.Goals as goal
 
 pub returns : goal.returns
 returns c =

@@ -2,10 +2,10 @@
 use Rattle.std.proofs.Common.{ℕ, length, sym, ap, ◌∙◌, subst}
 use Rattle.std.specs.Prelude.{IsTrue, nat_lt}
 use Rattle.elf_format.specs.Records.{Relocation}
-use Rattle.elf_relocations.specs.Renumbered.{do_relocations_fit, does_relocation_fit, is_symbol_below, new_symbol, symbol_limit}
-use Rattle.elf_relocations.proofs.EntryLaws.{symbol_of}
-use Rattle.elf_relocations.proofs.TableSteps.{Turn, at_end, count_of, first_decides, none_fails, others_decide, passes, room_left, turn}
-use Rattle.elf_relocations.proofs.relocations.do_relocations_fit.Goals as goal
+use Rattle.elf_write_spec.specs.Renumbered.{do_relocations_fit, does_relocation_fit, is_symbol_below, new_symbol, symbol_limit}
+use Rattle.elf_write_spec.proofs.EntryLaws.{symbol_of}
+use Rattle.elf_write_spec.proofs.TableSteps.{Turn, at_end, count_of, first_decides, none_fails, others_decide, passes, room_left, turn}
+use Rattle.elf_write_spec.proofs.relocations.do_relocations_fit.Goals as goal
 
 pub does_symbol_fit-requires : goal.does_symbol_fit-requires
 does_symbol_fit-requires c =

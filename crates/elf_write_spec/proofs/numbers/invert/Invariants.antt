@@ -1,5 +1,5 @@
 use Rattle.std.proofs.Common.{◌≡◌, ◌<◌, ℕ, get_or}
-use Rattle.elf_relocations.proofs.numbers.invert.Given as goal
+use Rattle.elf_write_spec.proofs.numbers.invert.Given as goal
 
 -- the positions so far have their numbers
 abbrev pub invariant-loop-i : goal.invariant-loop-i

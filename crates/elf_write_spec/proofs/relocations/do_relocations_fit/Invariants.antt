@@ -1,8 +1,8 @@
 use Rattle.std.proofs.Common.{◌≤◌, ◌-◌, ◌*◌, length, true}
 use Rattle.elf_format.specs.Records.{Relocation, relocation_size}
-use Rattle.elf_relocations.specs.Renumbered.{do_relocations_fit, does_relocation_fit, is_symbol_below}
-use Rattle.elf_relocations.proofs.TableSteps.{AllPass, count_of}
-use Rattle.elf_relocations.proofs.relocations.do_relocations_fit.Given as goal
+use Rattle.elf_write_spec.specs.Renumbered.{do_relocations_fit, does_relocation_fit, is_symbol_below}
+use Rattle.elf_write_spec.proofs.TableSteps.{AllPass, count_of}
+use Rattle.elf_write_spec.proofs.relocations.do_relocations_fit.Given as goal
 
 -- those that are left are there, name symbols, and fit just where all do
 abbrev pub invariant-loop : goal.invariant-loop

@@ -1,4 +1,0 @@
-pub mod Renumbered
-pub mod Inverse
-pub mod Steps
-pub mod Rows
