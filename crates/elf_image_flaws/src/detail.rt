@@ -1,5 +1,5 @@
-use crate::line::write_detail;
 use crate::flaws::Flaw;
+use crate::line::write_detail;
 use std::fmt;
 
 /// What of a file has a range of its bytes.

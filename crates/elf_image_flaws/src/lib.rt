@@ -1,6 +1,5 @@
-//! What of an ELF file contradicts the read rules on links between tables, on texts and on versions: the first section of
-//! which a number, a symbol, a relocation or a version record fails a test of the rule.
-//! What of an ELF file contradicts a read rule, and the line in which that is told.
+//! What of an ELF file contradicts the read rules on links between tables, on texts and on versions, and the line in which that is
+//! told: the first section of which a number, a symbol, a relocation or a version record fails a test of the rule.
 #![tactic(auto)]
 
 pub mod detail;

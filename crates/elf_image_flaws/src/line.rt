@@ -1,8 +1,8 @@
 // The lines in which details are told: words, with a `#` where a number, a name or a piece stands.
 use crate::detail::{Detail, Piece};
+use crate::flaws::Flaw;
 use crate::tag_names::{tag_meaning, tag_name};
 use elf_format::constants::SHT_STRTAB;
-use crate::flaws::Flaw;
 use std::fmt;
 
 // What stands in the place of a `#`.

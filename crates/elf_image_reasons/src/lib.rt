@@ -15,5 +15,4 @@ mod tables;
 pub use crate::broken::broken_rule;
 pub use crate::reason::{Reason, explain_refusal};
 pub use crate::rule::Rule;
-pub use elf_image_flaws::{Detail, Piece};
-pub use elf_image_flaws::{Flaw, MOST_VERSIONS};
+pub use elf_image_flaws::{Detail, Flaw, MOST_VERSIONS, Piece};

@@ -1,5 +1,5 @@
-//! The symbols of a section, each read from the file's bytes when it is asked for (gABI, Symbol Table).
-//! The symbols of a section with what edits made of them (gABI, Symbol Table; GNU symbol versioning).
+//! The symbols of a section, each read from the file's bytes when it is asked for, and with what edits made of them (gABI, Symbol
+//! Table; GNU symbol versioning).
 #![tactic(auto)]
 
 mod change;

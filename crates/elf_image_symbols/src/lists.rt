@@ -2,8 +2,8 @@
 ghost use Rattle.std.specs.Prelude.{◌≡◌, IfOk};
 ghost use Rattle.elf_image_symbols.specs.EditedLists.{edits_of_none, lists_at_read};
 
-use crate::edited_symbols::EditedSymbols;
 use crate::Symbols;
+use crate::edited_symbols::EditedSymbols;
 use std::alloc::{AllocError, Global};
 
 /// The symbols for a link editor and those for a loader, as they were read.

@@ -6,9 +6,9 @@ ghost use Rattle.elf_image_symbols.specs.SymbolModel.{symbol_model};
 ghost use Rattle.elf_image_symbols.specs.TableSymbols.{symbol_with};
 ghost use Rattle.elf_image_symbols.specs.Loan.{numbers_now, symbols_now};
 
+use crate::Symbol;
 use crate::changes::find;
 use crate::edited_symbols::EditedSymbols;
-use crate::Symbol;
 use crate::records::SymbolNumbers;
 
 /// The symbols of a section that are there, as they are now (gABI, Symbol Table; GNU symbol versioning): a loan of

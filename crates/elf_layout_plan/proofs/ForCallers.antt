@@ -2,8 +2,6 @@
 -- this crate's proofs is meant for them.
 -- blocks that stay: no two of them share an address
 pub use Rattle.elf_layout_plan.proofs.ApartBlocks
-pub use Rattle.elf_layout_plan.proofs.NeedSteps
-
 -- what is known of an edited image and the one that was read: its loaded segments and its sections stand where those stood
 pub use Rattle.elf_layout_plan.proofs.ApartFacts
 -- sections that can't move stay where they are
@@ -56,6 +54,8 @@ pub use Rattle.elf_layout_plan.proofs.ThreeNumbers
 pub use Rattle.elf_layout_plan.proofs.UnloadedParts
 -- the program headers that are written: which of them are loaded
 pub use Rattle.elf_layout_plan.proofs.PlacedWritten
+-- needed versions that stay, and the entries of the dynamic list with them
+pub use Rattle.elf_layout_plan.proofs.NeedSteps
 pub use Rattle.elf_tables.proofs.ForCallers.EntryBack
 pub use Rattle.elf_tables.proofs.ForCallers.FileHeaderBack
 pub use Rattle.elf_tables.proofs.ForCallers.FilesOpened
@@ -66,9 +66,3 @@ pub use Rattle.elf_tables.proofs.ForCallers.TableBack
 pub use Rattle.elf_tables.proofs.ForCallers.EditedLaws
 pub use Rattle.elf_tables.proofs.ForCallers.KeptSections
 pub use Rattle.elf_tables.proofs.ForCallers.ReadImageLaws
-
--- what is known of texts, and of images that were read and edited
-pub use Rattle.elf_layout_plan.proofs.ForCallers.SameTexts
-pub use Rattle.elf_layout_plan.proofs.ForCallers.EditedLaws
-pub use Rattle.elf_layout_plan.proofs.ForCallers.KeptSections
-pub use Rattle.elf_layout_plan.proofs.ForCallers.ReadImageLaws

@@ -1,7 +1,6 @@
 //! What a plan of an edited ELF file is: how large each section is to be, which sections move, and where all of them stand.
-//! The definitions, with laws and small images for which they are computed; and the walk over blocks of memory that tells which
-//! of them must move so that no two overlap.
-//! Which needed versions of an edited ELF file stay, and which entries of its dynamic list with them (GNU symbol
+//! The definitions, with laws and small images for which they are computed; the walk over blocks of memory that tells which
+//! of them must move so that no two overlap; and which needed versions stay, with their entries of the dynamic list (GNU symbol
 //! versioning).
 #![tactic(auto)]
 
@@ -28,5 +27,8 @@ pub use crate::source::read_source;
 pub use crate::staying::StayingNeeds;
 pub use crate::steps::Steps;
 pub use crate::walk::walk_blocks;
-pub use crate::format_constants as constants;
-pub use elf_tables::{Builder, Dynamic, Finished, Form, Section, Segment, StringTable, SymbolsNow, TableFault, VersionDef, VersionId, VersionNeed, VersionNeedName, constants as format_constants, is_movable_type, loads_end};
+pub use elf_tables::{
+    Builder, Dynamic, Finished, Form, Section, Segment, StringTable, SymbolsNow, TableFault,
+    VersionDef, VersionId, VersionNeed, VersionNeedName, constants as format_constants,
+    is_movable_type, loads_end,
+};

@@ -9,7 +9,7 @@ use crate::strings::made_for;
 use crate::tables::{gabi_size, gnu_size};
 use crate::users::Users;
 use crate::versions::{definitions_size, grown};
-use elf_layout_plan::constants::{
+use elf_layout_plan::format_constants::{
     SHT_DYNAMIC, SHT_DYNSYM, SHT_GNU_HASH, SHT_GNU_VERDEF, SHT_GNU_VERNEED, SHT_GNU_VERSYM,
     SHT_HASH, SHT_STRTAB, SHT_SYMTAB,
 };

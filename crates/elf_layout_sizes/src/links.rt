@@ -4,7 +4,7 @@ ghost use Rattle.elf_layout_plan.specs.Kept.{dynamic_strings_number as strings_n
 ghost use Rattle.elf_layout_sizes.specs.Seen.{AreLinks};
 
 use elf_layout_plan::Builder;
-use elf_layout_plan::constants::{
+use elf_layout_plan::format_constants::{
     SHT_DYNAMIC, SHT_DYNSYM, SHT_GNU_VERDEF, SHT_GNU_VERNEED, SHT_SYMTAB,
 };
 

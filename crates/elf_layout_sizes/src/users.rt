@@ -3,7 +3,7 @@ use crate::links::{Links, links_of};
 use crate::other_texts::{Others, have_same_counts, is_known_copied};
 use crate::texts::Texts;
 use crate::versions::{grown, needs_size};
-use elf_layout_plan::constants::{
+use elf_layout_plan::format_constants::{
     SHT_DYNAMIC, SHT_DYNSYM, SHT_GNU_VERDEF, SHT_GNU_VERNEED, SHT_SYMTAB,
 };
 use elf_layout_plan::{Builder, Section, StayingNeeds, is_numbered};

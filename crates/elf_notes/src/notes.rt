@@ -21,8 +21,7 @@ use elf_format::constants::{SHT_GNU_HASH, SHT_REL, SHT_RELA};
 use elf_format::numbers::word_at;
 use elf_format::{Form, SectionData};
 use elf_image::{Builder, Section, SymbolsNow, VersionNeed};
-use elf_layout_plan::StayingNeeds;
-use elf_layout_plan::read_source;
+use elf_layout_plan::{StayingNeeds, read_source};
 use std::alloc::{AllocError, Global};
 use std::collections::HashSet;
 

@@ -1,11 +1,8 @@
--- For callers: what the crates above may cite. These are laws of the words of specs/; no other module of this
--- crate's proofs is meant for them.
--- relocations whose symbols keep their numbers are as they were
-pub use Rattle.elf_write_spec.proofs.SameNumbers.{renumbered_same}
+-- For callers: what the crates above may cite. These are laws of the words of specs/; no other module of
+-- this crate's proofs is meant for them.
+
+-- in each plan of an edited image headers, tables and sections share no byte of the file; what isn't loaded and has bytes stands behind all segments
 pub use Rattle.elf_write_spec.proofs.ApartInFile
-
-
-
 -- the bytes of data stand in a written file as they stood in the file that was read
 pub use Rattle.elf_write_spec.proofs.BaseBytes
 -- data, hash tables and all other bytes that stay are seen at their addresses in a written file
@@ -58,3 +55,5 @@ pub use Rattle.elf_write_spec.proofs.StaticSymbols
 pub use Rattle.elf_write_spec.proofs.SectionKinds
 pub use Rattle.elf_layout_plan.proofs.ForCallers.ApartLists
 pub use Rattle.elf_layout_plan.proofs.ForCallers.SameTexts
+-- relocations whose symbols keep their numbers are as they were
+pub use Rattle.elf_write_spec.proofs.SameNumbers.{renumbered_same}

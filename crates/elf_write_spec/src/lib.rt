@@ -1,6 +1,6 @@
 //! What a file is to which an edited ELF image is written by a plan: the bytes of headers, tables and contents, and what a reader
-//! and a loader find in them. The definitions, with laws.
-//! The bytes of relocations whose symbols get other numbers, and those numbers from an order of the symbols.
+//! and a loader find in them. The definitions, with laws; and the bytes of relocations whose symbols get other numbers, with those
+//! numbers from an order of the symbols.
 #![tactic(auto)]
 
 mod entry;
