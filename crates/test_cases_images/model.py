@@ -459,7 +459,7 @@ def tag_lines(data):
     has_path, has_needed = tags[1:2] == [DT_RUNPATH], tags[:1] == [DT_NEEDED]
     edits = {
         "DeleteSecond": (tags[:1] + tags[2:] if has_path else tags, has_path),
-        "DeleteNeeded": ([tag for tag in tags if tag != DT_NEEDED], True),
+        "RemoveNeeded": ([tag for tag in tags if tag != DT_NEEDED], True),
         "RetagFirst": ([DT_RPATH] + tags[1:] if has_needed else tags, has_needed),
         "RetagRunPaths": ([DT_RPATH if tag == DT_RUNPATH else tag for tag in tags], True),
         "Image": (tags, False),
@@ -653,7 +653,7 @@ Memory: out of memory
 Memory: out of memory
 Memory: out of memory
 Memory: out of memory
-NoDynamic(SetRunPath): No dynamic section found; can't set runpath
+NoDynamic(SetRpath): No dynamic section found; can't set runpath
 NoInterp: No interp section found; can't set interpreter
 BadPageSize(1000): Page size must be a power of 2 and >= 1024, got 1000
 NoRunPath: No DT_RPATH entry found

@@ -2,7 +2,7 @@
 use Rattle.std.specs.Prelude.{ℕ, ◌==◌, ◌||◌, Bool, List, Option, Some, None, Result, Ok, Err, if◌then◌else◌}
 use Rattle.std.specs.Option.{option_map}
 use Rattle.command_words.specs.KeyValue.{decimal_number}
-use Rattle.elf_edits.specs.Edit.{AddDebugEntry, AddNeeded, AddRunPath, ClearExecStack, ClearSymbolVersion, DeleteNeeded, DeleteRunPath, Edit, NoDefaultLibrary, RenameDynamicSymbols, ReplaceLibrary, ReplaceNeeded, SetExecStack, SetInterpreter, SetOsAbi, SetPageSize, SetRunPath, SetSoname, UseRpath}
+use Rattle.elf_edits.specs.Edit.{AddDebugTag, AddNeeded, AddRpath, ClearExecStack, ClearSymbolVersion, RemoveNeeded, RemoveRpath, Edit, NoDefaultLib, RenameDynamicSymbols, ReplaceLibrary, ReplaceNeeded, SetExecStack, SetInterpreter, SetOsAbi, SetPageSize, SetRpath, SetSoname, ForceRpath}
 use Rattle.elf_edits.specs.EditModel.{edit_model}
 use Rattle.elf_edits.specs.TextModel.{pairs_model, texts_model}
 use Rattle.elf_symbol_edits.specs.SymbolEdit.{DeleteAllSymbols, DeleteSections, RenameAllSymbols, RenameSections, SymbolEdit}
@@ -62,11 +62,11 @@ no_elf_kind kind = if is_macho_kind kind then OtherFormat else UnknownKind
 -- those that take nothing
 unfoldable pub bare_edit : ℕ → Option Edit
 bare_edit kind =
-    if kind == ELF_ADD_DEBUG_TAG then Some AddDebugEntry
+    if kind == ELF_ADD_DEBUG_TAG then Some AddDebugTag
     else (if kind == ELF_CLEAR_EXEC_STACK then Some ClearExecStack
-    else (if kind == ELF_FORCE_RPATH then Some UseRpath
-    else (if kind == ELF_NO_DEFAULT_LIB then Some NoDefaultLibrary
-    else (if kind == ELF_REMOVE_RPATH then Some DeleteRunPath
+    else (if kind == ELF_FORCE_RPATH then Some ForceRpath
+    else (if kind == ELF_NO_DEFAULT_LIB then Some NoDefaultLib
+    else (if kind == ELF_REMOVE_RPATH then Some RemoveRpath
     else (if kind == ELF_SET_EXEC_STACK then Some SetExecStack else None)))))
 
 -- one text
@@ -74,17 +74,17 @@ unfoldable pub text_edit : ℕ → Text → Option Edit
 text_edit kind text =
     if kind == ELF_CLEAR_SYMBOL_VERSION then Some (ClearSymbolVersion text)
     else (if kind == ELF_SET_INTERPRETER then Some (SetInterpreter text)
-    else (if kind == ELF_SET_RPATH then Some (SetRunPath text)
+    else (if kind == ELF_SET_RPATH then Some (SetRpath text)
     else (if kind == ELF_SET_SONAME then Some (SetSoname text) else None)))
 
 -- any number of names
 unfoldable pub names_edit : ℕ → List Text → Option ElfEdit
 names_edit kind names =
     if kind == ELF_ADD_NEEDED then Some (plain (AddNeeded names))
-    else (if kind == ELF_ADD_RPATH then Some (plain (AddRunPath names))
+    else (if kind == ELF_ADD_RPATH then Some (plain (AddRpath names))
     else (if kind == ELF_DELETE_SECTIONS then Some (symbols (DeleteSections names))
     else (if kind == ELF_DELETE_SYMBOLS then Some (symbols (DeleteAllSymbols names))
-    else (if kind == ELF_REMOVE_NEEDED then Some (plain (DeleteNeeded names)) else None))))
+    else (if kind == ELF_REMOVE_NEEDED then Some (plain (RemoveNeeded names)) else None))))
 
 -- pairs of an old name and a new one
 unfoldable pub pairs_edit : ℕ → List (Text × Text) → Option ElfEdit

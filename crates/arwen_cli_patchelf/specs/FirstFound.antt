@@ -5,7 +5,7 @@ use Rattle.std.specs.declared.alloc.Global.{Global}
 use Rattle.std.specs.declared.vec.Vec.{Vec}
 use Rattle.std.specs.Str.{bytes_eq}
 use Rattle.elf_edits.specs.Cause.{facts_of}
-use Rattle.elf_edits.specs.Edit.{Answer, ShrinkRunPath}
+use Rattle.elf_edits.specs.Edit.{Answer, ShrinkRpath}
 use Rattle.elf_edits.specs.Shrunk.{is_allowed}
 use Rattle.elf_edits_shrink.specs.Questions.{shrink_questions}
 use Rattle.elf_edits_shrink.specs.ShrinkModel.{answer_model}
@@ -82,4 +82,4 @@ AreFirstFoundWhere finds prefixes file (Some answers) = (has_nothing_to_shrink f
 abbrev pub TellsFirstShrunk : Finding → List Text → List ℕ → ElfCommandError → Type 0
 TellsFirstShrunk finds prefixes file Memory = ⊤
 TellsFirstShrunk finds prefixes file e = (has_nothing_to_shrink file ≡ false) × (answers : List Answer) × AreFirstFoundIn finds prefixes file answers
-    × TellsEdit (one (ShrinkRunPath prefixes answers)) file e
+    × TellsEdit (one (ShrinkRpath prefixes answers)) file e

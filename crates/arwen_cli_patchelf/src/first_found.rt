@@ -4,7 +4,7 @@ ghost use Rattle.std.specs.HashSet.{keys};
 ghost use Rattle.std.specs.List.{list_any, starts_with};
 ghost use Rattle.std.specs.Str.{bytes_eq};
 ghost use Rattle.elf_edits.specs.Changes.{has_name};
-ghost use Rattle.elf_edits.specs.Edit.{ShrinkRunPath};
+ghost use Rattle.elf_edits.specs.Edit.{ShrinkRpath};
 ghost use Rattle.elf_edits.specs.Shrunk.{is_allowed};
 ghost use Rattle.elf_edits_shrink.specs.ShrinkModel.{answer_model, pair_lent};
 ghost use Rattle.elf_commands.specs.ElfAsked.{one};
@@ -61,10 +61,10 @@ fn shrunk_by(
     prefixes: &[String],
     answers: &[ProbeAnswer<'_>],
 ) -> Result<Option<Vec<u8>>, ElfCommandError>
-    ensures left { IfOk result (λ new. LeavesElf (one (ShrinkRunPath
+    ensures left { IfOk result (λ new. LeavesElf (one (ShrinkRpath
         (map string_bytes prefixes.now) (map answer_model answers.now)))
         bytes.now (bytes_left bytes.now new)) }
-    ensures err { IfErr result (TellsEdit (one (ShrinkRunPath
+    ensures err { IfErr result (TellsEdit (one (ShrinkRpath
         (map string_bytes prefixes.now) (map answer_model answers.now))) bytes.now) }
 {
     edits_show();

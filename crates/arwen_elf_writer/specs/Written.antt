@@ -9,7 +9,7 @@ use Rattle.elf_format.specs.declared.fault.ElfFault.TheVariants.{NumberTooLarge}
 use Rattle.elf_image.specs.Image.{Image}
 use Rattle.elf_layout_plan.specs.declared.fault.LayoutFault.{LayoutFault}
 use Rattle.elf_layout_plan.specs.declared.fault.LayoutFault.TheVariants as layout
-use Rattle.elf_layout_plan.specs.Plan.{IsOverlapping, IsPlan, Layout, resized}
+use Rattle.elf_layout_plan.specs.Plan.{IsOverlapping, IsPlan, Plan, resized}
 use Rattle.elf_layout.specs.Refused.{IsNoLayout}
 use Rattle.elf_write.specs.Output.{AreHeadersApart}
 use Rattle.elf_write.specs.WrittenFile.{IsWrittenOf}
@@ -32,11 +32,11 @@ pub record IsNoDifference (bytes : List ℕ) (d : Difference) : Type 0 where
 
 -- two blocks of memory overlap that can't move, or the file header and the program header table share some of the file
 abbrev pub IsOverlap : Image → Type 0
-IsOverlap image = IsOverlapping (resized image) ⊎ ((plan : Layout) × IsPlan (resized image) plan × (AreHeadersApart image plan → ⊥))
+IsOverlap image = IsOverlapping (resized image) ⊎ ((plan : Plan) × IsPlan (resized image) plan × (AreHeadersApart image plan → ⊥))
 
 -- a number of the layout or of what is written is past its field
 abbrev pub IsPastField : Image → Type 0
-IsPastField image = IsNoLayout image layout.NumberTooLarge ⊎ ((plan : Layout) × IsPlan (resized image) plan × (do_numbers_fit image plan ≡ false))
+IsPastField image = IsNoLayout image layout.NumberTooLarge ⊎ ((plan : Plan) × IsPlan (resized image) plan × (do_numbers_fit image plan ≡ false))
 
 -- why an edited image has no bytes
 abbrev pub IsNoEdit : Image → LayoutFault → Type 0

@@ -1,7 +1,7 @@
 //! The edits of a file's image.
 ghost use Rattle.std.specs.Prelude.{◌≡◌, [], IfOk, IsOk, OnErr, map};
 ghost use Rattle.std.specs.HashSet.{keys};
-ghost use Rattle.elf_edits.specs.Edit.{AddDebugEntry, AddNeeded, AddRunPath, ClearExecStack, ClearSymbolVersion, DeleteNeeded, DeleteRunPath, NoDefaultLibrary, RenameDynamicSymbols, ReplaceLibrary, ReplaceNeeded, SetExecStack, SetInterpreter, SetOsAbi, SetPageSize, SetRunPath, SetSoname, UseRpath, UseRunpath};
+ghost use Rattle.elf_edits.specs.Edit.{AddDebugTag, AddNeeded, AddRpath, ClearExecStack, ClearSymbolVersion, RemoveNeeded, RemoveRpath, NoDefaultLib, RenameDynamicSymbols, ReplaceLibrary, ReplaceNeeded, SetExecStack, SetInterpreter, SetOsAbi, SetPageSize, SetRpath, SetSoname, ForceRpath, ForceRunpath};
 ghost use Rattle.elf_edits.specs.EditModel.{edit_model, pairs_model, texts_model};
 ghost use Rattle.elf_apply.specs.Questions.{shrink_questions as all_questions};
 ghost use Rattle.elf_apply.specs.ShrinkModel.{pair_lent};
@@ -40,21 +40,21 @@ impl<'data> Writer<'data> {
 
     /// Drops every DT_RPATH and DT_RUNPATH (gABI, Dynamic Section). Takes no memory.
     pub fn elf_delete_runpath(&mut self) -> Result<(), ElfError>
-        ensures { TakesInPlace DeleteRunPath self.old self.new result }
+        ensures { TakesInPlace RemoveRpath self.old self.new result }
     {
         steps::drop_tagged(&mut self.builder, &ElfEdit::RemoveRpath)
     }
 
     /// Makes every DT_RPATH a DT_RUNPATH (gABI, Dynamic Section). Takes no memory.
     pub fn elf_use_runpath(&mut self) -> Result<(), ElfError>
-        ensures { TakesInPlace UseRunpath self.old self.new result }
+        ensures { TakesInPlace ForceRunpath self.old self.new result }
     {
         steps::use_runpath(&mut self.builder)
     }
 
     /// Makes every DT_RUNPATH a DT_RPATH (gABI, Dynamic Section). Takes no memory.
     pub fn elf_use_rpath(&mut self) -> Result<(), ElfError>
-        ensures { TakesInPlace UseRpath self.old self.new result }
+        ensures { TakesInPlace ForceRpath self.old self.new result }
     {
         steps::use_rpath(&mut self.builder)
     }
@@ -114,7 +114,7 @@ impl<'data> Writer<'data> {
     /// Drops every DT_NEEDED whose text is one of these names (gABI, Dynamic Section), as
     /// [`elf_delete_needed`](Self::elf_delete_needed) does with a set of them.
     pub fn delete_needed_names(&mut self, alloc: Global, names: &[Vec<u8>]) -> Result<(), ElfError>
-        ensures { TakesEdit (DeleteNeeded (texts_model names.now)) self.old self.new result }
+        ensures { TakesEdit (RemoveNeeded (texts_model names.now)) self.old self.new result }
     {
         let names = copy_texts(alloc, names)?;
         self.edit(alloc, ElfEdit::RemoveNeeded(names))
@@ -122,14 +122,14 @@ impl<'data> Writer<'data> {
 
     /// Puts an entry DT_DEBUG last, unless one is there (gABI, Dynamic Section).
     pub fn elf_add_dynamic_debug(&mut self, alloc: Global) -> Result<(), ElfError>
-        ensures { TakesEdit AddDebugEntry self.old self.new result }
+        ensures { TakesEdit AddDebugTag self.old self.new result }
     {
         self.edit(alloc, ElfEdit::AddDebugTag)
     }
 
     /// Gives every DT_RPATH and DT_RUNPATH this text; without one, puts a DT_RUNPATH last.
     pub fn elf_set_runpath(&mut self, alloc: Global, text: &[u8]) -> Result<(), ElfError>
-        ensures { TakesEdit (SetRunPath text.now) self.old self.new result }
+        ensures { TakesEdit (SetRpath text.now) self.old self.new result }
     {
         let text = Vec::from_slice(alloc, text)?;
         self.edit(alloc, ElfEdit::SetRpath(text))
@@ -138,7 +138,7 @@ impl<'data> Writer<'data> {
     /// Adds each text to every DT_RPATH and DT_RUNPATH, behind a colon where the old text isn't empty; without one,
     /// puts a DT_RUNPATH last, of the texts joined by colons.
     pub fn elf_add_runpath(&mut self, alloc: Global, texts: &[Vec<u8>]) -> Result<(), ElfError>
-        ensures { TakesEdit (AddRunPath (texts_model texts.now)) self.old self.new result }
+        ensures { TakesEdit (AddRpath (texts_model texts.now)) self.old self.new result }
     {
         let texts = copy_texts(alloc, texts)?;
         self.edit(alloc, ElfEdit::AddRpath(texts))
@@ -150,7 +150,7 @@ impl<'data> Writer<'data> {
         alloc: Global,
         names: &HashSet<Vec<u8>>,
     ) -> Result<(), ElfError>
-        ensures { TakesEdit (DeleteNeeded (texts_model (keys names.now))) self.old self.new result }
+        ensures { TakesEdit (RemoveNeeded (texts_model (keys names.now))) self.old self.new result }
     {
         let names = copy_set(alloc, names)?;
         self.edit(alloc, ElfEdit::RemoveNeeded(names))
@@ -224,7 +224,7 @@ impl<'data> Writer<'data> {
 
     /// Sets DF_1_NODEFLIB in every DT_FLAGS_1; without one, puts one last.
     pub fn elf_no_default_lib(&mut self, alloc: Global) -> Result<(), ElfError>
-        ensures { TakesEdit NoDefaultLibrary self.old self.new result }
+        ensures { TakesEdit NoDefaultLib self.old self.new result }
     {
         self.edit(alloc, ElfEdit::NoDefaultLib)
     }

@@ -9,7 +9,7 @@ use Rattle.elf_edits.specs.declared.edit.ElfEdit.{ElfEdit}
 use Rattle.elf_edits.specs.Batch.{Refusal, answer_at, run, run_from, then_on}
 use Rattle.elf_edits.specs.Cause.{BadPageSize, Cause, Facts, MipsImage, NoDynamic, cause, cause_if, facts_of, first_cause, is_page_size}
 use Rattle.elf_edits.specs.Decided.{all_edited, first_refusal, unless_refused}
-use Rattle.elf_edits.specs.Edit.{Edit, SetPageSize, UseRpath, UseRunpath, edited_entries, touches_entries}
+use Rattle.elf_edits.specs.Edit.{Edit, SetPageSize, ForceRpath, ForceRunpath, edited_entries, touches_entries}
 use Rattle.elf_edits.specs.EditModel.{edit_model}
 use Rattle.elf_edits.specs.Edited.{edited_image, is_list_with, step, with_load_align}
 use Rattle.elf_edits.proofs.ForCallers.{batch_decided, step_is, step_refused}
@@ -115,15 +115,15 @@ test_listed : (test : List Entry → Bool) → test [] ≡ false → (o : Option
 test_listed test none None = sym none
 test_listed test none (Some es) = refl
 
-pub used_runpath : (old : Image) → with_retagged DT_RPATH DT_RUNPATH old ≡ edited_image UseRunpath old
+pub used_runpath : (old : Image) → with_retagged DT_RPATH DT_RUNPATH old ≡ edited_image ForceRunpath old
 unfolding edited_image touches_entries edited_entries
 used_runpath old =
-    ap (λ b. record old { changed = old.changed || b; entries = option_map (edited_entries old.header.e_machine UseRunpath) old.entries }) (sym (test_listed (lists_tag DT_RPATH) refl old.entries))
+    ap (λ b. record old { changed = old.changed || b; entries = option_map (edited_entries old.header.e_machine ForceRunpath) old.entries }) (sym (test_listed (lists_tag DT_RPATH) refl old.entries))
 
-pub used_rpath : (old : Image) → with_retagged DT_RUNPATH DT_RPATH old ≡ edited_image UseRpath old
+pub used_rpath : (old : Image) → with_retagged DT_RUNPATH DT_RPATH old ≡ edited_image ForceRpath old
 unfolding edited_image touches_entries edited_entries
 used_rpath old =
-    ap (λ b. record old { changed = old.changed || b; entries = option_map (edited_entries old.header.e_machine UseRpath) old.entries }) (sym (test_listed (lists_tag DT_RUNPATH) refl old.entries))
+    ap (λ b. record old { changed = old.changed || b; entries = option_map (edited_entries old.header.e_machine ForceRpath) old.entries }) (sym (test_listed (lists_tag DT_RUNPATH) refl old.entries))
 
 pub sized : (size : ℕ) (old : Image) → record old { changed = true; segments = with_load_align size old.segments; page_size = Some size } ≡ edited_image (SetPageSize size) old
 unfolding image_with
@@ -154,11 +154,11 @@ task_causes task facts = first_there (cause_if (facts.machine == EM_MIPS) MipsIm
 pub record IsPlain (edit : Edit) (task : List ℕ) : Type 0 where
   pub is : (old : Image) → cause edit old ≡ first_there (cause_if ((facts_of old).machine == EM_MIPS) MipsImage) (cause_if (not (facts_of old).has_list) (NoDynamic task))
 
-pub plain_rpath : IsPlain UseRpath (codes "change rpath")
+pub plain_rpath : IsPlain ForceRpath (codes "change rpath")
 unfolding cause first_cause
 plain_rpath = record { is = λ old. ap (first_there (cause_if ((facts_of old).machine == EM_MIPS) MipsImage)) (or_nothing (cause_if (not (facts_of old).has_list) (NoDynamic (codes "change rpath")))) }
 
-pub plain_runpath : IsPlain UseRunpath (codes "change runpath")
+pub plain_runpath : IsPlain ForceRunpath (codes "change runpath")
 unfolding cause first_cause
 plain_runpath = record { is = λ old. ap (first_there (cause_if ((facts_of old).machine == EM_MIPS) MipsImage)) (or_nothing (cause_if (not (facts_of old).has_list) (NoDynamic (codes "change runpath")))) }
 

@@ -7,7 +7,7 @@ use Rattle.elf_edits.specs.declared.edit.ElfEdit.{ElfEdit}
 use Rattle.elf_edits.specs.Batch.{Refusal, run}
 use Rattle.elf_edits.specs.EditModel.{Bytes, edit_model, texts_model}
 use Rattle.elf_edits.specs.Cause.{Cause}
-use Rattle.elf_edits.specs.Edit.{Edit, ShrinkRunPath}
+use Rattle.elf_edits.specs.Edit.{Edit, ShrinkRpath}
 use Rattle.elf_edits.specs.Edited.{step}
 use Rattle.elf_edits_shrink.specs.declared.probe.ProbeAnswer.{ProbeAnswer}
 use Rattle.elf_edits_shrink.specs.declared.removal.Removed.{Removed}
@@ -38,7 +38,7 @@ RemovedAre edit old removed = map removal_model removed.items ≡ removed_by edi
 
 -- the edit that shrinks run paths by these prefixes and what was found
 abbrev pub shrink_model : List Bytes → List ProbeAnswer → Edit
-shrink_model prefixes probe = ShrinkRunPath (texts_model prefixes) (map answer_model probe)
+shrink_model prefixes probe = ShrinkRpath (texts_model prefixes) (map answer_model probe)
 
 -- ## Batches
 

@@ -3,7 +3,7 @@ ghost use Rattle.std.specs.Prelude.{◌≡◌, ◌==◌, IfOk, IsOk, IsSome, IsT
 ghost use Rattle.std.specs.List.{AllPass};
 ghost use Rattle.elf_edits.specs.Cause.{MipsImage as mips_image, cause_if, facts_of, list_missing};
 ghost use Rattle.elf_edits.specs.Decided.{all_edited, first_refusal as first_refusal_of};
-ghost use Rattle.elf_edits.specs.Edit.{SetPageSize, UseRpath, UseRunpath, dropped_tags, task_of};
+ghost use Rattle.elf_edits.specs.Edit.{SetPageSize, ForceRpath, ForceRunpath, dropped_tags, task_of};
 ghost use Rattle.elf_edits.specs.EditModel.{edit_model};
 ghost use Rattle.elf_edits.specs.Facts.{facts_model};
 ghost use Rattle.elf_edits.specs.Texts.{has_some};
@@ -169,9 +169,9 @@ pub fn drop_tagged(builder: &mut Builder<'_>, edit: &ElfEdit) -> Result<()>
 
 /// Makes every `DT_RPATH` a `DT_RUNPATH`. Takes no memory. Errors: `Modify`.
 pub fn use_runpath(builder: &mut Builder<'_>) -> Result<()>
-    ensures { TakesInPlace UseRunpath builder.old builder.new result }
+    ensures { TakesInPlace ForceRunpath builder.old builder.new result }
 {
-    if let Some(cause) = list_refusal(&image_facts(builder), Task::UseRunpath) {
+    if let Some(cause) = list_refusal(&image_facts(builder), Task::ForceRunpath) {
         return Err(ElfError::Modify(cause));
     }
     retag(builder, DT_RPATH, DT_RUNPATH);
@@ -180,9 +180,9 @@ pub fn use_runpath(builder: &mut Builder<'_>) -> Result<()>
 
 /// Makes every `DT_RUNPATH` a `DT_RPATH`. Takes no memory. Errors: `Modify`.
 pub fn use_rpath(builder: &mut Builder<'_>) -> Result<()>
-    ensures { TakesInPlace UseRpath builder.old builder.new result }
+    ensures { TakesInPlace ForceRpath builder.old builder.new result }
 {
-    if let Some(cause) = list_refusal(&image_facts(builder), Task::UseRpath) {
+    if let Some(cause) = list_refusal(&image_facts(builder), Task::ForceRpath) {
         return Err(ElfError::Modify(cause));
     }
     retag(builder, DT_RUNPATH, DT_RPATH);

@@ -14,7 +14,7 @@ use Rattle.byte_store.specs.declared.difference.ReplaceError.{ReplaceError}
 use Rattle.byte_store.specs.declared.difference.ReplaceError.TheVariants as replace
 use Rattle.elf_edits.specs.Batch.{answer_at, run, run_from, then_on}
 use Rattle.elf_edits.specs.Cause.{Cause}
-use Rattle.elf_edits.specs.Edit.{Answer, Edit, ShrinkRunPath}
+use Rattle.elf_edits.specs.Edit.{Answer, Edit, ShrinkRpath}
 use Rattle.elf_edits.specs.Edited.{step}
 use Rattle.elf_commands_steps.specs.ShrinkModel.{removal_model}
 use Rattle.elf_commands_steps.specs.Removed.{Removed}
@@ -136,7 +136,7 @@ none_found finds file elf.InvalidDtNeededEncoding refuses other image is = absur
 
 -- an error of the edit by the answers that were found
 pub told_shrunk : (finds : Finding) (prefixes : List Text) (file : List ℕ) (answers : List Answer) (e : ElfError) → AreFoundIn finds file answers
-    → TellsEdit (one (ShrinkRunPath prefixes answers)) file (answer_to_elf e) → TellsShrunk finds prefixes file (answer_to_elf e)
+    → TellsEdit (one (ShrinkRpath prefixes answers)) file (answer_to_elf e) → TellsShrunk finds prefixes file (answer_to_elf e)
 told_shrunk finds prefixes file answers elf.Memory found tells = tt
 told_shrunk finds prefixes file answers (elf.Parse fault) found tells = (answers, found, tells)
 told_shrunk finds prefixes file answers (elf.Modify cause) found tells = (answers, found, tells)
@@ -146,9 +146,9 @@ told_shrunk finds prefixes file answers elf.InvalidDtNeededEncoding found tells 
 
 -- what an error of an image that was read tells of its file
 pub unshrunk_file : (finds : Finding) (prefixes : List Text) (file : List ℕ) (read : Image) (answers : List Answer) (e : ElfCommandError) → image_of file ≡ Ok read → AreFoundIn finds file answers
-    → TellsUnshrunk (ShrinkRunPath prefixes answers) read e → TellsShrunk finds prefixes file e
+    → TellsUnshrunk (ShrinkRpath prefixes answers) read e → TellsShrunk finds prefixes file e
 unshrunk_file finds prefixes file read answers e is found (cause, why, told) =
-    let edit : Edit = ShrinkRunPath prefixes answers in
+    let edit : Edit = ShrinkRpath prefixes answers in
     let tells : TellsEdit (one edit) file (answer_to_elf cause) = elim why [
       | inl refuses ↦ tells_unshrunk edit file read cause is refuses
       | inr none ↦ tells_unmade edit file read none.0 cause is none.1 none.2
@@ -158,11 +158,11 @@ unshrunk_file finds prefixes file read answers e is found (cause, why, told) =
 
 -- what differs from the bytes of a file that was read, by answers that are found
 pub shrunk_file : EditsShow → BatchesAreTheirEdits → ReadImagesHoldParts → (finds : Finding) (prefixes : List Text) (file : List ℕ) (read : Image) (answers : List Answer) (d : Difference) (text : Text) → image_of file ≡ Ok read
-    → ShowsBothViews file read → AreFoundIn finds file answers → IsShrunkImage (ShrinkRunPath prefixes answers) read d text → IsShrunkBy finds prefixes file d text
+    → ShowsBothViews file read → AreFoundIn finds file answers → IsShrunkImage (ShrinkRpath prefixes answers) read d text → IsShrunkBy finds prefixes file d text
 shrunk_file edits_show batches hold_parts finds prefixes file read answers d text is views found shrunk = record {
   answers = answers;
   found = found;
-  leaves = leaves_shrunk edits_show batches hold_parts (ShrinkRunPath prefixes answers) file read shrunk.made d is views shrunk.makes shrunk.written;
+  leaves = leaves_shrunk edits_show batches hold_parts (ShrinkRpath prefixes answers) file read shrunk.made d is views shrunk.makes shrunk.written;
   told = (read, is, shrunk.told);
 }
 

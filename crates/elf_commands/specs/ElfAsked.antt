@@ -1,6 +1,6 @@
 -- What a command for ELF files asks of the bytes of its file.
 use Rattle.std.specs.Prelude.{Bool, true, false, List, [], ◌∷◌, ◌++◌, Result, Ok, Err}
-use Rattle.elf_edits.specs.Edit.{AllowDynamicMove, Answer, Edit, ShrinkRunPath}
+use Rattle.elf_edits.specs.Edit.{AllowDynamicMove, Answer, Edit, ShrinkRpath}
 use Rattle.elf_symbol_edits.specs.SymbolEdit.{SymbolEdit}
 use Rattle.elf_commands_steps.specs.Groups.{GroupEdit, has_symbols, plain, plain_of, symbols}
 use Rattle.elf_commands.specs.ElfWords.{elf_edits_of}
@@ -47,7 +47,7 @@ elf_asked _ = printing
 
 -- what is asked for once it is known what was found for the directories of the run path and the needed libraries
 abbrev pub answered : List Answer → ElfAsked → ElfAsked
-answered answers (shrinking prefixes) = one (ShrinkRunPath prefixes answers)
+answered answers (shrinking prefixes) = one (ShrinkRpath prefixes answers)
 answered answers asked = asked
 
 -- the command prints, and edits nothing

@@ -2,9 +2,9 @@
 use Rattle.std.specs.Prelude.{ℕ, ◌||◌, ◌∷◌, [], Bool, List, Option, Some, None, Result, Ok, Err, codes, false, map, true}
 use Rattle.std.specs.Prelude.{string_bytes}
 use Rattle.std.specs.Str.{bytes_eq}
-use Rattle.elf_edits.specs.Edit.{Edit, AddDebugEntry, AddNeeded, AddRunPath, ClearExecStack, ClearSymbolVersion, DeleteNeeded}
-use Rattle.elf_edits.specs.Edit.{DeleteRunPath, NoDefaultLibrary, RenameDynamicSymbols, ReplaceLibrary, ReplaceNeeded, SetExecStack}
-use Rattle.elf_edits.specs.Edit.{SetInterpreter, SetOsAbi, SetPageSize, SetRunPath, SetSoname, UseRpath}
+use Rattle.elf_edits.specs.Edit.{Edit, AddDebugTag, AddNeeded, AddRpath, ClearExecStack, ClearSymbolVersion, RemoveNeeded}
+use Rattle.elf_edits.specs.Edit.{RemoveRpath, NoDefaultLib, RenameDynamicSymbols, ReplaceLibrary, ReplaceNeeded, SetExecStack}
+use Rattle.elf_edits.specs.Edit.{SetInterpreter, SetOsAbi, SetPageSize, SetRpath, SetSoname, ForceRpath}
 use Rattle.elf_symbol_edits.specs.SymbolEdit.{DeleteAllSymbols, DeleteSections, RenameAllSymbols, RenameSections, SymbolEdit}
 use Rattle.command_words.specs.Groups.{Wrong}
 use Rattle.command_words.specs.KeyValue.{decimal_number}
@@ -82,21 +82,21 @@ abbrev pub print_line : Text → (Text → ElfMeaning) → Line Reading
 print_line name meaning = other_line name (by_path (λ path. Ok (meaning path)))
 
 abbrev pub elf_lines : List (Line Reading)
-elf_lines = edit_line (codes "add-debug-tag") (by_none AddDebugEntry)
+elf_lines = edit_line (codes "add-debug-tag") (by_none AddDebugTag)
     ∷ edit_line (codes "clear-exec-stack") (by_none ClearExecStack)
-    ∷ edit_line (codes "force-rpath") (by_none UseRpath)
-    ∷ edit_line (codes "no-default-lib") (by_none NoDefaultLibrary)
-    ∷ edit_line (codes "remove-rpath") (by_none DeleteRunPath)
+    ∷ edit_line (codes "force-rpath") (by_none ForceRpath)
+    ∷ edit_line (codes "no-default-lib") (by_none NoDefaultLib)
+    ∷ edit_line (codes "remove-rpath") (by_none RemoveRpath)
     ∷ edit_line (codes "set-exec-stack") (by_none SetExecStack)
-    ∷ edit_line (codes "add-rpath") (by_one (λ text. AddRunPath (text ∷ [])))
-    ∷ edit_line (codes "set-rpath") (by_one SetRunPath)
+    ∷ edit_line (codes "add-rpath") (by_one (λ text. AddRpath (text ∷ [])))
+    ∷ edit_line (codes "set-rpath") (by_one SetRpath)
     ∷ edit_line (codes "set-interpreter") (by_one SetInterpreter)
     ∷ edit_line (codes "set-os-abi") (by_one SetOsAbi)
     ∷ edit_line (codes "set-soname") (by_one SetSoname)
     ∷ edit_line (codes "set-page-size") (by_number SetPageSize)
     ∷ edit_line (codes "clear-symbol-version") (by_one ClearSymbolVersion)
     ∷ edit_line (codes "add-needed") (by_many AddNeeded)
-    ∷ edit_line (codes "remove-needed") (by_many DeleteNeeded)
+    ∷ edit_line (codes "remove-needed") (by_many RemoveNeeded)
     ∷ edit_line (codes "replace-needed") (by_pairs ReplaceNeeded)
     ∷ edit_line (codes "replace-library") (by_pairs ReplaceLibrary)
     ∷ edit_line (codes "rename-dynamic-symbols") (by_pairs RenameDynamicSymbols)
@@ -123,16 +123,16 @@ names_symbols name = bytes_eq name (codes "rename-symbols") || bytes_eq name (co
 -- ---- what a value of the program stands for
 
 abbrev pub elf_command_model : ElfCommand → ElfMeaning
-elf_command_model (elf.AddDebugTag args) = edit_elf AddDebugEntry (string_bytes args.path_to_binary)
+elf_command_model (elf.AddDebugTag args) = edit_elf AddDebugTag (string_bytes args.path_to_binary)
 elf_command_model (elf.ClearExecStack args) = edit_elf ClearExecStack (string_bytes args.path_to_binary)
-elf_command_model (elf.ForceRpath args) = edit_elf UseRpath (string_bytes args.path_to_binary)
-elf_command_model (elf.NoDefaultLib args) = edit_elf NoDefaultLibrary (string_bytes args.path_to_binary)
-elf_command_model (elf.RemoveRpath args) = edit_elf DeleteRunPath (string_bytes args.path_to_binary)
+elf_command_model (elf.ForceRpath args) = edit_elf ForceRpath (string_bytes args.path_to_binary)
+elf_command_model (elf.NoDefaultLib args) = edit_elf NoDefaultLib (string_bytes args.path_to_binary)
+elf_command_model (elf.RemoveRpath args) = edit_elf RemoveRpath (string_bytes args.path_to_binary)
 elf_command_model (elf.SetExecStack args) = edit_elf SetExecStack (string_bytes args.path_to_binary)
 elf_command_model (elf.AddRpath args) =
-    edit_elf (AddRunPath (string_bytes args.new_rpath ∷ [])) (string_bytes args.path_to_binary)
+    edit_elf (AddRpath (string_bytes args.new_rpath ∷ [])) (string_bytes args.path_to_binary)
 elf_command_model (elf.SetRpath args) =
-    edit_elf (SetRunPath (string_bytes args.new_rpath)) (string_bytes args.path_to_binary)
+    edit_elf (SetRpath (string_bytes args.new_rpath)) (string_bytes args.path_to_binary)
 elf_command_model (elf.SetInterpreter args) =
     edit_elf (SetInterpreter (string_bytes args.interpreter)) (string_bytes args.path_to_binary)
 elf_command_model (elf.SetOsAbi args) =
@@ -146,7 +146,7 @@ elf_command_model (elf.ClearSymbolVersion args) =
 elf_command_model (elf.AddNeeded args) =
     edit_elf (AddNeeded (map string_bytes args.dt_needed.items)) (string_bytes args.path_to_binary)
 elf_command_model (elf.RemoveNeeded args) =
-    edit_elf (DeleteNeeded (map string_bytes args.dt_needed.items)) (string_bytes args.path_to_binary)
+    edit_elf (RemoveNeeded (map string_bytes args.dt_needed.items)) (string_bytes args.path_to_binary)
 elf_command_model (elf.ReplaceNeeded args) =
     edit_elf (ReplaceNeeded (map text_pair_model args.dt_needed.items)) (string_bytes args.path_to_binary)
 elf_command_model (elf.ReplaceLibrary args) =

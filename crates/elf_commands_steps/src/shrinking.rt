@@ -2,7 +2,7 @@
 ghost use Rattle.std.specs.Prelude.{◌≡◌, IfErr, IfOk, map, string_bytes};
 ghost use Rattle.byte_store.specs.Composed.{IsDifference, made_of};
 ghost use Rattle.arwen_elf.specs.Told.{Refuses};
-ghost use Rattle.elf_edits.specs.Edit.{ShrinkRunPath};
+ghost use Rattle.elf_edits.specs.Edit.{ShrinkRpath};
 ghost use Rattle.elf_edits.specs.Edited.{step};
 ghost use Rattle.elf_edits_shrink.specs.ShrinkModel.{answer_model, removal_model};
 ghost use Rattle.elf_commands_steps.specs.Images.{TellsNoImage};
@@ -35,9 +35,9 @@ pub fn shrink_image(
     prefixes: &[String],
     probe: &[ProbeAnswer<'_>],
 ) -> Result<Vec<Removed>, ElfError>
-    ensures ok { IfOk result (Steps (ShrinkRunPath (map string_bytes prefixes.now)
+    ensures ok { IfOk result (Steps (ShrinkRpath (map string_bytes prefixes.now)
         (map answer_model probe.now)) elf.old.inner elf.new.inner) }
-    ensures err { IfErr result (λ e. Refuses e (step (ShrinkRunPath (map string_bytes prefixes.now)
+    ensures err { IfErr result (λ e. Refuses e (step (ShrinkRpath (map string_bytes prefixes.now)
         (map answer_model probe.now)) elf.old.inner)) }
 {
     let prefixes = texts_of(alloc, prefixes)?;
@@ -70,10 +70,10 @@ pub fn pieces_by_answers(
     prefixes: &[String],
     answers: Vec<ProbeAnswer<'static>>,
 ) -> Result<Shrunk, ElfCommandError>
-    ensures shrunk { IfOk result (λ made. IsShrunkImage (ShrinkRunPath
+    ensures shrunk { IfOk result (λ made. IsShrunkImage (ShrinkRpath
         (map string_bytes prefixes.now) (map answer_model answers.entry.items)) elf.entry.inner
         made.difference (string_bytes made.text)) }
-    ensures err { IfErr result (TellsUnshrunk (ShrinkRunPath
+    ensures err { IfErr result (TellsUnshrunk (ShrinkRpath
         (map string_bytes prefixes.now) (map answer_model answers.entry.items)) elf.entry.inner) }
 {
     let removed = shrink_image(alloc, &mut elf, prefixes, answers.as_slice());

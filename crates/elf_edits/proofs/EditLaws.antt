@@ -12,7 +12,7 @@ use Rattle.elf_image.specs.DynamicList.{IsListed, is_free_tag, table_tag}
 use Rattle.elf_image.specs.Image.{lists_tag}
 use Rattle.elf_edits.specs.declared.constants.TheConstants.{DF_1_NODEFLIB}
 use Rattle.elf_edits.specs.Cause.{Facts, interpreter_missing, own_cause}
-use Rattle.elf_edits.specs.Edit.{AddDebugEntry, AddNeeded, AddRunPath, DeleteNeeded, DeleteRunPath, Edit, NoDefaultLibrary, ReplaceLibrary, ReplaceNeeded, SetRunPath, SetSoname, ShrinkRunPath, UseRpath, UseRunpath, dropped_tags, edited_entries, is_of_more, is_of_symbols, task_of, texts_of, touches_entries}
+use Rattle.elf_edits.specs.Edit.{AddDebugTag, AddNeeded, AddRpath, RemoveNeeded, RemoveRpath, Edit, NoDefaultLib, ReplaceLibrary, ReplaceNeeded, SetRpath, SetSoname, ShrinkRpath, ForceRpath, ForceRunpath, dropped_tags, edited_entries, is_of_more, is_of_symbols, task_of, texts_of, touches_entries}
 use Rattle.elf_edits.specs.Edited.{touches_rest}
 use Rattle.elf_edits.specs.Entries.{changed_where, directories_removed, has_one_of, has_tag, is_run_path, needs_one_of, not_needed_yet, search_of, text_if, with_bits, with_each_added, with_tag, with_text, with_text_changed, without_tags}
 use Rattle.elf_edits.specs.Shrunk.{shrunk_text}
@@ -70,19 +70,19 @@ module _ (tag : ℕ) (is : IsUntouched tag) where
 
   pub tags_kept : (machine : ℕ) (edit : Edit) (es : List Entry) → lists_tag tag (edited_entries machine edit es) ≡ lists_tag tag es
   unfolding edited_entries
-  tags_kept machine AddDebugEntry es = either_list tag (lists_tag DT_DEBUG es) es es (es ++ Integer DT_DEBUG 0 ∷ []) refl (added_last tag es (Integer DT_DEBUG 0) is.debug)
-  tags_kept machine DeleteRunPath es = list_any-filter (has_tag tag) (λ e. not (is_run_path e)) run_path_not_it es
-  tags_kept machine (SetRunPath text) es = either_list tag (list_any is_run_path es) es (changed_where is_run_path (with_text text) es) (es ++ Text DT_RUNPATH text ∷ []) (kept_tag tag is_run_path (with_text text) (λ e _. refl) es) (added_last tag es (Text DT_RUNPATH text) is.runpath)
-  tags_kept machine (AddRunPath texts) es = either_list tag (list_any is_run_path es) es (changed_where is_run_path (with_text_changed (with_each_added texts)) es) (es ++ Text DT_RUNPATH (joined_by_colons texts) ∷ []) (kept_tag tag is_run_path (with_text_changed (with_each_added texts)) (λ e _. changed_text tag (with_each_added texts) e) es) (added_last tag es (Text DT_RUNPATH (joined_by_colons texts)) is.runpath)
-  tags_kept machine UseRunpath es = kept_tag tag (has_tag DT_RPATH) (with_tag DT_RUNPATH) (λ e h. changed_tag tag DT_RPATH DT_RUNPATH e is.rpath is.runpath h) es
-  tags_kept machine UseRpath es = kept_tag tag (has_tag DT_RUNPATH) (with_tag DT_RPATH) (λ e h. changed_tag tag DT_RUNPATH DT_RPATH e is.runpath is.rpath h) es
-  tags_kept machine (DeleteNeeded names) es = list_any-filter (has_tag tag) (λ e. not (needs_one_of names e)) (needed_not_it names) es
+  tags_kept machine AddDebugTag es = either_list tag (lists_tag DT_DEBUG es) es es (es ++ Integer DT_DEBUG 0 ∷ []) refl (added_last tag es (Integer DT_DEBUG 0) is.debug)
+  tags_kept machine RemoveRpath es = list_any-filter (has_tag tag) (λ e. not (is_run_path e)) run_path_not_it es
+  tags_kept machine (SetRpath text) es = either_list tag (list_any is_run_path es) es (changed_where is_run_path (with_text text) es) (es ++ Text DT_RUNPATH text ∷ []) (kept_tag tag is_run_path (with_text text) (λ e _. refl) es) (added_last tag es (Text DT_RUNPATH text) is.runpath)
+  tags_kept machine (AddRpath texts) es = either_list tag (list_any is_run_path es) es (changed_where is_run_path (with_text_changed (with_each_added texts)) es) (es ++ Text DT_RUNPATH (joined_by_colons texts) ∷ []) (kept_tag tag is_run_path (with_text_changed (with_each_added texts)) (λ e _. changed_text tag (with_each_added texts) e) es) (added_last tag es (Text DT_RUNPATH (joined_by_colons texts)) is.runpath)
+  tags_kept machine ForceRunpath es = kept_tag tag (has_tag DT_RPATH) (with_tag DT_RUNPATH) (λ e h. changed_tag tag DT_RPATH DT_RUNPATH e is.rpath is.runpath h) es
+  tags_kept machine ForceRpath es = kept_tag tag (has_tag DT_RUNPATH) (with_tag DT_RPATH) (λ e h. changed_tag tag DT_RUNPATH DT_RPATH e is.runpath is.rpath h) es
+  tags_kept machine (RemoveNeeded names) es = list_any-filter (has_tag tag) (λ e. not (needs_one_of names e)) (needed_not_it names) es
   tags_kept machine (ReplaceNeeded pairs) es = kept_tag tag (has_tag DT_NEEDED) (with_text_changed (λ name. unwrap_or (value_of pairs name) name)) (λ e _. changed_text tag (λ name. unwrap_or (value_of pairs name) name) e) es
   tags_kept machine (ReplaceLibrary pairs) es = kept_tag tag (has_tag DT_NEEDED) (with_text_changed (λ name. unwrap_or (value_of pairs name) name)) (λ e _. changed_text tag (λ name. unwrap_or (value_of pairs name) name) e) es
   tags_kept machine (AddNeeded names) es = put_before (not_needed_yet names es) es
   tags_kept machine (SetSoname text) es = either_list tag (lists_tag DT_SONAME es) es (changed_where (has_tag DT_SONAME) (with_text text) es) (es ++ Text DT_SONAME text ∷ []) (kept_tag tag (has_tag DT_SONAME) (with_text text) (λ e _. refl) es) (added_last tag es (Text DT_SONAME text) is.soname)
-  tags_kept machine NoDefaultLibrary es = either_list tag (lists_tag DT_FLAGS_1 es) es (changed_where (has_tag DT_FLAGS_1) (with_bits DF_1_NODEFLIB) es) (es ++ Integer DT_FLAGS_1 DF_1_NODEFLIB ∷ []) (kept_tag tag (has_tag DT_FLAGS_1) (with_bits DF_1_NODEFLIB) (λ e _. changed_bits tag DF_1_NODEFLIB e) es) (added_last tag es (Integer DT_FLAGS_1 DF_1_NODEFLIB) is.flags)
-  tags_kept machine (ShrinkRunPath prefixes answers) es = kept_tag tag is_run_path (with_text_changed (shrunk_text (search_of machine prefixes answers es))) (λ e _. changed_text tag (shrunk_text (search_of machine prefixes answers es)) e) es
+  tags_kept machine NoDefaultLib es = either_list tag (lists_tag DT_FLAGS_1 es) es (changed_where (has_tag DT_FLAGS_1) (with_bits DF_1_NODEFLIB) es) (es ++ Integer DT_FLAGS_1 DF_1_NODEFLIB ∷ []) (kept_tag tag (has_tag DT_FLAGS_1) (with_bits DF_1_NODEFLIB) (λ e _. changed_bits tag DF_1_NODEFLIB e) es) (added_last tag es (Integer DT_FLAGS_1 DF_1_NODEFLIB) is.flags)
+  tags_kept machine (ShrinkRpath prefixes answers) es = kept_tag tag is_run_path (with_text_changed (shrunk_text (search_of machine prefixes answers es))) (λ e _. changed_text tag (shrunk_text (search_of machine prefixes answers es)) e) es
   tags_kept machine _ es = refl
 
 -- ## Tags that edits write
@@ -137,19 +137,19 @@ one_whole text h = (or_parts (holds_nul text) false h).0
 
 pub lists_again : (machine : ℕ) (edit : Edit) (es : List Entry) → list_any holds_nul (texts_of edit) ≡ false → All IsListed es → ListsAgain es (edited_entries machine edit es)
 unfolding edited_entries
-lists_again machine AddDebugEntry es whole all = one_of_two (lists_tag DT_DEBUG es) es es (es ++ Integer DT_DEBUG 0 ∷ []) (as_it_was es all) (last_again es (Integer DT_DEBUG 0) all (listed_number DT_DEBUG 0 for_debug) refl)
-lists_again machine DeleteRunPath es whole all = kept_again (λ e. not (is_run_path e)) run_path_no_table es all
-lists_again machine (SetRunPath text) es whole all =
+lists_again machine AddDebugTag es whole all = one_of_two (lists_tag DT_DEBUG es) es es (es ++ Integer DT_DEBUG 0 ∷ []) (as_it_was es all) (last_again es (Integer DT_DEBUG 0) all (listed_number DT_DEBUG 0 for_debug) refl)
+lists_again machine RemoveRpath es whole all = kept_again (λ e. not (is_run_path e)) run_path_no_table es all
+lists_again machine (SetRpath text) es whole all =
     let none = one_whole text whole in
     one_of_two (list_any is_run_path es) es (changed_where is_run_path (with_text text) es) (es ++ Text DT_RUNPATH text ∷ [])
     (changed_again is_run_path (with_text text) (with_run_path_set text none) es all) (last_again es (Text DT_RUNPATH text) all (listed_text DT_RUNPATH text for_runpath none) refl)
-lists_again machine (AddRunPath texts) es whole all =
+lists_again machine (AddRpath texts) es whole all =
     one_of_two (list_any is_run_path es) es (changed_where is_run_path (with_text_changed (with_each_added texts)) es) (es ++ Text DT_RUNPATH (joined_by_colons texts) ∷ [])
     (changed_again is_run_path (with_text_changed (with_each_added texts)) (λ e h listed. text_changed (with_each_added texts) (added_whole texts whole) e listed) es all)
     (last_again es (Text DT_RUNPATH (joined_by_colons texts)) all (listed_text DT_RUNPATH (joined_by_colons texts) for_runpath (joined_whole texts whole)) refl)
-lists_again machine UseRunpath es whole all = changed_again (has_tag DT_RPATH) (with_tag DT_RUNPATH) (λ e h listed. tag_set DT_RPATH for_rpath DT_RUNPATH for_runpath e listed (has_tag_is DT_RPATH e h)) es all
-lists_again machine UseRpath es whole all = changed_again (has_tag DT_RUNPATH) (with_tag DT_RPATH) (λ e h listed. tag_set DT_RUNPATH for_runpath DT_RPATH for_rpath e listed (has_tag_is DT_RUNPATH e h)) es all
-lists_again machine (DeleteNeeded names) es whole all = kept_again (λ e. not (needs_one_of names e)) (needed_no_table names) es all
+lists_again machine ForceRunpath es whole all = changed_again (has_tag DT_RPATH) (with_tag DT_RUNPATH) (λ e h listed. tag_set DT_RPATH for_rpath DT_RUNPATH for_runpath e listed (has_tag_is DT_RPATH e h)) es all
+lists_again machine ForceRpath es whole all = changed_again (has_tag DT_RUNPATH) (with_tag DT_RPATH) (λ e h listed. tag_set DT_RUNPATH for_runpath DT_RPATH for_rpath e listed (has_tag_is DT_RUNPATH e h)) es all
+lists_again machine (RemoveNeeded names) es whole all = kept_again (λ e. not (needs_one_of names e)) (needed_no_table names) es all
 lists_again machine (ReplaceNeeded pairs) es whole all =
     changed_again (has_tag DT_NEEDED) (with_text_changed (λ name. unwrap_or (value_of pairs name) name)) (λ e h listed. text_changed (λ name. unwrap_or (value_of pairs name) name) (values_whole pairs whole) e listed) es all
 lists_again machine (ReplaceLibrary pairs) es whole all =
@@ -159,10 +159,10 @@ lists_again machine (SetSoname text) es whole all =
     let none = one_whole text whole in
     one_of_two (list_any (has_tag DT_SONAME) es) es (changed_where (has_tag DT_SONAME) (with_text text) es) (es ++ Text DT_SONAME text ∷ [])
     (changed_again (has_tag DT_SONAME) (with_text text) (with_soname_set text none) es all) (last_again es (Text DT_SONAME text) all (listed_text DT_SONAME text for_soname none) refl)
-lists_again machine NoDefaultLibrary es whole all =
+lists_again machine NoDefaultLib es whole all =
     one_of_two (lists_tag DT_FLAGS_1 es) es (changed_where (has_tag DT_FLAGS_1) (with_bits DF_1_NODEFLIB) es) (es ++ Integer DT_FLAGS_1 DF_1_NODEFLIB ∷ [])
     (changed_again (has_tag DT_FLAGS_1) (with_bits DF_1_NODEFLIB) (λ e h listed. bits_set DF_1_NODEFLIB e listed) es all) (last_again es (Integer DT_FLAGS_1 DF_1_NODEFLIB) all (listed_number DT_FLAGS_1 DF_1_NODEFLIB for_flags) refl)
-lists_again machine (ShrinkRunPath prefixes answers) es whole all =
+lists_again machine (ShrinkRpath prefixes answers) es whole all =
     changed_again is_run_path (with_text_changed (shrunk_text (search_of machine prefixes answers es))) (λ e h listed. text_changed (shrunk_text (search_of machine prefixes answers es)) (shrunk_whole (search_of machine prefixes answers es)) e listed) es all
 lists_again machine _ es whole all = as_it_was es all
 
@@ -170,19 +170,19 @@ lists_again machine _ es whole all = as_it_was es all
 
 pub untouched : (machine : ℕ) (edit : Edit) (es : List Entry) → touches_entries machine edit es ≡ false → edited_entries machine edit es ≡ es
 unfolding touches_entries edited_entries
-untouched machine AddDebugEntry es h = cond-true (lists_tag DT_DEBUG es) es (es ++ Integer DT_DEBUG 0 ∷ []) (not_false_is (lists_tag DT_DEBUG es) h)
-untouched machine DeleteRunPath es h = all_kept is_run_path es h
-untouched machine (SetRunPath text) es h = true_not_false h
-untouched machine (AddRunPath texts) es h = true_not_false h
-untouched machine UseRunpath es h = changed_where_none (has_tag DT_RPATH) (with_tag DT_RUNPATH) es h
-untouched machine UseRpath es h = changed_where_none (has_tag DT_RUNPATH) (with_tag DT_RPATH) es h
-untouched machine (DeleteNeeded names) es h = all_kept (needs_one_of names) es h
+untouched machine AddDebugTag es h = cond-true (lists_tag DT_DEBUG es) es (es ++ Integer DT_DEBUG 0 ∷ []) (not_false_is (lists_tag DT_DEBUG es) h)
+untouched machine RemoveRpath es h = all_kept is_run_path es h
+untouched machine (SetRpath text) es h = true_not_false h
+untouched machine (AddRpath texts) es h = true_not_false h
+untouched machine ForceRunpath es h = changed_where_none (has_tag DT_RPATH) (with_tag DT_RUNPATH) es h
+untouched machine ForceRpath es h = changed_where_none (has_tag DT_RUNPATH) (with_tag DT_RPATH) es h
+untouched machine (RemoveNeeded names) es h = all_kept (needs_one_of names) es h
 untouched machine (ReplaceNeeded pairs) es h = none_replaced pairs es h
 untouched machine (ReplaceLibrary pairs) es h = none_replaced pairs es h
 untouched machine (AddNeeded names) es h = ap (λ (l : List (List ℕ)). map (Text DT_NEEDED) l ++ es) (none_there (not_needed_yet names es) h)
 untouched machine (SetSoname text) es h = true_not_false h
-untouched machine NoDefaultLibrary es h = true_not_false h
-untouched machine (ShrinkRunPath prefixes answers) es h = none_shrunk (search_of machine prefixes answers es) es (none_there (directories_removed (search_of machine prefixes answers es) es) h)
+untouched machine NoDefaultLib es h = true_not_false h
+untouched machine (ShrinkRpath prefixes answers) es h = none_shrunk (search_of machine prefixes answers es) es (none_there (directories_removed (search_of machine prefixes answers es) es) h)
 untouched machine _ es h = refl
 
 -- ## An edit that drops entries by their tags
@@ -212,7 +212,7 @@ free_tags = All-cons (λ tag. is_free_tag tag ≡ true) DT_RPATH (DT_RUNPATH ∷
 
 pub drops_tags : (edit : Edit) → has_some (dropped_tags edit) ≡ true → (task : List ℕ) × DropsTags edit task
 unfolding edited_entries touches_entries
-drops_tags DeleteRunPath some = (
+drops_tags RemoveRpath some = (
   codes "delete runpath",
   record {
     is_task = refl;

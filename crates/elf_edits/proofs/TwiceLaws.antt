@@ -12,7 +12,7 @@ use Rattle.elf_image.specs.Image.{Image, lists_tag}
 use Rattle.elf_image.specs.Options.{first_there}
 use Rattle.elf_edits.specs.declared.constants.TheConstants.{DF_1_NODEFLIB}
 use Rattle.elf_edits.specs.Cause.{Cause, MipsImage, NoDynamic, cause, cause_if, first_cause}
-use Rattle.elf_edits.specs.Edit.{AddDebugEntry, Edit, NoDefaultLibrary, UseRpath, edited_entries, touches_entries}
+use Rattle.elf_edits.specs.Edit.{AddDebugTag, Edit, NoDefaultLib, ForceRpath, edited_entries, touches_entries}
 use Rattle.elf_edits.specs.Edited.{edited_image, is_list_with, step, touches}
 use Rattle.elf_edits.specs.Entries.{changed_where, has_tag, with_bits, with_tag}
 use Rattle.elf_edits.specs.Laws.{ChangesNothingAgain, IsDoneAtOnce, TwiceIsOnce}
@@ -38,7 +38,7 @@ no_runpath_left es = none_after (has_tag DT_RUNPATH) rpath_if each es
         (λ holds. ap (has_tag DT_RUNPATH) (cond-true (has_tag DT_RUNPATH e) (with_tag DT_RPATH e) e holds) ∙ not_runpath e)
         (λ fails. ap (has_tag DT_RUNPATH) (cond-false (has_tag DT_RUNPATH e) (with_tag DT_RPATH e) e fails) ∙ fails)
 
-rpath_twice : IsDoneAtOnce UseRpath
+rpath_twice : IsDoneAtOnce ForceRpath
 unfolding edited_entries
 rpath_twice machine es = changed_where_none (has_tag DT_RUNPATH) (with_tag DT_RPATH) (changed_where (has_tag DT_RUNPATH) (with_tag DT_RPATH) es) (no_runpath_left es)
 
@@ -105,7 +105,7 @@ flags_twice es = by_test (list_any (has_tag DT_FLAGS_1) es)
     ∙ map-append flag_if es (flag_entry ∷ [])
     ∙ ap (λ l. l ++ flag_entry ∷ []) (changed_where_none (has_tag DT_FLAGS_1) (with_bits DF_1_NODEFLIB) es none) ∙ sym once)
 
-no_default_twice : IsDoneAtOnce NoDefaultLibrary
+no_default_twice : IsDoneAtOnce NoDefaultLib
 unfolding edited_entries with_flag flagged flag_entry
 no_default_twice machine es = flags_twice es
 
@@ -124,7 +124,7 @@ debug_there es = by_test (lists_tag DT_DEBUG es)
     (λ none. ap (lists_tag DT_DEBUG) (cond-false (lists_tag DT_DEBUG es) es (es ++ debug_entry ∷ []) none)
     ∙ list_any-append (has_tag DT_DEBUG) es (debug_entry ∷ []) ∙ or_right (lists_tag DT_DEBUG es) true refl)
 
-debug_twice : IsDoneAtOnce AddDebugEntry
+debug_twice : IsDoneAtOnce AddDebugTag
 unfolding edited_entries with_debug debug_entry
 debug_twice machine es = cond-true (lists_tag DT_DEBUG (with_debug es)) (with_debug es) (with_debug es ++ debug_entry ∷ []) (debug_there es)
 
@@ -170,48 +170,48 @@ cause_same : (m : ℕ) (task : List ℕ) (f : List Entry → List Entry) (es : O
 cause_same m task f es = ap (cause_of_list m task) (is_some-option_map f es)
 
 -- none of the three touches what it made
-rpath_untouched : (m : ℕ) (es : Option (List Entry)) → is_list_with (touches_entries m UseRpath) (option_map (edited_entries m UseRpath) es) ≡ false
+rpath_untouched : (m : ℕ) (es : Option (List Entry)) → is_list_with (touches_entries m ForceRpath) (option_map (edited_entries m ForceRpath) es) ≡ false
 unfolding edited_entries touches_entries
 rpath_untouched m None = refl
 rpath_untouched m (Some es) = no_runpath_left es
 
-debug_untouched : (m : ℕ) (es : Option (List Entry)) → is_list_with (touches_entries m AddDebugEntry) (option_map (edited_entries m AddDebugEntry) es) ≡ false
+debug_untouched : (m : ℕ) (es : Option (List Entry)) → is_list_with (touches_entries m AddDebugTag) (option_map (edited_entries m AddDebugTag) es) ≡ false
 unfolding edited_entries touches_entries with_debug debug_entry
 debug_untouched m None = refl
 debug_untouched m (Some es) = ap not (debug_there es)
 
 -- or it touches it again, as it did before
-no_default_touched : (m : ℕ) (es : Option (List Entry)) → is_list_with (touches_entries m NoDefaultLibrary) (option_map (edited_entries m NoDefaultLibrary) es) ≡ is_list_with (touches_entries m NoDefaultLibrary) es
+no_default_touched : (m : ℕ) (es : Option (List Entry)) → is_list_with (touches_entries m NoDefaultLib) (option_map (edited_entries m NoDefaultLib) es) ≡ is_list_with (touches_entries m NoDefaultLib) es
 unfolding touches_entries
 no_default_touched m None = refl
 no_default_touched m (Some es) = refl
 
-rpath_settled : IsSettled UseRpath
+rpath_settled : IsSettled ForceRpath
 unfolding cause cause_of_list edited_image first_cause image_at
 rpath_settled = record {
-  cause_kept = λ old. cause_same old.header.e_machine (codes "change rpath") (edited_entries old.header.e_machine UseRpath) old.entries;
+  cause_kept = λ old. cause_same old.header.e_machine (codes "change rpath") (edited_entries old.header.e_machine ForceRpath) old.entries;
   done = λ old.
-      ap (image_at old ((old.changed || touches UseRpath old) || touches UseRpath (edited_image UseRpath old))) (option_twice (edited_entries old.header.e_machine UseRpath) (rpath_twice old.header.e_machine) old.entries)
-      ∙ ap (λ c. image_at old c (option_map (edited_entries old.header.e_machine UseRpath) old.entries)) (or_false (old.changed || touches UseRpath old) (touches UseRpath (edited_image UseRpath old)) (rpath_untouched old.header.e_machine old.entries));
+      ap (image_at old ((old.changed || touches ForceRpath old) || touches ForceRpath (edited_image ForceRpath old))) (option_twice (edited_entries old.header.e_machine ForceRpath) (rpath_twice old.header.e_machine) old.entries)
+      ∙ ap (λ c. image_at old c (option_map (edited_entries old.header.e_machine ForceRpath) old.entries)) (or_false (old.changed || touches ForceRpath old) (touches ForceRpath (edited_image ForceRpath old)) (rpath_untouched old.header.e_machine old.entries));
 }
 
-debug_settled : IsSettled AddDebugEntry
+debug_settled : IsSettled AddDebugTag
 unfolding cause cause_of_list edited_image first_cause image_at
 debug_settled = record {
-  cause_kept = λ old. cause_same old.header.e_machine (codes "add debug entry") (edited_entries old.header.e_machine AddDebugEntry) old.entries;
+  cause_kept = λ old. cause_same old.header.e_machine (codes "add debug entry") (edited_entries old.header.e_machine AddDebugTag) old.entries;
   done = λ old.
-      ap (image_at old ((old.changed || touches AddDebugEntry old) || touches AddDebugEntry (edited_image AddDebugEntry old))) (option_twice (edited_entries old.header.e_machine AddDebugEntry) (debug_twice old.header.e_machine) old.entries)
-      ∙ ap (λ c. image_at old c (option_map (edited_entries old.header.e_machine AddDebugEntry) old.entries)) (or_false (old.changed || touches AddDebugEntry old) (touches AddDebugEntry (edited_image AddDebugEntry old)) (debug_untouched old.header.e_machine old.entries));
+      ap (image_at old ((old.changed || touches AddDebugTag old) || touches AddDebugTag (edited_image AddDebugTag old))) (option_twice (edited_entries old.header.e_machine AddDebugTag) (debug_twice old.header.e_machine) old.entries)
+      ∙ ap (λ c. image_at old c (option_map (edited_entries old.header.e_machine AddDebugTag) old.entries)) (or_false (old.changed || touches AddDebugTag old) (touches AddDebugTag (edited_image AddDebugTag old)) (debug_untouched old.header.e_machine old.entries));
 }
 
-no_default_settled : IsSettled NoDefaultLibrary
+no_default_settled : IsSettled NoDefaultLib
 unfolding cause cause_of_list edited_image first_cause image_at
 no_default_settled = record {
-  cause_kept = λ old. cause_same old.header.e_machine (codes "set soname") (edited_entries old.header.e_machine NoDefaultLibrary) old.entries;
+  cause_kept = λ old. cause_same old.header.e_machine (codes "set soname") (edited_entries old.header.e_machine NoDefaultLib) old.entries;
   done = λ old.
-      ap (image_at old ((old.changed || touches NoDefaultLibrary old) || touches NoDefaultLibrary (edited_image NoDefaultLibrary old))) (option_twice (edited_entries old.header.e_machine NoDefaultLibrary) (no_default_twice old.header.e_machine) old.entries)
-      ∙ ap (λ c. image_at old c (option_map (edited_entries old.header.e_machine NoDefaultLibrary) old.entries))
-      (ap (λ b. (old.changed || touches NoDefaultLibrary old) || b) (no_default_touched old.header.e_machine old.entries) ∙ or_again old.changed (touches NoDefaultLibrary old));
+      ap (image_at old ((old.changed || touches NoDefaultLib old) || touches NoDefaultLib (edited_image NoDefaultLib old))) (option_twice (edited_entries old.header.e_machine NoDefaultLib) (no_default_twice old.header.e_machine) old.entries)
+      ∙ ap (λ c. image_at old c (option_map (edited_entries old.header.e_machine NoDefaultLib) old.entries))
+      (ap (λ b. (old.changed || touches NoDefaultLib old) || b) (no_default_touched old.header.e_machine old.entries) ∙ or_again old.changed (touches NoDefaultLib old));
 }
 
 pub twice_is_once : TwiceIsOnce
@@ -219,7 +219,7 @@ twice_is_once = record {
   rpath = rpath_twice;
   no_default = no_default_twice;
   debug = debug_twice;
-  rpath_of_images = nothing_again UseRpath rpath_settled;
-  no_default_of_images = nothing_again NoDefaultLibrary no_default_settled;
-  debug_of_images = nothing_again AddDebugEntry debug_settled;
+  rpath_of_images = nothing_again ForceRpath rpath_settled;
+  no_default_of_images = nothing_again NoDefaultLib no_default_settled;
+  debug_of_images = nothing_again AddDebugTag debug_settled;
 }

@@ -10,7 +10,7 @@ use Rattle.elf_image.specs.Options.{first_there}
 use Rattle.elf_image.specs.Renumbering.{can_renumber}
 use Rattle.elf_edits.specs.declared.constants.TheConstants.{MOST_SEGMENTS, SMALLEST_PAGE}
 use Rattle.elf_edits.specs.Abi.{abi_number, lowercase_name}
-use Rattle.elf_edits.specs.Edit.{Edit, ClearExecStack, RenameDynamicSymbols, SetExecStack, SetInterpreter, SetOsAbi, SetPageSize, ShrinkRunPath, task_of, texts_of}
+use Rattle.elf_edits.specs.Edit.{Edit, ClearExecStack, RenameDynamicSymbols, SetExecStack, SetInterpreter, SetOsAbi, SetPageSize, ShrinkRpath, task_of, texts_of}
 use Rattle.elf_edits.specs.Entries.{is_run_path}
 pub use Rattle.elf_edits.specs.Facts.{Facts}
 use Rattle.elf_edits.specs.Symbols.{has_new_name, names_behind_first}
@@ -82,7 +82,7 @@ interpreter_missing _ facts = None
 abbrev pub own_cause : Edit → Facts → Option Cause
 own_cause (SetOsAbi name) facts = cause_if (is_none (abi_number name)) (UnknownAbi (lowercase_name name))
 own_cause (SetPageSize size) facts = cause_if (not (is_page_size size)) (BadPageSize size)
-own_cause (ShrinkRunPath prefixes answers) facts = cause_if (not facts.has_run_path) NoRunPath
+own_cause (ShrinkRpath prefixes answers) facts = cause_if (not facts.has_run_path) NoRunPath
 own_cause (RenameDynamicSymbols pairs) facts = cause_if (list_any (has_new_name pairs) facts.fixed_names) CannotRenumber
 own_cause ClearExecStack facts = cause_if facts.is_full TooManyHeaders
 own_cause SetExecStack facts = cause_if facts.is_full TooManyHeaders

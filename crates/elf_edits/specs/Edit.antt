@@ -20,25 +20,25 @@ use Rattle.elf_edits.specs.Texts.{has_some}
 -- An edit, with the texts and numbers that are handed in.
 pub data Edit : Type 0 where
   -- DT_DEBUG, which a debugger asks for
-  AddDebugEntry : Edit
+  AddDebugTag : Edit
   -- the run path: DT_RPATH and DT_RUNPATH
-  DeleteRunPath : Edit
-  SetRunPath : List ℕ → Edit
-  AddRunPath : List (List ℕ) → Edit
-  UseRunpath : Edit
-  UseRpath : Edit
+  RemoveRpath : Edit
+  SetRpath : List ℕ → Edit
+  AddRpath : List (List ℕ) → Edit
+  ForceRunpath : Edit
+  ForceRpath : Edit
   -- the needed libraries: names that go, pairs of an old and a new name, the same with the versions that are needed of them,
   -- names that come
-  DeleteNeeded : List (List ℕ) → Edit
+  RemoveNeeded : List (List ℕ) → Edit
   ReplaceNeeded : List (List ℕ × List ℕ) → Edit
   ReplaceLibrary : List (List ℕ × List ℕ) → Edit
   AddNeeded : List (List ℕ) → Edit
   -- the library's own name
   SetSoname : List ℕ → Edit
   -- no default directories: DF_1_NODEFLIB
-  NoDefaultLibrary : Edit
+  NoDefaultLib : Edit
   -- directories in which no needed library is found: prefixes that are allowed, and what was found
-  ShrinkRunPath : List (List ℕ) → List Answer → Edit
+  ShrinkRpath : List (List ℕ) → List Answer → Edit
   -- the interpreter's bytes
   SetInterpreter : List ℕ → Edit
   -- the ABI byte, by a name
@@ -57,19 +57,19 @@ pub data Edit : Type 0 where
 
 -- what an edit of the dynamic list does, in the words of its refusal; none for an edit of something else
 abbrev pub task_of : Edit → Option (List ℕ)
-task_of AddDebugEntry = Some (codes "add debug entry")
-task_of DeleteRunPath = Some (codes "delete runpath")
-task_of (SetRunPath text) = Some (codes "set runpath")
-task_of (AddRunPath texts) = Some (codes "add runpath")
-task_of UseRunpath = Some (codes "change runpath")
-task_of UseRpath = Some (codes "change rpath")
-task_of (DeleteNeeded names) = Some (codes "delete needed library")
+task_of AddDebugTag = Some (codes "add debug entry")
+task_of RemoveRpath = Some (codes "delete runpath")
+task_of (SetRpath text) = Some (codes "set runpath")
+task_of (AddRpath texts) = Some (codes "add runpath")
+task_of ForceRunpath = Some (codes "change runpath")
+task_of ForceRpath = Some (codes "change rpath")
+task_of (RemoveNeeded names) = Some (codes "delete needed library")
 task_of (ReplaceNeeded pairs) = Some (codes "replace needed library")
 task_of (ReplaceLibrary pairs) = Some (codes "replace needed library")
 task_of (AddNeeded names) = Some (codes "add needed library")
 task_of (SetSoname text) = Some (codes "set soname")
-task_of NoDefaultLibrary = Some (codes "set soname")
-task_of (ShrinkRunPath prefixes answers) = Some (codes "shrink rpath")
+task_of NoDefaultLib = Some (codes "set soname")
+task_of (ShrinkRpath prefixes answers) = Some (codes "shrink rpath")
 task_of (SetInterpreter bytes) = None
 task_of (SetOsAbi name) = None
 task_of (RenameDynamicSymbols pairs) = None
@@ -85,23 +85,23 @@ all_but_last bytes = take (length bytes - 1) bytes
 
 -- the texts of an edit in which no NUL may stand; an interpreter's bytes may end with one
 abbrev pub texts_of : Edit → List (List ℕ)
-texts_of (SetRunPath text) = text ∷ []
-texts_of (AddRunPath texts) = texts
-texts_of (DeleteNeeded names) = names
+texts_of (SetRpath text) = text ∷ []
+texts_of (AddRpath texts) = texts
+texts_of (RemoveNeeded names) = names
 texts_of (ReplaceNeeded pairs) = flat_map (λ pair. pair.0 ∷ pair.1 ∷ []) pairs
 texts_of (ReplaceLibrary pairs) = flat_map (λ pair. pair.0 ∷ pair.1 ∷ []) pairs
 texts_of (AddNeeded names) = names
 texts_of (SetSoname text) = text ∷ []
-texts_of (ShrinkRunPath prefixes answers) = prefixes
+texts_of (ShrinkRpath prefixes answers) = prefixes
 texts_of (SetInterpreter bytes) = all_but_last bytes ∷ []
 texts_of (SetOsAbi name) = name ∷ []
 texts_of (RenameDynamicSymbols pairs) = flat_map (λ pair. pair.0 ∷ pair.1 ∷ []) pairs
 texts_of (ClearSymbolVersion name) = name ∷ []
-texts_of AddDebugEntry = []
-texts_of DeleteRunPath = []
-texts_of UseRunpath = []
-texts_of UseRpath = []
-texts_of NoDefaultLibrary = []
+texts_of AddDebugTag = []
+texts_of RemoveRpath = []
+texts_of ForceRunpath = []
+texts_of ForceRpath = []
+texts_of NoDefaultLib = []
 texts_of ClearExecStack = []
 texts_of SetExecStack = []
 texts_of (SetPageSize size) = []
@@ -111,19 +111,19 @@ texts_of AllowDynamicMove = []
 
 -- The dynamic list after an edit. `machine` is the image's, for which needed libraries have to be.
 unfoldable pub edited_entries : ℕ → Edit → List Entry → List Entry
-edited_entries machine AddDebugEntry es = with_last_unless_there (Integer DT_DEBUG 0) es
-edited_entries machine DeleteRunPath es = without_run_paths es
-edited_entries machine (SetRunPath text) es = with_text_set is_run_path DT_RUNPATH text es
-edited_entries machine (AddRunPath texts) es = with_run_paths_added texts es
-edited_entries machine UseRunpath es = with_tags_changed DT_RPATH DT_RUNPATH es
-edited_entries machine UseRpath es = with_tags_changed DT_RUNPATH DT_RPATH es
-edited_entries machine (DeleteNeeded names) es = without_needed names es
+edited_entries machine AddDebugTag es = with_last_unless_there (Integer DT_DEBUG 0) es
+edited_entries machine RemoveRpath es = without_run_paths es
+edited_entries machine (SetRpath text) es = with_text_set is_run_path DT_RUNPATH text es
+edited_entries machine (AddRpath texts) es = with_run_paths_added texts es
+edited_entries machine ForceRunpath es = with_tags_changed DT_RPATH DT_RUNPATH es
+edited_entries machine ForceRpath es = with_tags_changed DT_RUNPATH DT_RPATH es
+edited_entries machine (RemoveNeeded names) es = without_needed names es
 edited_entries machine (ReplaceNeeded pairs) es = with_needed_replaced pairs es
 edited_entries machine (ReplaceLibrary pairs) es = with_needed_replaced pairs es
 edited_entries machine (AddNeeded names) es = with_needed_added names es
 edited_entries machine (SetSoname text) es = with_text_set (has_tag DT_SONAME) DT_SONAME text es
-edited_entries machine NoDefaultLibrary es = without_default_directories es
-edited_entries machine (ShrinkRunPath prefixes answers) es = with_run_paths_shrunk (search_of machine prefixes answers es) es
+edited_entries machine NoDefaultLib es = without_default_directories es
+edited_entries machine (ShrinkRpath prefixes answers) es = with_run_paths_shrunk (search_of machine prefixes answers es) es
 edited_entries machine (SetInterpreter bytes) es = es
 edited_entries machine (SetOsAbi name) es = es
 edited_entries machine (RenameDynamicSymbols pairs) es = es
@@ -135,19 +135,19 @@ edited_entries machine AllowDynamicMove es = es
 
 -- Whether an edit adds, removes or writes an entry of the list, be it with what stands there already.
 unfoldable pub touches_entries : ℕ → Edit → List Entry → Bool
-touches_entries machine AddDebugEntry es = not (lists_tag DT_DEBUG es)
-touches_entries machine DeleteRunPath es = list_any is_run_path es
-touches_entries machine (SetRunPath text) es = true
-touches_entries machine (AddRunPath texts) es = true
-touches_entries machine UseRunpath es = lists_tag DT_RPATH es
-touches_entries machine UseRpath es = lists_tag DT_RUNPATH es
-touches_entries machine (DeleteNeeded names) es = list_any (needs_one_of names) es
+touches_entries machine AddDebugTag es = not (lists_tag DT_DEBUG es)
+touches_entries machine RemoveRpath es = list_any is_run_path es
+touches_entries machine (SetRpath text) es = true
+touches_entries machine (AddRpath texts) es = true
+touches_entries machine ForceRunpath es = lists_tag DT_RPATH es
+touches_entries machine ForceRpath es = lists_tag DT_RUNPATH es
+touches_entries machine (RemoveNeeded names) es = list_any (needs_one_of names) es
 touches_entries machine (ReplaceNeeded pairs) es = list_any (is_replaced pairs) es
 touches_entries machine (ReplaceLibrary pairs) es = list_any (is_replaced pairs) es
 touches_entries machine (AddNeeded names) es = has_some (not_needed_yet names es)
 touches_entries machine (SetSoname text) es = true
-touches_entries machine NoDefaultLibrary es = true
-touches_entries machine (ShrinkRunPath prefixes answers) es = has_some (directories_removed (search_of machine prefixes answers es) es)
+touches_entries machine NoDefaultLib es = true
+touches_entries machine (ShrinkRpath prefixes answers) es = has_some (directories_removed (search_of machine prefixes answers es) es)
 touches_entries machine (SetInterpreter bytes) es = false
 touches_entries machine (SetOsAbi name) es = false
 touches_entries machine (RenameDynamicSymbols pairs) es = false
@@ -159,7 +159,7 @@ touches_entries machine AllowDynamicMove es = false
 
 -- the tags by which an edit drops entries, whatever they hold; none for an edit that does something else
 abbrev pub dropped_tags : Edit → List ℕ
-dropped_tags DeleteRunPath = DT_RPATH ∷ DT_RUNPATH ∷ []
+dropped_tags RemoveRpath = DT_RPATH ∷ DT_RUNPATH ∷ []
 dropped_tags _ = []
 
 -- ## The dynamic symbols
@@ -208,30 +208,30 @@ touches_needs _ needs = false
 
 -- the words for a task
 abbrev pub words_of : Task → List ℕ
-words_of tasks.AddDebugEntry = codes "add debug entry"
-words_of tasks.DeleteRunPath = codes "delete runpath"
-words_of tasks.SetRunPath = codes "set runpath"
-words_of tasks.AddRunPath = codes "add runpath"
-words_of tasks.UseRunpath = codes "change runpath"
-words_of tasks.UseRpath = codes "change rpath"
-words_of tasks.DeleteNeeded = codes "delete needed library"
+words_of tasks.AddDebugTag = codes "add debug entry"
+words_of tasks.RemoveRpath = codes "delete runpath"
+words_of tasks.SetRpath = codes "set runpath"
+words_of tasks.AddRpath = codes "add runpath"
+words_of tasks.ForceRunpath = codes "change runpath"
+words_of tasks.ForceRpath = codes "change rpath"
+words_of tasks.RemoveNeeded = codes "delete needed library"
 words_of tasks.ReplaceNeeded = codes "replace needed library"
 words_of tasks.AddNeeded = codes "add needed library"
 words_of tasks.SetSoname = codes "set soname"
-words_of tasks.ShrinkRunPath = codes "shrink rpath"
+words_of tasks.ShrinkRpath = codes "shrink rpath"
 
 -- which edit the code's edit is
 abbrev pub edit_model : ElfEdit → Edit
-edit_model edits.AddDebugTag = AddDebugEntry
+edit_model edits.AddDebugTag = AddDebugTag
 edit_model edits.AllowDynamicMove = AllowDynamicMove
 edit_model (edits.AddNeeded names) = AddNeeded (texts_model names.items)
-edit_model (edits.AddRpath texts) = AddRunPath (texts_model texts.items)
+edit_model (edits.AddRpath texts) = AddRpath (texts_model texts.items)
 edit_model edits.ClearExecStack = ClearExecStack
 edit_model (edits.ClearSymbolVersion name) = ClearSymbolVersion (bytes_of name)
-edit_model edits.ForceRpath = UseRpath
-edit_model edits.NoDefaultLib = NoDefaultLibrary
-edit_model (edits.RemoveNeeded names) = DeleteNeeded (texts_model names.items)
-edit_model edits.RemoveRpath = DeleteRunPath
+edit_model edits.ForceRpath = ForceRpath
+edit_model edits.NoDefaultLib = NoDefaultLib
+edit_model (edits.RemoveNeeded names) = RemoveNeeded (texts_model names.items)
+edit_model edits.RemoveRpath = RemoveRpath
 edit_model (edits.RenameDynamicSymbols pairs) = RenameDynamicSymbols (pairs_model pairs.items)
 edit_model (edits.ReplaceNeeded pairs) = ReplaceNeeded (pairs_model pairs.items)
 edit_model (edits.ReplaceLibrary pairs) = ReplaceLibrary (pairs_model pairs.items)
@@ -239,5 +239,5 @@ edit_model edits.SetExecStack = SetExecStack
 edit_model (edits.SetInterpreter bytes) = SetInterpreter (bytes_of bytes)
 edit_model (edits.SetOsAbi name) = SetOsAbi (string_bytes name)
 edit_model (edits.SetPageSize size) = SetPageSize size
-edit_model (edits.SetRpath text) = SetRunPath (bytes_of text)
+edit_model (edits.SetRpath text) = SetRpath (bytes_of text)
 edit_model (edits.SetSoname text) = SetSoname (bytes_of text)

@@ -7,7 +7,7 @@ use Rattle.elf_image.specs.Versions.{VersionNeeds}
 use Rattle.elf_image.specs.Views.{NamedSymbol, View}
 use Rattle.elf_edits.specs.Batch.{Refusal, answer_at, answers, left_by, left_by_all, run, run_from, then_on}
 use Rattle.elf_edits.specs.Cause.{Cause, cause}
-use Rattle.elf_edits.specs.Edit.{AddDebugEntry, DeleteNeeded, Edit, NoDefaultLibrary, RenameDynamicSymbols, ReplaceLibrary, ReplaceNeeded, SetRunPath, UseRpath, edited_entries, edited_needs, edited_symbols, touches_needs}
+use Rattle.elf_edits.specs.Edit.{AddDebugTag, RemoveNeeded, Edit, NoDefaultLib, RenameDynamicSymbols, ReplaceLibrary, ReplaceNeeded, SetRpath, ForceRpath, edited_entries, edited_needs, edited_symbols, touches_needs}
 use Rattle.elf_edits.specs.Edited.{edited_leave, edited_view, step, touches}
 use Rattle.elf_edits.specs.Entries.{is_run_path, needed_names, needs_one_of}
 use Rattle.elf_edits.specs.Symbols.{names_behind_first, new_name}
@@ -70,23 +70,23 @@ abbrev pub ChangesNothingAgain : Edit → Type 0
 ChangesNothingAgain edit = (old new : Image) → step edit old ≡ Ok new → step edit new ≡ Ok new
 
 pub record TwiceIsOnce : Type 0 where
-  pub rpath : IsDoneAtOnce UseRpath
-  pub no_default : IsDoneAtOnce NoDefaultLibrary
-  pub debug : IsDoneAtOnce AddDebugEntry
-  pub rpath_of_images : ChangesNothingAgain UseRpath
-  pub no_default_of_images : ChangesNothingAgain NoDefaultLibrary
-  pub debug_of_images : ChangesNothingAgain AddDebugEntry
+  pub rpath : IsDoneAtOnce ForceRpath
+  pub no_default : IsDoneAtOnce NoDefaultLib
+  pub debug : IsDoneAtOnce AddDebugTag
+  pub rpath_of_images : ChangesNothingAgain ForceRpath
+  pub no_default_of_images : ChangesNothingAgain NoDefaultLib
+  pub debug_of_images : ChangesNothingAgain AddDebugTag
 
 -- Once the run path is set, there is one, and every entry with a run path has the text.
 pub record RunPathsAreSet : Type 0 where
-  pub there : (machine : ℕ) (text : List ℕ) (es : List Entry) → list_any is_run_path (edited_entries machine (SetRunPath text) es) ≡ true
-  pub every : (machine : ℕ) (text : List ℕ) (es : List Entry) → All (λ e. is_run_path e ≡ true → e ≡ Text (entry_tag e) text) (edited_entries machine (SetRunPath text) es)
+  pub there : (machine : ℕ) (text : List ℕ) (es : List Entry) → list_any is_run_path (edited_entries machine (SetRpath text) es) ≡ true
+  pub every : (machine : ℕ) (text : List ℕ) (es : List Entry) → All (λ e. is_run_path e ≡ true → e ≡ Text (entry_tag e) text) (edited_entries machine (SetRpath text) es)
 
 -- Once libraries of some names are dropped, none of them is needed, and all other entries stand as they stood.
 pub record OthersStayInOrder : Type 0 where
-  pub none_left : (machine : ℕ) (names : List (List ℕ)) (es : List Entry) → list_any (needs_one_of names) (edited_entries machine (DeleteNeeded names) es) ≡ false
+  pub none_left : (machine : ℕ) (names : List (List ℕ)) (es : List Entry) → list_any (needs_one_of names) (edited_entries machine (RemoveNeeded names) es) ≡ false
   pub order : (machine : ℕ) (names : List (List ℕ)) (es : List Entry) → let others = filter (λ e. not (needs_one_of names e)) in
-      others (edited_entries machine (DeleteNeeded names) es) ≡ others es
+      others (edited_entries machine (RemoveNeeded names) es) ≡ others es
 
 -- a name for another, and the other way
 abbrev pub swap_of : List ℕ → List ℕ → List (List ℕ × List ℕ)

@@ -12,7 +12,7 @@ use Rattle.elf_image.specs.Views.{NamedSymbol}
 use Rattle.elf_edits.specs.Abi.{abi_number, with_nul}
 use Rattle.elf_edits.specs.Batch.{answers, left_by_all, run}
 use Rattle.elf_edits.specs.Cause.{BadPageSize, CannotRenumber, MipsImage, NoDynamic, NoInterpreter, NulInText, TooManyHeaders, UnknownAbi, cause}
-use Rattle.elf_edits.specs.Edit.{AddDebugEntry, AddNeeded, AddRunPath, ClearExecStack, ClearSymbolVersion, DeleteNeeded, DeleteRunPath, Edit, NoDefaultLibrary, RenameDynamicSymbols, ReplaceNeeded, SetExecStack, SetInterpreter, SetOsAbi, SetPageSize, SetRunPath, SetSoname, UseRpath, UseRunpath, edited_entries, edited_symbols}
+use Rattle.elf_edits.specs.Edit.{AddDebugTag, AddNeeded, AddRpath, ClearExecStack, ClearSymbolVersion, RemoveNeeded, RemoveRpath, Edit, NoDefaultLib, RenameDynamicSymbols, ReplaceNeeded, SetExecStack, SetInterpreter, SetOsAbi, SetPageSize, SetRpath, SetSoname, ForceRpath, ForceRunpath, edited_entries, edited_symbols}
 use Rattle.elf_edits.specs.Edited.{added_stack, step}
 
 -- x86-64
@@ -35,26 +35,26 @@ soname text = Text 14 text
 
 pub record RunPathRows : Type 0 where
   -- `/b` is added to `/a`, to the empty text, and to no entry
-  pub added : edited_entries machine (AddRunPath (codes "/b" ∷ [])) (runpath (codes "/a") ∷ Auto 5 ∷ []) ≡ runpath (codes "/a:/b") ∷ Auto 5 ∷ []
-  pub added_to_empty : edited_entries machine (AddRunPath (codes "/b" ∷ [])) (runpath [] ∷ []) ≡ runpath (codes "/b") ∷ []
-  pub added_to_none : edited_entries machine (AddRunPath (codes "/b" ∷ [])) (Auto 5 ∷ []) ≡ Auto 5 ∷ runpath (codes "/b") ∷ []
+  pub added : edited_entries machine (AddRpath (codes "/b" ∷ [])) (runpath (codes "/a") ∷ Auto 5 ∷ []) ≡ runpath (codes "/a:/b") ∷ Auto 5 ∷ []
+  pub added_to_empty : edited_entries machine (AddRpath (codes "/b" ∷ [])) (runpath [] ∷ []) ≡ runpath (codes "/b") ∷ []
+  pub added_to_none : edited_entries machine (AddRpath (codes "/b" ∷ [])) (Auto 5 ∷ []) ≡ Auto 5 ∷ runpath (codes "/b") ∷ []
   -- several at once, to both kinds of entries
-  pub several_added : edited_entries machine (AddRunPath (codes "/b" ∷ codes "/c" ∷ [])) (rpath [] ∷ runpath (codes "/a") ∷ [])
+  pub several_added : edited_entries machine (AddRpath (codes "/b" ∷ codes "/c" ∷ [])) (rpath [] ∷ runpath (codes "/a") ∷ [])
       ≡ rpath (codes "/b:/c") ∷ runpath (codes "/a:/b:/c") ∷ []
-  pub several_added_to_none : edited_entries machine (AddRunPath (codes "/b" ∷ codes "/c" ∷ [])) [] ≡ runpath (codes "/b:/c") ∷ []
-  pub none_added_to_none : edited_entries machine (AddRunPath []) [] ≡ runpath [] ∷ []
-  pub set_in_all : edited_entries machine (SetRunPath (codes "/x")) (rpath (codes "/a") ∷ Auto 5 ∷ runpath (codes "/b") ∷ []) ≡ rpath (codes "/x") ∷ Auto 5 ∷ runpath (codes "/x") ∷ []
-  pub set_where_none_was : edited_entries machine (SetRunPath (codes "/x")) (Auto 5 ∷ []) ≡ Auto 5 ∷ runpath (codes "/x") ∷ []
-  pub deleted : edited_entries machine DeleteRunPath (rpath (codes "/a") ∷ Auto 5 ∷ runpath (codes "/b") ∷ []) ≡ Auto 5 ∷ []
-  pub all_rpath : edited_entries machine UseRpath (rpath (codes "/a") ∷ runpath (codes "/b") ∷ runpath (codes "/c") ∷ []) ≡ rpath (codes "/a") ∷ rpath (codes "/b") ∷ rpath (codes "/c") ∷ []
-  pub all_runpath : edited_entries machine UseRunpath (rpath (codes "/a") ∷ runpath (codes "/b") ∷ []) ≡ runpath (codes "/a") ∷ runpath (codes "/b") ∷ []
+  pub several_added_to_none : edited_entries machine (AddRpath (codes "/b" ∷ codes "/c" ∷ [])) [] ≡ runpath (codes "/b:/c") ∷ []
+  pub none_added_to_none : edited_entries machine (AddRpath []) [] ≡ runpath [] ∷ []
+  pub set_in_all : edited_entries machine (SetRpath (codes "/x")) (rpath (codes "/a") ∷ Auto 5 ∷ runpath (codes "/b") ∷ []) ≡ rpath (codes "/x") ∷ Auto 5 ∷ runpath (codes "/x") ∷ []
+  pub set_where_none_was : edited_entries machine (SetRpath (codes "/x")) (Auto 5 ∷ []) ≡ Auto 5 ∷ runpath (codes "/x") ∷ []
+  pub deleted : edited_entries machine RemoveRpath (rpath (codes "/a") ∷ Auto 5 ∷ runpath (codes "/b") ∷ []) ≡ Auto 5 ∷ []
+  pub all_rpath : edited_entries machine ForceRpath (rpath (codes "/a") ∷ runpath (codes "/b") ∷ runpath (codes "/c") ∷ []) ≡ rpath (codes "/a") ∷ rpath (codes "/b") ∷ rpath (codes "/c") ∷ []
+  pub all_runpath : edited_entries machine ForceRunpath (rpath (codes "/a") ∷ runpath (codes "/b") ∷ []) ≡ runpath (codes "/a") ∷ runpath (codes "/b") ∷ []
 
 -- ## Needed libraries, name, flags
 
 pub record NeededRows : Type 0 where
   pub added : edited_entries machine (AddNeeded (codes "a" ∷ codes "libc.so.6" ∷ codes "b" ∷ codes "b" ∷ [])) (needed (codes "libc.so.6") ∷ Auto 5 ∷ [])
       ≡ needed (codes "a") ∷ needed (codes "b") ∷ needed (codes "b") ∷ needed (codes "libc.so.6") ∷ Auto 5 ∷ []
-  pub deleted : edited_entries machine (DeleteNeeded (codes "a" ∷ codes "c" ∷ [])) (needed (codes "a") ∷ needed (codes "b") ∷ soname (codes "a") ∷ needed (codes "a") ∷ [])
+  pub deleted : edited_entries machine (RemoveNeeded (codes "a" ∷ codes "c" ∷ [])) (needed (codes "a") ∷ needed (codes "b") ∷ soname (codes "a") ∷ needed (codes "a") ∷ [])
       ≡ needed (codes "b") ∷ soname (codes "a") ∷ []
   pub swapped : edited_entries machine (ReplaceNeeded ((codes "f", codes "g") ∷ (codes "g", codes "f") ∷ [])) (needed (codes "f") ∷ needed (codes "g") ∷ soname (codes "f") ∷ [])
       ≡ needed (codes "g") ∷ needed (codes "f") ∷ soname (codes "f") ∷ []
@@ -63,11 +63,11 @@ pub record NeededRows : Type 0 where
 pub record OtherEntryRows : Type 0 where
   pub named : edited_entries machine (SetSoname (codes "x")) (soname (codes "a") ∷ Auto 5 ∷ soname (codes "b") ∷ []) ≡ soname (codes "x") ∷ Auto 5 ∷ soname (codes "x") ∷ []
   pub named_anew : edited_entries machine (SetSoname (codes "x")) (Auto 5 ∷ []) ≡ Auto 5 ∷ soname (codes "x") ∷ []
-  pub no_default : edited_entries machine NoDefaultLibrary (Integer 0x6ffffffb 1 ∷ []) ≡ Integer 0x6ffffffb 0x801 ∷ []
-  pub no_default_twice : edited_entries machine NoDefaultLibrary (edited_entries machine NoDefaultLibrary (Integer 0x6ffffffb 1 ∷ [])) ≡ Integer 0x6ffffffb 0x801 ∷ []
-  pub no_default_anew : edited_entries machine NoDefaultLibrary (Auto 5 ∷ []) ≡ Auto 5 ∷ Integer 0x6ffffffb 0x800 ∷ []
-  pub debug : edited_entries machine AddDebugEntry (Auto 5 ∷ []) ≡ Auto 5 ∷ Integer 21 0 ∷ []
-  pub debug_there : edited_entries machine AddDebugEntry (Integer 21 7 ∷ Auto 5 ∷ []) ≡ Integer 21 7 ∷ Auto 5 ∷ []
+  pub no_default : edited_entries machine NoDefaultLib (Integer 0x6ffffffb 1 ∷ []) ≡ Integer 0x6ffffffb 0x801 ∷ []
+  pub no_default_twice : edited_entries machine NoDefaultLib (edited_entries machine NoDefaultLib (Integer 0x6ffffffb 1 ∷ [])) ≡ Integer 0x6ffffffb 0x801 ∷ []
+  pub no_default_anew : edited_entries machine NoDefaultLib (Auto 5 ∷ []) ≡ Auto 5 ∷ Integer 0x6ffffffb 0x800 ∷ []
+  pub debug : edited_entries machine AddDebugTag (Auto 5 ∷ []) ≡ Auto 5 ∷ Integer 21 0 ∷ []
+  pub debug_there : edited_entries machine AddDebugTag (Integer 21 7 ∷ Auto 5 ∷ []) ≡ Integer 21 7 ∷ Auto 5 ∷ []
 
 -- ## A small library: it needs libc.so.6 and has the run path /a
 
@@ -161,20 +161,20 @@ abbrev pub mips_image : Image
 mips_image = record small_image { header = record small_image.header { e_machine = EM_MIPS }; entries = None }
 
 pub record RefusalRows : Type 0 where
-  pub set : cause (SetRunPath with_nul_in_it) small_image ≡ Some NulInText
-  pub added : cause (AddRunPath ([] ∷ with_nul_in_it ∷ [])) small_image ≡ Some NulInText
-  pub deleted : cause (DeleteNeeded (with_nul_in_it ∷ [])) small_image ≡ Some NulInText
+  pub set : cause (SetRpath with_nul_in_it) small_image ≡ Some NulInText
+  pub added : cause (AddRpath ([] ∷ with_nul_in_it ∷ [])) small_image ≡ Some NulInText
+  pub deleted : cause (RemoveNeeded (with_nul_in_it ∷ [])) small_image ≡ Some NulInText
   pub replaced : cause (ReplaceNeeded ((with_nul_in_it, []) ∷ [])) small_image ≡ Some NulInText
   pub replaced_by : cause (ReplaceNeeded (([], with_nul_in_it) ∷ [])) small_image ≡ Some NulInText
   pub needed_more : cause (AddNeeded (with_nul_in_it ∷ [])) small_image ≡ Some NulInText
   pub named : cause (SetSoname with_nul_in_it) small_image ≡ Some NulInText
   pub abi : cause (SetOsAbi with_nul_in_it) small_image ≡ Some NulInText
   -- the machine comes first, then the list or the interpreter, then the texts, then the rest
-  pub machine_first : cause (SetRunPath with_nul_in_it) mips_image ≡ Some MipsImage
+  pub machine_first : cause (SetRpath with_nul_in_it) mips_image ≡ Some MipsImage
   pub pages_of_mips : cause (SetPageSize 3) mips_image ≡ Some MipsImage
-  pub list_next : cause (SetRunPath with_nul_in_it) (record small_image { entries = None }) ≡ Some (NoDynamic (codes "set runpath"))
+  pub list_next : cause (SetRpath with_nul_in_it) (record small_image { entries = None }) ≡ Some (NoDynamic (codes "set runpath"))
   pub interpreter_next : cause (SetInterpreter with_nul_in_it) small_image ≡ Some NoInterpreter
-  pub list_of_defaults : cause NoDefaultLibrary (record small_image { entries = None }) ≡ Some (NoDynamic (codes "set soname"))
+  pub list_of_defaults : cause NoDefaultLib (record small_image { entries = None }) ≡ Some (NoDynamic (codes "set soname"))
 
 -- an edit leaves the image as it was, the mark too
 abbrev pub LeavesAll : Edit → Image → Type 0
@@ -185,27 +185,27 @@ abbrev pub Marks : Edit → Image → Type 0
 Marks edit image = step edit image ≡ Ok (record image { changed = true })
 
 pub record MarkRows : Type 0 where
-  pub no_run_path : LeavesAll DeleteRunPath (with_entries (Auto 5 ∷ []))
-  pub no_rpath : LeavesAll UseRunpath small_image
-  pub no_such_library : LeavesAll (DeleteNeeded (codes "a" ∷ [])) small_image
+  pub no_run_path : LeavesAll RemoveRpath (with_entries (Auto 5 ∷ []))
+  pub no_rpath : LeavesAll ForceRunpath small_image
+  pub no_such_library : LeavesAll (RemoveNeeded (codes "a" ∷ [])) small_image
   pub no_such_key : LeavesAll (ReplaceNeeded ((codes "a", codes "b") ∷ [])) small_image
   pub needed_already : LeavesAll (AddNeeded (codes "libc.so.6" ∷ [])) small_image
-  pub debug_there : LeavesAll AddDebugEntry (with_entries (Integer 21 0 ∷ []))
-  pub equal_run_path : Marks (SetRunPath (codes "/a")) small_image
-  pub no_directories : Marks (AddRunPath []) small_image
+  pub debug_there : LeavesAll AddDebugTag (with_entries (Integer 21 0 ∷ []))
+  pub equal_run_path : Marks (SetRpath (codes "/a")) small_image
+  pub no_directories : Marks (AddRpath []) small_image
   pub equal_library : Marks (ReplaceNeeded ((codes "libc.so.6", codes "libc.so.6") ∷ [])) small_image
   pub equal_abi : Marks (SetOsAbi (codes "sysv")) small_image
 
 -- ## Batches
 
 pub record BatchRows : Type 0 where
-  pub two : run (SetSoname (codes "x") ∷ DeleteRunPath ∷ []) small_image
+  pub two : run (SetSoname (codes "x") ∷ RemoveRpath ∷ []) small_image
       ≡ Ok (record small_image { changed = true; entries = Some (needed (codes "libc.so.6") ∷ Auto 5 ∷ Auto 10 ∷ soname (codes "x") ∷ []) })
   pub second_refused : run (SetOsAbi (codes "linux") ∷ SetPageSize 1000 ∷ []) small_image ≡ Err (record { index = 1; cause = BadPageSize 1000 })
   pub empty_batch : run [] small_image ≡ Ok small_image
   -- a refused batch leaves nothing behind
-  pub nothing_left : left_by_all ((SetOsAbi (codes "linux") ∷ SetPageSize 1000 ∷ []) ∷ (DeleteRunPath ∷ []) ∷ []) small_image ≡ record small_image { changed = true; entries = Some (needed (codes "libc.so.6") ∷ Auto 5 ∷ Auto 10 ∷ []) }
-  pub answered : answers ((SetOsAbi (codes "linux") ∷ SetPageSize 1000 ∷ []) ∷ (DeleteRunPath ∷ []) ∷ []) small_image ≡ Some (record { index = 1; cause = BadPageSize 1000 }) ∷ None ∷ []
+  pub nothing_left : left_by_all ((SetOsAbi (codes "linux") ∷ SetPageSize 1000 ∷ []) ∷ (RemoveRpath ∷ []) ∷ []) small_image ≡ record small_image { changed = true; entries = Some (needed (codes "libc.so.6") ∷ Auto 5 ∷ Auto 10 ∷ []) }
+  pub answered : answers ((SetOsAbi (codes "linux") ∷ SetPageSize 1000 ∷ []) ∷ (RemoveRpath ∷ []) ∷ []) small_image ≡ Some (record { index = 1; cause = BadPageSize 1000 }) ∷ None ∷ []
 
 -- ## Dynamic symbols
 

@@ -76,16 +76,16 @@ impl ElfEdit {
         ensures { option_map words_of result ≡ task_of (edit_model self.now) }
     {
         match self {
-            ElfEdit::AddDebugTag => Some(Task::AddDebugEntry),
+            ElfEdit::AddDebugTag => Some(Task::AddDebugTag),
             ElfEdit::AddNeeded(_) => Some(Task::AddNeeded),
-            ElfEdit::AddRpath(_) => Some(Task::AddRunPath),
-            ElfEdit::ForceRpath => Some(Task::UseRpath),
+            ElfEdit::AddRpath(_) => Some(Task::AddRpath),
+            ElfEdit::ForceRpath => Some(Task::ForceRpath),
             ElfEdit::NoDefaultLib => Some(Task::SetSoname),
-            ElfEdit::RemoveNeeded(_) => Some(Task::DeleteNeeded),
-            ElfEdit::RemoveRpath => Some(Task::DeleteRunPath),
+            ElfEdit::RemoveNeeded(_) => Some(Task::RemoveNeeded),
+            ElfEdit::RemoveRpath => Some(Task::RemoveRpath),
             ElfEdit::ReplaceLibrary(_) => Some(Task::ReplaceNeeded),
             ElfEdit::ReplaceNeeded(_) => Some(Task::ReplaceNeeded),
-            ElfEdit::SetRpath(_) => Some(Task::SetRunPath),
+            ElfEdit::SetRpath(_) => Some(Task::SetRpath),
             ElfEdit::SetSoname(_) => Some(Task::SetSoname),
             _ => None,
         }
@@ -174,19 +174,19 @@ pub fn edit_list<'d>(
 #[derive(Clone, Copy, Debug, PartialEq, Eq)]
 pub enum Task {
     /// An entry for a debugger is added.
-    AddDebugEntry,
+    AddDebugTag,
     /// The run path is dropped.
-    DeleteRunPath,
+    RemoveRpath,
     /// The run path is set.
-    SetRunPath,
+    SetRpath,
     /// Directories are added to the run path.
-    AddRunPath,
+    AddRpath,
     /// Every run path becomes a DT_RUNPATH.
-    UseRunpath,
+    ForceRunpath,
     /// Every run path becomes a DT_RPATH.
-    UseRpath,
+    ForceRpath,
     /// Needed libraries are dropped.
-    DeleteNeeded,
+    RemoveNeeded,
     /// Needed libraries are replaced.
     ReplaceNeeded,
     /// Needed libraries are added.
@@ -194,7 +194,7 @@ pub enum Task {
     /// The library's own name is set, or the default directories are left out: both are told by these words.
     SetSoname,
     /// The run path shrinks.
-    ShrinkRunPath,
+    ShrinkRpath,
 }
 
 impl Task {
@@ -203,17 +203,17 @@ impl Task {
         ensures { result.now ≡ words_of self }
     {
         match self {
-            Task::AddDebugEntry => "add debug entry",
-            Task::DeleteRunPath => "delete runpath",
-            Task::SetRunPath => "set runpath",
-            Task::AddRunPath => "add runpath",
-            Task::UseRunpath => "change runpath",
-            Task::UseRpath => "change rpath",
-            Task::DeleteNeeded => "delete needed library",
+            Task::AddDebugTag => "add debug entry",
+            Task::RemoveRpath => "delete runpath",
+            Task::SetRpath => "set runpath",
+            Task::AddRpath => "add runpath",
+            Task::ForceRunpath => "change runpath",
+            Task::ForceRpath => "change rpath",
+            Task::RemoveNeeded => "delete needed library",
             Task::ReplaceNeeded => "replace needed library",
             Task::AddNeeded => "add needed library",
             Task::SetSoname => "set soname",
-            Task::ShrinkRunPath => "shrink rpath",
+            Task::ShrinkRpath => "shrink rpath",
         }
     }
 }

@@ -3,7 +3,7 @@ use Rattle.std.specs.Prelude.{ℕ, ◌≡◌, List, [], ◌∷◌, Option, Some,
 use Rattle.elf_image.specs.Dynamic.{Auto}
 use Rattle.elf_image.specs.Image.{Image}
 use Rattle.elf_edits.specs.Cause.{NoRunPath, NulInText, cause}
-use Rattle.elf_edits.specs.Edit.{Answer, Edit, ShrinkRunPath}
+use Rattle.elf_edits.specs.Edit.{Answer, Edit, ShrinkRpath}
 use Rattle.elf_edits.specs.Edited.{step}
 use Rattle.elf_edits.specs.Rows.{LeavesAll, machine, needed, rpath, runpath, small_entries, small_image, with_entries, with_nul_in_it}
 use Rattle.elf_edits.specs.Shrunk.{NoLibrary, Prefix, Removal}
@@ -30,22 +30,22 @@ pub record ShrinksTo (edit : Edit) (from to : List ℕ) (removals : List Removal
   pub removed : removed_by edit (searching from) ≡ removals
 
 pub record ShrinkRows : Type 0 where
-  pub found_in_one : ShrinksTo (ShrinkRunPath [] (library_found (codes "/foo/lib") foo (Some machine) ∷ [])) (codes "/lib:/usr/lib:/foo/lib") (codes "/foo/lib")
+  pub found_in_one : ShrinksTo (ShrinkRpath [] (library_found (codes "/foo/lib") foo (Some machine) ∷ [])) (codes "/lib:/usr/lib:/foo/lib") (codes "/foo/lib")
       (gone (codes "/lib") ∷ gone (codes "/usr/lib") ∷ [])
-  pub found_nowhere : ShrinksTo (ShrinkRunPath [] []) (codes "/lib:/foo/lib") [] (gone (codes "/lib") ∷ gone (codes "/foo/lib") ∷ [])
-  pub not_absolute : ShrinksTo (ShrinkRunPath [] []) (codes "$ORIGIN:/lib::lib") (codes "$ORIGIN::lib") (gone (codes "/lib") ∷ [])
-  pub nothing_goes : ShrinksTo (ShrinkRunPath [] (library_found (codes "/lib") foo (Some machine) ∷ [])) (codes "/lib:/lib") (codes "/lib:/lib") []
-  pub another_machine : ShrinksTo (ShrinkRunPath [] (library_found (codes "/lib") foo (Some 3) ∷ library_found (codes "/usr/lib") foo None ∷ [])) (codes "/lib:/usr/lib") [] (gone (codes "/lib") ∷ gone (codes "/usr/lib") ∷ [])
-  pub first_answer_counts : ShrinksTo (ShrinkRunPath [] (library_found (codes "/lib") foo None ∷ library_found (codes "/lib") foo (Some machine) ∷ [])) (codes "/lib") [] (gone (codes "/lib") ∷ [])
+  pub found_nowhere : ShrinksTo (ShrinkRpath [] []) (codes "/lib:/foo/lib") [] (gone (codes "/lib") ∷ gone (codes "/foo/lib") ∷ [])
+  pub not_absolute : ShrinksTo (ShrinkRpath [] []) (codes "$ORIGIN:/lib::lib") (codes "$ORIGIN::lib") (gone (codes "/lib") ∷ [])
+  pub nothing_goes : ShrinksTo (ShrinkRpath [] (library_found (codes "/lib") foo (Some machine) ∷ [])) (codes "/lib:/lib") (codes "/lib:/lib") []
+  pub another_machine : ShrinksTo (ShrinkRpath [] (library_found (codes "/lib") foo (Some 3) ∷ library_found (codes "/usr/lib") foo None ∷ [])) (codes "/lib:/usr/lib") [] (gone (codes "/lib") ∷ gone (codes "/usr/lib") ∷ [])
+  pub first_answer_counts : ShrinksTo (ShrinkRpath [] (library_found (codes "/lib") foo None ∷ library_found (codes "/lib") foo (Some machine) ∷ [])) (codes "/lib") [] (gone (codes "/lib") ∷ [])
   -- a prefix is one of bytes; what it doesn't begin goes for that reason, found or not
-  pub by_prefixes : ShrinksTo (ShrinkRunPath (codes "/opt" ∷ codes "/us" ∷ []) (library_found (codes "/lib") foo (Some machine) ∷ library_found (codes "/usr/lib") foo (Some machine) ∷ [])) (codes "/lib:/usr/lib:/opt") (codes "/usr/lib")
+  pub by_prefixes : ShrinksTo (ShrinkRpath (codes "/opt" ∷ codes "/us" ∷ []) (library_found (codes "/lib") foo (Some machine) ∷ library_found (codes "/usr/lib") foo (Some machine) ∷ [])) (codes "/lib:/usr/lib:/opt") (codes "/usr/lib")
       (record { directory = codes "/lib"; reason = Prefix } ∷ gone (codes "/opt") ∷ [])
-  pub no_run_path : step (ShrinkRunPath [] []) (with_entries (Auto 5 ∷ [])) ≡ Err NoRunPath
+  pub no_run_path : step (ShrinkRpath [] []) (with_entries (Auto 5 ∷ [])) ≡ Err NoRunPath
   pub questions : shrink_questions small_entries ≡ (codes "/a", codes "libc.so.6") ∷ []
   pub all_questions : shrink_questions (needed (codes "a") ∷ rpath (codes "/x:y:/z") ∷ needed (codes "b") ∷ runpath (codes "/w") ∷ [])
       ≡ (codes "/x", codes "a") ∷ (codes "/x", codes "b") ∷ (codes "/z", codes "a") ∷ (codes "/z", codes "b") ∷ (codes "/w", codes "a") ∷ (codes "/w", codes "b") ∷ []
-  pub prefixes : cause (ShrinkRunPath (with_nul_in_it ∷ []) []) small_image ≡ Some NulInText
+  pub prefixes : cause (ShrinkRpath (with_nul_in_it ∷ []) []) small_image ≡ Some NulInText
   -- prefixes come before what stands against shrinking alone
-  pub texts_next : cause (ShrinkRunPath (with_nul_in_it ∷ []) []) (with_entries []) ≡ Some NulInText
+  pub texts_next : cause (ShrinkRpath (with_nul_in_it ∷ []) []) (with_entries []) ≡ Some NulInText
   -- the image stays as it was, the mark too
-  pub nothing_shrinks : LeavesAll (ShrinkRunPath [] (library_found (codes "/a") (codes "libc.so.6") (Some machine) ∷ [])) small_image
+  pub nothing_shrinks : LeavesAll (ShrinkRpath [] (library_found (codes "/a") (codes "libc.so.6") (Some machine) ∷ [])) small_image

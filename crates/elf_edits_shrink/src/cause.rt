@@ -2,7 +2,7 @@
 ghost use Rattle.std.specs.Prelude.{◌≡◌, List, option_map};
 ghost use Rattle.elf_edits.specs.Cause.{first_cause};
 ghost use Rattle.elf_edits.specs.CauseModel.{cause_model};
-ghost use Rattle.elf_edits.specs.Edit.{Answer, ShrinkRunPath};
+ghost use Rattle.elf_edits.specs.Edit.{Answer, ShrinkRpath};
 ghost use Rattle.elf_edits.specs.EditModel.{texts_model};
 ghost use Rattle.elf_edits.specs.Facts.{facts_model};
 
@@ -16,12 +16,12 @@ use elf_image::constants::EM_MIPS;
 pub fn shrink_cause(prefixes: &[Vec<u8>], facts: &Facts<'_>) -> Option<Cause<'static>>
     ensures { (answers : List Answer) →
         option_map cause_model result
-        ≡ first_cause (ShrinkRunPath (texts_model prefixes.now) answers) (facts_model facts.now) }
+        ≡ first_cause (ShrinkRpath (texts_model prefixes.now) answers) (facts_model facts.now) }
 {
     if facts.machine == EM_MIPS {
         Some(Cause::MipsImage)
     } else if !facts.has_list {
-        Some(Cause::NoDynamic(Task::ShrinkRunPath))
+        Some(Cause::NoDynamic(Task::ShrinkRpath))
     } else if any_nul(prefixes) {
         Some(Cause::NulInText)
     } else if !facts.has_run_path {

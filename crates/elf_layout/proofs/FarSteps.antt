@@ -14,7 +14,7 @@ use Rattle.elf_format.specs.Places.{Place}
 use Rattle.elf_format.specs.Records.{segment_header_size}
 use Rattle.elf_layout_plan.specs.Added.{AddedLoad, Slot, added_loads, greatest, header_count, kept_end}
 use Rattle.elf_layout_plan.specs.Memory.{Resized, SizedSection, table_load}
-use Rattle.elf_layout_plan.specs.Plan.{does_place_fit, does_plan_fit, layout_for}
+use Rattle.elf_layout_plan.specs.Plan.{does_place_fit, does_plan_fit, plan_for}
 use Rattle.elf_layout_plan.specs.Sizes.{fits_field}
 use Rattle.elf_layout_plan.specs.Standing.{UnloadedSlot, content_end, unloaded_slot_of, unloaded_slots, unloaded_start, next_table, place_in, places, slot_of, stands_at, stays_at, sections_offset, segments_end, table_offset}
 use Rattle.elf_layout.specs.Inner.{IsPastField}
@@ -40,13 +40,13 @@ not_all test (y ∷ xs) (suc i) x there fails = and_right (test y) (list_all tes
 -- ## Numbers of the plan
 
 pub past_sections : (r : Resized) (moved : List ℕ) → 2 ^ 64 ≤ sections_offset r moved → IsPastField r moved
-unfolding does_plan_fit layout_for
+unfolding does_plan_fit plan_for
 past_sections r moved far rounds looked =
     and_left _ _ (and_left _ _ (and_right _ _ (no_field r.image.form (sections_offset r moved) far)))
 
 pub past_place : (r : Resized) (moved : List ℕ) (i : ℕ) (s : Place) → slice_get (places r moved) i ≡ Some s → 2 ^ 64 ≤ s.sh_addr
     → IsPastField r moved
-unfolding does_plan_fit layout_for
+unfolding does_plan_fit plan_for
 past_place r moved i s there far rounds looked =
     let no : does_place_fit r.image.form s ≡ false = and_left _ _ (no_field r.image.form s.sh_addr far) in
     and_left _ _ (and_left _ _ (and_left _ _

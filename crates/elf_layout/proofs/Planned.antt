@@ -4,7 +4,7 @@ use Rattle.elf_format.specs.Image.{Image}
 use Rattle.elf_layout_plan.specs.declared.fault.LayoutFault.{LayoutFault}
 use Rattle.elf_layout_plan.specs.declared.fault.LayoutFault.TheVariants as faults
 use Rattle.elf_layout_plan.specs.Memory.{Resized}
-use Rattle.elf_layout_plan.specs.Plan.{IsOverlapping, IsPlan, IsTooLarge, Layout, most_added, resized}
+use Rattle.elf_layout_plan.specs.Plan.{IsOverlapping, IsPlan, IsTooLarge, Plan, most_added, resized}
 use Rattle.elf_layout_plan.specs.Refusals.{AreNoSizes, IsNoPlan, IsStuckAsked}
 use Rattle.elf_layout_plan.specs.Rounds.{IsAsked}
 use Rattle.elf_layout_plan.proofs.ForCallers.RoundLaws.{rounds_are_asked, rounds_end}
@@ -13,7 +13,7 @@ use Rattle.elf_layout_segments.specs.AnchorPositions.{IsNoEnd}
 use Rattle.elf_layout.specs.Inner.{HasNoPlan}
 use Rattle.elf_layout_segments.proofs.ForCallers.{resized_is}
 
-pub plan_is : (r : Resized) → IsResized r → (plan : Layout) → IsPlan r plan → IsPlan (resized r.image) plan
+pub plan_is : (r : Resized) → IsResized r → (plan : Plan) → IsPlan r plan → IsPlan (resized r.image) plan
 plan_is r is plan p = let P : Resized → Type 0 = λ s. IsPlan s plan in subst P (sym (resized_is r is)) p
 
 overlapping_is : (r : Resized) → IsResized r → IsOverlapping r → IsOverlapping (resized r.image)
@@ -42,8 +42,8 @@ no_sizes_asked image faults.Overlap never same = absurd never
 no_sizes_asked image faults.NumberTooLarge p same = let never : ⊥ = cc same in absurd never
 no_sizes_asked image faults.Memory p same = let never : ⊥ = cc same in absurd never
 
-pub asked_by_plan : (r : Resized) (plan : Layout) → IsPlan r plan → IsAsked r plan.looked
+pub asked_by_plan : (r : Resized) (plan : Plan) → IsPlan r plan → IsAsked r plan.looked
 asked_by_plan r plan p = rounds_are_asked r p.before plan.looked p.ended.lead
 
-pub few_rounds : (r : Resized) (plan : Layout) → IsPlan r plan → plan.rounds ≤ most_added r.image + 1
+pub few_rounds : (r : Resized) (plan : Plan) → IsPlan r plan → plan.rounds ≤ most_added r.image + 1
 few_rounds r plan p = omega (arith, p.counted, (rounds_end r p.before plan.looked p.ended.lead).1)

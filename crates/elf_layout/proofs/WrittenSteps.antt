@@ -27,7 +27,7 @@ use Rattle.elf_layout_plan.specs.Added.{added_loads, greatest, header_count}
 use Rattle.elf_layout_plan.specs.Anchors.{HeaderTable, Itself, Anchor, Notes, OneSection, is_moved, anchor_of, moved_notes, staying_notes}
 use Rattle.elf_image.specs.Kept.{KeptSection, kept_sections}
 use Rattle.elf_layout_plan.specs.Memory.{Resized, sized_sections}
-use Rattle.elf_layout_plan.specs.Plan.{does_place_fit, does_plan_fit, does_segment_fit, layout_for}
+use Rattle.elf_layout_plan.specs.Plan.{does_place_fit, does_plan_fit, does_segment_fit, plan_for}
 use Rattle.elf_layout_plan.specs.Sizes.{fits_field}
 use Rattle.elf_layout_plan.specs.Standing.{place_in, places, sections_offset, table_offset}
 use Rattle.elf_layout_plan.specs.Written.{Target, address_for, behind_last_load, first_in_file, anchored_to, places_of_kept, resized_table, target_at, targets_of, targets_of_notes, targets_over, written_from, written_segments}
@@ -321,9 +321,9 @@ flat_all q f (y ∷ xs) (suc i) x within at h =
     flat_all q f xs i x (omega (arith, within)) at (and_parts (list_all q (f y)) (list_all q (flat_map f xs)) (sym (list_all-append q (f y) (flat_map f xs)) ∙ h)).1
 
 -- of a plan that fits, the headers fit
-plan_parts : (r : Resized) (moved : List ℕ) (rounds looked : ℕ) → does_plan_fit r.image.form (layout_for r rounds looked moved) ≡ true
+plan_parts : (r : Resized) (moved : List ℕ) (rounds looked : ℕ) → does_plan_fit r.image.form (plan_for r rounds looked moved) ≡ true
     → list_all (does_segment_fit r.image.form) (written_segments r moved) ≡ true
-unfolding does_plan_fit layout_for
+unfolding does_plan_fit plan_for
 plan_parts r moved rounds looked h =
     let form : Form = r.image.form in
     let A : Bool = list_all (does_place_fit form) (places r moved) in
@@ -353,12 +353,12 @@ module _ (r : Resized) (moved : List ℕ) (marks : List Bool) (are : AreSized r)
       ∙ ap (do_headings_fit r.image.form (places r moved) begins (header_count r moved * segment_header_size r.image.form) p) lead
 
   pub heading_past : (i : ℕ) → slice_get r.image.segments i ≡ Some p → do_headings_fit form all begins size p k ≡ false
-      → (rounds looked : ℕ) → does_plan_fit r.image.form (layout_for r rounds looked moved) ≡ false
+      → (rounds looked : ℕ) → does_plan_fit r.image.form (plan_for r rounds looked moved) ≡ false
   unfolding written_segments
   heading_past i there misfit rounds looked =
       let within : i < length r.image.segments = slice_get_within r.image.segments i p there in
       let at : get_or r.image.segments i p ≡ p = get_or_from_slice_get r.image.segments i p p there in
-      false_from_ne_true (does_plan_fit r.image.form (layout_for r rounds looked moved)) (λ plan.
+      false_from_ne_true (does_plan_fit r.image.form (plan_for r rounds looked moved)) (λ plan.
       let parts = plan_parts r moved rounds looked plan in
       let fits : list_all (does_segment_fit r.image.form) (written_from r moved p) ≡ true =
       flat_all (does_segment_fit r.image.form) (written_from r moved) r.image.segments i p within at

@@ -5,7 +5,7 @@ use Rattle.elf_layout_plan.specs.declared.fault.LayoutFault.{LayoutFault}
 use Rattle.elf_layout_plan.specs.declared.fault.LayoutFault.TheVariants as faults
 use Rattle.elf_layout_plan.specs.Added.{added_loads}
 use Rattle.elf_layout_plan.specs.Memory.{Resized}
-use Rattle.elf_layout_plan.specs.Plan.{IsOverlapping, IsTooLarge, Layout, does_plan_fit, layout_for}
+use Rattle.elf_layout_plan.specs.Plan.{IsOverlapping, IsTooLarge, Plan, does_plan_fit, plan_for}
 use Rattle.elf_layout_plan.specs.PlanModel.{place_model}
 use Rattle.elf_layout_plan.specs.Standing.{places, sections_offset, table_offset}
 use Rattle.elf_layout_plan.specs.Written.{written_segments}
@@ -23,7 +23,7 @@ pub record IsStanding (r : Resized) (moved : List ℕ) (s : Standing) : Type 0 w
 
 -- some number of what follows from the sections that move doesn't fit
 abbrev pub IsPastField : Resized → List ℕ → Type 0
-IsPastField r moved = (rounds looked : ℕ) → does_plan_fit r.image.form (layout_for r rounds looked moved) ≡ false
+IsPastField r moved = (rounds looked : ℕ) → does_plan_fit r.image.form (plan_for r rounds looked moved) ≡ false
 
 abbrev pub StandsTooFar : Resized → List ℕ → LayoutFault → Type 0
 StandsTooFar r moved faults.Overlap = ⊥
@@ -37,8 +37,8 @@ pub record AreWritten (r : Resized) (moved : List ℕ) (segments : List SegmentH
 -- ## A plan
 
 -- what follows from the sections that move, but for whether every number fits
-pub record AreParts (r : Resized) (rounds : Rounds) (parts : Layout) : Type 0 where
-  pub are : parts ≡ layout_for r rounds.count rounds.looked rounds.moved.items
+pub record AreParts (r : Resized) (rounds : Rounds) (parts : Plan) : Type 0 where
+  pub are : parts ≡ plan_for r rounds.count rounds.looked rounds.moved.items
 
 -- an image with its sizes has no plan
 abbrev pub HasNoPlan : Resized → LayoutFault → Type 0

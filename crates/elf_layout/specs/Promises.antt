@@ -8,15 +8,15 @@ use Rattle.elf_layout_plan.specs.ApartLaws.{HasPlaceAt}
 use Rattle.elf_layout_plan.specs.FilePlaced.{IsPlacedInFile}
 use Rattle.elf_image.specs.Kept.{KeptSection, kept_sections}
 use Rattle.elf_layout_plan.specs.Memory.{priority_of}
-use Rattle.elf_layout_plan.specs.Plan.{IsPlan, Layout, resized}
+use Rattle.elf_layout_plan.specs.Plan.{IsPlan, Plan, resized}
 
 -- Everything stands in the file as the read rules ask; headers and sections share no address; notes are shown as they were; what
 -- can't move stands at the address at which it was read.
-pub record IsPromised (image : Image) (plan : Layout) : Type 0 where
+pub record IsPromised (image : Image) (plan : Plan) : Type 0 where
   pub placed : IsPlacedInFile (resized image) plan
   pub apart : IsTrue (is_memory_apart (resized image) plan)
   pub notes : IsTrue (are_notes_shown (resized image) plan)
   -- the image has no other plan
-  pub one : (other : Layout) → IsPlan (resized image) other → other ≡ plan
+  pub one : (other : Plan) → IsPlan (resized image) other → other ≡ plan
   pub fixed : (i : ℕ) (s : KeptSection) → slice_get (kept_sections image) i ≡ Some s → priority_of (resized image) s ≡ 0
       → HasPlaceAt plan.places s.position s.section.sh_addr

@@ -17,7 +17,7 @@ use Rattle.elf_layout_plan.specs.ApartLaws.{FixedSectionsStay, HasPlaceAt}
 use Rattle.elf_layout_plan.specs.Blocks.{Block, earlier_moves, has_cause, have_causes, is_block_of, later_moves, overlaps, some_two, stay_apart}
 use Rattle.elf_tables.specs.Kept.{KeptSection, kept_sections}
 use Rattle.elf_layout_plan.specs.Memory.{Resized, SizedSection, block_in_load, blocks_with, edge_blocks, header_blocks, loaded_over, priority_of, section_block, sized_sections, table_at_read, table_load, table_size_with, takes_memory}
-use Rattle.elf_layout_plan.specs.Plan.{Layout, layout_for, resized}
+use Rattle.elf_layout_plan.specs.Plan.{Plan, plan_for, resized}
 use Rattle.elf_layout_plan.specs.Rounds.{are_in_old_order, do_move, sections_at}
 use Rattle.elf_layout_plan.specs.Sizes.{new_size, new_sizes}
 use Rattle.elf_layout_plan.specs.Standing.{place_in, places, slot_of}
@@ -158,8 +158,8 @@ unfolding new_sizes
 resized_sections image = sized_from-map (new_size (resized image).read image) (kept_sections image)
 
 pub fixed_sections_stay : FixedSectionsStay
-unfolding layout_for
+unfolding plan_for
 fixed_sections_stay image plan is i s at fixed =
-    let placed : plan.places ≡ places (resized image) is.moved = ap (λ (l : Layout). l.places) is.follows in
+    let placed : plan.places ≡ places (resized image) is.moved = ap (λ (l : Plan). l.places) is.follows in
     subst (λ (l : List Place). HasPlaceAt l s.position s.section.sh_addr) (sym placed)
     (fixed_stays (resized image) (resized_sections image) plan.looked is.moved is.ended.move i s at fixed)

@@ -18,7 +18,7 @@ use Rattle.elf_layout_plan.specs.ApartLaws.{PlansShowNotes}
 use Rattle.elf_layout_plan.specs.Anchors.{Itself, Anchor, Notes, OneSection, has_bytes, is_just_over, is_loaded_section, is_moved, is_note_in, is_over_notes, anchor_by_range, anchor_of, anchor_or_itself, does_relro_stay, moved_notes, notes_under, section_or_table, section_under, sharers, shares_bytes, staying_notes}
 use Rattle.elf_tables.specs.Kept.{KeptSection, interpreter_number, is_numbered, kept_of_type, kept_sections, place_at_read}
 use Rattle.elf_layout_plan.specs.Memory.{Resized, sized_sections}
-use Rattle.elf_layout_plan.specs.Plan.{Layout, layout_for, resized}
+use Rattle.elf_layout_plan.specs.Plan.{Plan, plan_for, resized}
 use Rattle.elf_layout_plan.specs.Rounds.{flags_for}
 use Rattle.elf_layout_plan.specs.Sizes.{new_size}
 use Rattle.elf_layout_plan.specs.Standing.{place_in, places, stands_at}
@@ -423,10 +423,10 @@ module _ (r : Resized) (facts : AreFacts r) (moved : List ℕ) where
       let inner = and_parts (k.section.sh_type == SHT_NOTE) (is_loaded_section k.section) outer.0 in
       record { place = i; is_there = at; type = eqb-true k.section.sh_type SHT_NOTE inner.0; loaded = inner.1; filled = outer.1 }
 
-  notes_shown : (rounds looked : ℕ) → are_notes_shown r (layout_for r rounds looked moved) ≡ true
-  unfolding are_notes_shown layout_for
+  notes_shown : (rounds looked : ℕ) → are_notes_shown r (plan_for r rounds looked moved) ≡ true
+  unfolding are_notes_shown plan_for
   notes_shown rounds looked =
-      let plan = layout_for r rounds looked moved in
+      let plan = plan_for r rounds looked moved in
       all-from (is_note_shown r plan) (filter is_loaded_note (kept_sections r.image)) (each-from (λ s. is_note_shown r plan s ≡ true) (filter is_loaded_note (kept_sections r.image)) (λ j k at.
       let (i, at_i, passes) = filter-at is_loaded_note (kept_sections r.image) j k at in
       let note = note_of i k at_i passes in
@@ -438,5 +438,5 @@ module _ (r : Resized) (facts : AreFacts r) (moved : List ℕ) where
 pub plans_show_notes : PlansShowNotes
 plans_show_notes image plan edited is =
     let r = resized image in
-    let P : Layout → Type 0 = λ l. are_notes_shown r l ≡ true in
+    let P : Plan → Type 0 = λ l. are_notes_shown r l ≡ true in
     subst P (sym is.follows) (notes_shown r (edited_facts image edited) is.moved plan.rounds plan.looked)

@@ -18,7 +18,7 @@ use Rattle.elf_layout_plan.specs.Apart.{addresses_of, does_take_memory, is_memor
 use Rattle.elf_layout_plan.specs.Blocks.{Block, have_causes, stay_apart}
 use Rattle.elf_layout_plan.specs.Memory.{Resized, SizedSection, blocks_with, edge_blocks, header_blocks, loaded_over, section_block, sized_sections, takes_memory}
 use Rattle.elf_layout_plan.specs.ApartLaws.{PlansAreApart}
-use Rattle.elf_layout_plan.specs.Plan.{Layout, layout_for, resized}
+use Rattle.elf_layout_plan.specs.Plan.{Plan, plan_for, resized}
 use Rattle.elf_layout_plan.specs.Rounds.{added_flags, are_in_old_order, do_move, headers_needed, sections_at}
 use Rattle.elf_layout_plan.specs.Standing.{place_in, places, slot_of, table_offset}
 use Rattle.elf_layout_plan.specs.Written.{written_segments}
@@ -231,8 +231,8 @@ module _ (r : Resized) (facts : AreFacts r) (looked : ℕ) (moved : List ℕ) (m
 
   -- ## All of it
 
-  plan_apart : (rounds : ℕ) → is_memory_apart r (layout_for r rounds looked moved) ≡ true
-  unfolding is_memory_apart layout_for places addresses
+  plan_apart : (rounds : ℕ) → is_memory_apart r (plan_for r rounds looked moved) ≡ true
+  unfolding is_memory_apart plan_for places addresses
   plan_apart rounds =
       let segments = written_segments r moved in
       let first = addresses_of (range 0 (file_header_size r.image.form)) segments in
@@ -262,5 +262,5 @@ module _ (r : Resized) (facts : AreFacts r) (looked : ℕ) (moved : List ℕ) (m
 pub plans_are_apart : PlansAreApart
 plans_are_apart image plan edited is =
     let r = resized image in
-    let P : Layout → Type 0 = λ l. is_memory_apart r l ≡ true in
+    let P : Plan → Type 0 = λ l. is_memory_apart r l ≡ true in
     subst P (sym is.follows) (plan_apart r (edited_facts image edited) plan.looked is.moved is.ended.move (leb-true (headers_needed r is.moved) plan.looked is.ended.enough) plan.rounds)

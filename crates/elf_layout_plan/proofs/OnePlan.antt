@@ -9,7 +9,7 @@ use Rattle.elf_layout_plan.specs.Blocks.{Block, are_moving, earlier_moves, has_c
 use Rattle.elf_tables.specs.Kept.{kept_sections}
 use Rattle.elf_layout_plan.specs.Laws.{PlansAreOne}
 use Rattle.elf_layout_plan.specs.Memory.{Resized, SizedSection, blocks_with, edge_blocks, header_blocks, section_block, sized_sections, takes_memory}
-use Rattle.elf_layout_plan.specs.Plan.{IsPlan, Layout, layout_for, resized}
+use Rattle.elf_layout_plan.specs.Plan.{IsPlan, Plan, plan_for, resized}
 use Rattle.elf_layout_plan.specs.Rounds.{are_chosen, are_in_old_order, comes_before, do_move, headers_needed, leads_to, sections_at}
 use Rattle.elf_layout_plan.proofs.ApartFixed.{CanMove, cause_of, edges_no_section, headers_no_section, resized_sections, some_two-has}
 use Rattle.elf_layout_plan.proofs.ApartLists.{Each, all-at, any-at, each-append, each-at, each-filter, each-from, each-map, each-more, same_at}
@@ -219,16 +219,16 @@ module _ (r : Resized) (sized : sized_sections r ≡ map (sized_of r) (kept_sect
       let (rounds, number, moved) = rounds_one (headers_needed r m) before others at there one other f.lead leads last end in
       (ap (λ (k : List ℕ). k ∷ before) same ∙ ap (λ (ks : List (List ℕ)). n ∷ ks) rounds, number, moved)
 
-  plan_one : (one other : Layout) → IsPlan r one → IsPlan r other → one ≡ other
+  plan_one : (one other : Plan) → IsPlan r one → IsPlan r other → one ≡ other
   plan_one one other p q =
       let (rounds, looked, moved) = rounds_one 0 p.before q.before one.looked other.looked p.moved q.moved p.ended.lead q.ended.lead
       (record { move = p.ended.move; chosen = p.ended.chosen; enough = leb-true (headers_needed r p.moved) one.looked p.ended.enough })
       (record { move = q.ended.move; chosen = q.ended.chosen; enough = leb-true (headers_needed r q.moved) other.looked q.ended.enough }) in
       let count : one.rounds ≡ other.rounds = p.counted ∙ ap (λ (l : List (List ℕ)). length l + 1) rounds ∙ sym q.counted in
       p.follows
-      ∙ ap (λ (n : ℕ). layout_for r n one.looked p.moved) count
-      ∙ ap (λ (n : ℕ). layout_for r other.rounds n p.moved) looked
-      ∙ ap (λ (ns : List ℕ). layout_for r other.rounds other.looked ns) moved
+      ∙ ap (λ (n : ℕ). plan_for r n one.looked p.moved) count
+      ∙ ap (λ (n : ℕ). plan_for r other.rounds n p.moved) looked
+      ∙ ap (λ (ns : List ℕ). plan_for r other.rounds other.looked ns) moved
       ∙ sym q.follows
 
 pub plans_are_one : PlansAreOne

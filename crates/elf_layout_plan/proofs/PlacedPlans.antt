@@ -8,7 +8,7 @@ use Rattle.elf_layout_plan.specs.Blocks.{have_causes, stay_apart}
 use Rattle.elf_layout_plan.specs.FilePlaced.{IsPlacedInFile}
 use Rattle.elf_layout_plan.specs.Memory.{Resized, SizedSection, blocks_with, sized_sections}
 use Rattle.elf_layout_plan.specs.PlacedLaws.{PlansArePlaced}
-use Rattle.elf_layout_plan.specs.Plan.{Layout, layout_for, resized}
+use Rattle.elf_layout_plan.specs.Plan.{Plan, plan_for, resized}
 use Rattle.elf_layout_plan.specs.Rounds.{are_in_old_order, do_move, headers_needed, sections_at}
 use Rattle.elf_layout_plan.specs.Standing.{places, sections_offset}
 use Rattle.elf_layout_plan.proofs.PlacedLists.{Has}
@@ -21,8 +21,8 @@ use Rattle.elf_layout_plan.proofs.PlacedClear.{is_clear}
 module _ (r : Resized) (rounds looked : ℕ) (moved : List ℕ) (reads : ReadsPlaced r) (clear : stay_apart moved (blocks_with r looked) ≡ true)
     (enough : headers_needed r moved ≤ looked)
     (keeps : (s : SizedSection) → Has s (sized_sections r) → s.kept.section.sh_type ≡ SHT_NOBITS → s.size ≡ s.kept.section.sh_size) where
-  layout_placed : IsPlacedInFile r (layout_for r rounds looked moved)
-  unfolding layout_for
+  layout_placed : IsPlacedInFile r (plan_for r rounds looked moved)
+  unfolding plan_for
   layout_placed =
       let size : ℕ = sections_offset r moved + length (places r moved) * section_header_size r.image.form in
       record {
@@ -48,4 +48,4 @@ plans_are_placed image plan edited is =
     let enough : headers_needed r is.moved ≤ plan.looked = leb-true (headers_needed r is.moved) plan.looked is.ended.enough in
     let placed = layout_placed r plan.rounds plan.looked is.moved (reads_placed image edited)
     (stays_apart r plan.looked is.moved is.ended.move) enough (keeps_size image edited) in
-    subst (λ (l : Layout). IsPlacedInFile r l) (sym is.follows) placed
+    subst (λ (l : Plan). IsPlacedInFile r l) (sym is.follows) placed

@@ -13,7 +13,7 @@ use Rattle.elf_format.specs.Places.{Place, file_range, is_set, occupies_memory}
 use Rattle.elf_layout_plan.specs.Anchors.{has_bytes, is_just_over, is_loaded_section, is_over_notes, sharers}
 use Rattle.elf_tables.specs.Kept.{KeptSection, kept_sections, place_at_read}
 use Rattle.elf_layout_plan.specs.Memory.{Resized, loaded_over}
-use Rattle.elf_layout_plan.specs.Plan.{Layout}
+use Rattle.elf_layout_plan.specs.Plan.{Plan}
 
 -- ## Memory
 
@@ -26,13 +26,13 @@ abbrev pub addresses_of : Range → List SegmentHeader → List Range
 addresses_of part segments = list_at (λ p. range (p.p_vaddr + part.start - p.p_offset) part.size ∷ []) (loaded_over part segments)
 
 -- the addresses of the file header and of the program header table
-abbrev pub header_addresses : Resized → Layout → List Range
+abbrev pub header_addresses : Resized → Plan → List Range
 header_addresses r plan =
     addresses_of (range 0 (file_header_size r.image.form)) plan.segments
     ++ addresses_of (range plan.e_phoff (length plan.segments * segment_header_size r.image.form)) plan.segments
 
 -- The headers and all sections that take memory share no address.
-unfoldable pub is_memory_apart : Resized → Layout → Bool
+unfoldable pub is_memory_apart : Resized → Plan → Bool
 is_memory_apart r plan =
     all_apart (header_addresses r plan ++ map (λ s. range s.sh_addr s.sh_size) (filter does_take_memory plan.places))
 
@@ -63,7 +63,7 @@ is_shown_by segments type s = list_any (λ q. q.p_type == type && shows_place q 
 
 -- the note section has a place, which for each program header that is still there and showed the section at read is shown by one of
 -- its type
-abbrev pub is_note_shown : Resized → Layout → KeptSection → Bool
+abbrev pub is_note_shown : Resized → Plan → KeptSection → Bool
 is_note_shown r plan s =
     list_all (λ p. is_some_and (is_shown_by plan.segments p.p_type) (slice_get plan.places s.position))
     (filter (did_show_note r.read s) r.image.segments)
@@ -73,5 +73,5 @@ abbrev pub is_loaded_note : KeptSection → Bool
 is_loaded_note s = s.section.sh_type == SHT_NOTE && is_loaded_section s.section && has_bytes s.section
 
 -- Every loaded note section of the image is shown as it was by the program headers that are still there.
-unfoldable pub are_notes_shown : Resized → Layout → Bool
+unfoldable pub are_notes_shown : Resized → Plan → Bool
 are_notes_shown r plan = list_all (is_note_shown r plan) (filter is_loaded_note (kept_sections r.image))

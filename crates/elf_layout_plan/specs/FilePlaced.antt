@@ -5,21 +5,21 @@ use Rattle.elf_format.specs.Placement.{file_parts_fit, header_table_loaded, rang
 use Rattle.elf_format.specs.Ranges.{range}
 use Rattle.elf_format.specs.Records.{file_header_size, section_header_size, segment_header_size}
 use Rattle.elf_layout_plan.specs.Memory.{Resized}
-use Rattle.elf_layout_plan.specs.Plan.{Layout}
+use Rattle.elf_layout_plan.specs.Plan.{Plan}
 
 -- how long the file is: the section header table is its end
-abbrev pub written_size : Resized → Layout → ℕ
+abbrev pub written_size : Resized → Plan → ℕ
 written_size r plan = plan.e_shoff + length plan.places * section_header_size r.image.form
 
 -- the program header table
-abbrev pub written_table : Resized → Layout → Range
+abbrev pub written_table : Resized → Plan → Range
 written_table r plan = range plan.e_phoff (length plan.segments * segment_header_size r.image.form)
 
-abbrev pub written_headers : Resized → Layout → List Range
+abbrev pub written_headers : Resized → Plan → List Range
 written_headers r plan = range 0 (file_header_size r.image.form) ∷ written_table r plan ∷ []
 
 -- Everything stands where the rules of placement allow it.
-pub record IsPlacedInFile (r : Resized) (plan : Layout) : Type 0 where
+pub record IsPlacedInFile (r : Resized) (plan : Plan) : Type 0 where
   pub in_file : IsTrue (ranges_in_file (written_size r plan) plan.segments plan.places)
   pub fit : IsTrue (file_parts_fit plan.segments)
   pub apart : IsTrue (segments_apart plan.segments)

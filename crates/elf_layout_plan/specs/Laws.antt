@@ -2,7 +2,7 @@
 use Rattle.std.specs.Prelude.{ℕ, ◌≡◌, ◌≤◌, List, length, IsTrue}
 use Rattle.elf_format.specs.Image.{Image}
 use Rattle.elf_layout_plan.specs.Memory.{Resized}
-use Rattle.elf_layout_plan.specs.Plan.{IsPlan, Layout, most_added, resized}
+use Rattle.elf_layout_plan.specs.Plan.{IsPlan, Plan, most_added, resized}
 use Rattle.elf_layout_plan.specs.Rounds.{IsAsked, leads_to}
 
 -- Rounds lead to a number of entries that is asked for.
@@ -16,4 +16,4 @@ RoundsEnd = (r : Resized) (before : List (List ℕ)) (looked : ℕ) → IsTrue (
 
 -- An image has no more than one plan.
 abbrev pub PlansAreOne : Type 0
-PlansAreOne = (image : Image) (one other : Layout) → IsPlan (resized image) one → IsPlan (resized image) other → one ≡ other
+PlansAreOne = (image : Image) (one other : Plan) → IsPlan (resized image) one → IsPlan (resized image) other → one ≡ other

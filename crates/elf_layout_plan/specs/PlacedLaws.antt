@@ -2,8 +2,8 @@
 use Rattle.elf_format.specs.Image.{Image}
 use Rattle.elf_tables.specs.Edited.{IsEdited}
 use Rattle.elf_layout_plan.specs.FilePlaced.{IsPlacedInFile}
-use Rattle.elf_layout_plan.specs.Plan.{IsPlan, Layout, resized}
+use Rattle.elf_layout_plan.specs.Plan.{IsPlan, Plan, resized}
 
 -- A plan of an edited image is placed in the file as the rules of placement ask of a file that is read.
 abbrev pub PlansArePlaced : Type 0
-PlansArePlaced = (image : Image) (plan : Layout) → IsEdited image → IsPlan (resized image) plan → IsPlacedInFile (resized image) plan
+PlansArePlaced = (image : Image) (plan : Plan) → IsEdited image → IsPlan (resized image) plan → IsPlacedInFile (resized image) plan

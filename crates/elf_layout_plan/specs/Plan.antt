@@ -16,7 +16,7 @@ use Rattle.elf_layout_plan.specs.Written.{written_segments}
 
 -- The place of each section, the program headers, where the two header tables stand; how many rounds it took, and how many program
 -- headers more the last of them looked with, which may be more than are written.
-pub record Layout : Type 0 where
+pub record Plan : Type 0 where
   pub places : List Place
   pub segments : List SegmentHeader
   pub e_phoff : ℕ
@@ -31,8 +31,8 @@ resized image =
     record { read = read; image = image; sizes = new_sizes read image }
 
 -- what follows from the sections that move
-unfoldable pub layout_for : Resized → ℕ → ℕ → List ℕ → Layout
-layout_for r rounds looked moved = record {
+unfoldable pub plan_for : Resized → ℕ → ℕ → List ℕ → Plan
+plan_for r rounds looked moved = record {
   places = places r moved;
   segments = written_segments r moved;
   e_phoff = table_offset r moved;
@@ -52,7 +52,7 @@ does_segment_fit form p =
 
 -- Each number fits its field, and there are no more sections and program headers than plain numbering has (gABI, ELF Header,
 -- e_phnum and e_shnum).
-unfoldable pub does_plan_fit : Form → Layout → Bool
+unfoldable pub does_plan_fit : Form → Plan → Bool
 does_plan_fit form plan =
     list_all (does_place_fit form) plan.places && list_all (does_segment_fit form) plan.segments
     && fits_field form plan.e_phoff && fits_field form plan.e_shoff
@@ -61,12 +61,12 @@ does_plan_fit form plan =
 -- ## Plans and refusals
 
 -- A plan for an image: rounds came to an end, what follows from the sections that move is the plan, and every number fits.
-pub record IsPlan (r : Resized) (plan : Layout) : Type 0 where
+pub record IsPlan (r : Resized) (plan : Plan) : Type 0 where
   pub before : List (List ℕ)
   pub moved : List ℕ
   pub ended : AreRounds r before plan.looked moved
   pub counted : plan.rounds ≡ length before + 1
-  pub follows : plan ≡ layout_for r plan.rounds plan.looked moved
+  pub follows : plan ≡ plan_for r plan.rounds plan.looked moved
   pub fits : IsTrue (does_plan_fit r.image.form plan)
 
 -- There is no plan, since rounds lead to a number of entries with which two blocks overlap that can't move.
@@ -82,7 +82,7 @@ pub record IsTooLarge (r : Resized) : Type 0 where
   pub moved : List ℕ
   pub looked : ℕ
   pub ended : AreRounds r before looked moved
-  pub too_large : IsTrue (not (does_plan_fit r.image.form (layout_for r (length before + 1) looked moved)))
+  pub too_large : IsTrue (not (does_plan_fit r.image.form (plan_for r (length before + 1) looked moved)))
 
 -- as many program headers as aren't loaded, and four more: each of them may be split, and there are four sets of flags
 abbrev pub most_added : Image → ℕ

@@ -4,12 +4,12 @@ use Rattle.elf_format.specs.Places.{Place}
 use Rattle.elf_layout_plan.specs.declared.plan.Plan.TheInside.{Inside}
 use Rattle.elf_layout_plan.specs.declared.plan.PlanParts.{PlanParts}
 use Rattle.elf_layout_plan.specs.declared.plan.SectionPlace.{SectionPlace}
-use Rattle.elf_layout_plan.specs.Plan.{Layout}
+use Rattle.elf_layout_plan.specs.Plan.{Plan}
 
 abbrev pub place_model : SectionPlace → Place
 place_model s = record { sh_type = s.sh_type; sh_flags = s.sh_flags; sh_addr = s.sh_addr; sh_offset = s.sh_offset; sh_size = s.sh_size }
 
-abbrev pub parts_model : PlanParts → Layout
+abbrev pub parts_model : PlanParts → Plan
 parts_model p = record {
   places = map place_model p.places.items;
   segments = p.segments.items;
@@ -19,5 +19,5 @@ parts_model p = record {
   looked = p.looked;
 }
 
-abbrev pub plan_model : Inside → Layout
+abbrev pub plan_model : Inside → Plan
 plan_model p = parts_model p.parts

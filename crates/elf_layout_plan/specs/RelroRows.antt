@@ -6,7 +6,7 @@ use Rattle.elf_format.specs.declared.section_data.SectionData.TheVariants as kin
 use Rattle.elf_format.specs.Dynamic.{Text}
 use Rattle.elf_format.specs.Image.{Image}
 use Rattle.elf_layout_plan.specs.Memory.{Resized}
-use Rattle.elf_layout_plan.specs.Plan.{IsPlan, Layout}
+use Rattle.elf_layout_plan.specs.Plan.{IsPlan, Plan}
 use Rattle.elf_layout_plan.specs.RowParts.{after_edit, image_of_parts, names_section, no_place, null_section, place, section, segment}
 use Rattle.elf_layout_plan.specs.SmallRows.{small_entries}
 
@@ -30,7 +30,7 @@ relro_named type =
     after_edit (relro_library type) (record (relro_library type) { entries = Some (small_entries ++ Text 14 (codes "x") ∷ []); moves_dynamic = true })
 
 -- the plan, by what becomes of the program header: the list goes behind the end of the file part, on the next page
-abbrev pub relro_plan : SegmentHeader → Layout
+abbrev pub relro_plan : SegmentHeader → Plan
 relro_plan header = record {
   places = no_place ∷ place 3 2 288 288 16 ∷ place 6 3 4480 384 96 ∷ place 3 0 0 480 28 ∷ [];
   segments = relro_load ∷ segment 1 6 384 4480 96 4096 ∷ segment 2 6 384 4480 96 8 ∷ header ∷ [];
@@ -46,7 +46,7 @@ relro_renamed =
     let library = relro_library PT_GNU_RELRO in
     after_edit library (record library { entries = Some (small_entries ++ Text 14 (codes "xyz") ∷ []); moves_dynamic = true })
 
-abbrev pub renamed_plan : Layout
+abbrev pub renamed_plan : Plan
 renamed_plan = record {
   places = no_place ∷ place 3 2 4480 384 18 ∷ place 6 3 4504 408 96 ∷ place 3 0 0 504 28 ∷ [];
   segments = relro_load ∷ segment 1 6 384 4480 120 4096 ∷ segment 2 6 408 4504 96 8 ∷ header_over_list PT_GNU_RELRO ∷ [];

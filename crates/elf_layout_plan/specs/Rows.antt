@@ -6,7 +6,7 @@ use Rattle.elf_format.specs.Dynamic.{Auto, Text}
 use Rattle.elf_format.specs.Image.{Image, ImageSection}
 use Rattle.elf_tables.specs.Segments.{added_stack}
 use Rattle.elf_layout_plan.specs.Memory.{Resized}
-use Rattle.elf_layout_plan.specs.Plan.{IsOverlapping, IsPlan, Layout}
+use Rattle.elf_layout_plan.specs.Plan.{IsOverlapping, IsPlan, Plan}
 use Rattle.elf_layout_plan.specs.RowParts.{after_edit, image_of_parts, names_section, no_place, null_section, place, section, segment}
 
 -- ## A program with an interpreter behind its program headers
@@ -111,7 +111,7 @@ tabled_stack offset size =
     after_edit (tabled offset size) (record (tabled offset size) { segments = segment 1 6 0 0 320 4096 ∷ segment 6 4 offset 64 size 8 ∷ added_stack 7 ∷ [] })
 
 -- the plan, by what becomes of the PT_PHDR
-abbrev pub tabled_plan : SegmentHeader → Layout
+abbrev pub tabled_plan : SegmentHeader → Plan
 tabled_plan header = record {
   places = no_place ∷ place 1 3 288 288 32 ∷ place 1 0 0 320 4 ∷ place 3 0 0 324 26 ∷ [];
   segments = segment 1 6 0 0 320 4096 ∷ header ∷ added_stack 7 ∷ [];

@@ -6,7 +6,7 @@ use Rattle.elf_format.specs.Dynamic.{Auto, Entry, Integer, Text}
 use Rattle.elf_format.specs.Image.{Image, ImageSection}
 use Rattle.elf_tables.specs.Segments.{added_stack}
 use Rattle.elf_layout_plan.specs.Memory.{Resized}
-use Rattle.elf_layout_plan.specs.Plan.{IsOverlapping, IsPlan, Layout}
+use Rattle.elf_layout_plan.specs.Plan.{IsOverlapping, IsPlan, Plan}
 use Rattle.elf_layout_plan.specs.Rounds.{do_move}
 use Rattle.elf_layout_plan.specs.Sizes.{new_sizes}
 use Rattle.elf_layout_plan.specs.RowParts.{after_edit, image_of_parts, names_section, no_place, null_section, place, section, segment}
@@ -48,7 +48,7 @@ abbrev pub small_stack : Resized
 small_stack = after_edit small_image (record small_image { segments = small_load ∷ small_list ∷ added_stack 7 ∷ [] })
 
 -- a plan in which nothing moves, by the size of the strings
-abbrev pub small_plan : ℕ → Layout
+abbrev pub small_plan : ℕ → Plan
 small_plan size = record {
   places = no_place ∷ place 3 2 176 176 size ∷ place 6 3 240 240 80 ∷ place 3 0 0 320 28 ∷ [];
   segments = small_load ∷ small_list ∷ [];
@@ -60,7 +60,7 @@ small_plan size = record {
 
 -- a plan in which the strings move, by where they stood and by their size: behind the end of the file part, on the next page, and
 -- the section of names behind them
-abbrev pub moved_plan : ℕ → ℕ → ℕ → Layout
+abbrev pub moved_plan : ℕ → ℕ → ℕ → Plan
 moved_plan size names e_shoff = record {
   places = no_place ∷ place 3 2 4416 320 size ∷ place 6 3 240 240 80 ∷ place 3 0 0 names 28 ∷ [];
   segments = small_load ∷ segment 1 4 320 4416 size 4096 ∷ small_list ∷ [];

@@ -41,10 +41,10 @@ pub struct Plan {
 }
 
 impl Model for Plan {
-    ghost use Rattle.elf_layout_plan.specs.Plan.{Layout};
+    ghost use Rattle.elf_layout_plan.specs.Plan.{Plan as PlanValue};
     ghost use Rattle.elf_layout_plan.specs.PlanModel.{plan_model};
 
-    ghost Value = { Layout };
+    ghost Value = { PlanValue };
 
     ghost view = { plan_model };
 }

@@ -4,7 +4,7 @@ use Rattle.std.specs.List.{flat_map, list_any, starts_with}
 use Rattle.std.specs.Str.{bytes_eq}
 use Rattle.std.specs.Option.{option_map}
 use Rattle.elf_edits.specs.Batch.{left_by, run}
-use Rattle.elf_edits.specs.Edit.{AddDebugEntry, AddNeeded, AddRunPath, ClearSymbolVersion, DeleteNeeded, Edit, RenameDynamicSymbols, ReplaceLibrary, ReplaceNeeded, SetRunPath, SetSoname}
+use Rattle.elf_edits.specs.Edit.{AddDebugTag, AddNeeded, AddRpath, ClearSymbolVersion, RemoveNeeded, Edit, RenameDynamicSymbols, ReplaceLibrary, ReplaceNeeded, SetRpath, SetSoname}
 use Rattle.elf_edits.specs.Entries.{needed_names}
 use Rattle.elf_edits.specs.Symbols.{names_behind_first}
 use Rattle.elf_edits.specs.Texts.{has_some, is_among}
@@ -27,7 +27,7 @@ use Rattle.elf_image.specs.Kept.{image_at_read}
 use Rattle.elf_image.specs.Names.{are_names_changed}
 use Rattle.elf_image.specs.Renumbering.{is_opaque}
 use Rattle.elf_layout_plan.specs.Needs.{written_needs}
-use Rattle.elf_layout_plan.specs.Plan.{IsOverlapping, IsPlan, IsTooLarge, Layout, resized}
+use Rattle.elf_layout_plan.specs.Plan.{IsOverlapping, IsPlan, IsTooLarge, Plan, resized}
 use Rattle.elf_layout_plan.specs.Refusals.{do_sizes_of_image_fit}
 use Rattle.elf_layout_plan.specs.declared.constants.TheConstants.{PF_W}
 use Rattle.elf_notes.specs.declared.findings.Findings.{Findings}
@@ -57,7 +57,7 @@ versioned_of image = map (λ n. n.file) (written_needs (image_at_read image) ima
 
 -- the names that an edit looks for among the libraries that entries need
 abbrev pub entries_asked_by : Edit → List Name
-entries_asked_by (DeleteNeeded names) = names
+entries_asked_by (RemoveNeeded names) = names
 entries_asked_by (ReplaceNeeded pairs) = map (λ pair. pair.0) pairs
 entries_asked_by _ = []
 
@@ -104,7 +104,7 @@ symbols_put edits = flat_map symbols_put_by edits
 
 -- an edit of needed libraries without names
 abbrev pub has_no_names : Edit → Bool
-has_no_names (DeleteNeeded names) = not (has_some names)
+has_no_names (RemoveNeeded names) = not (has_some names)
 has_no_names (ReplaceNeeded pairs) = not (has_some pairs)
 has_no_names (ReplaceLibrary pairs) = not (has_some pairs)
 has_no_names (AddNeeded names) = not (has_some names)
@@ -117,13 +117,13 @@ has_no_pairs _ = false
 
 -- an edit that sets a run path
 abbrev pub sets_run_path : Edit → Bool
-sets_run_path (SetRunPath text) = true
-sets_run_path (AddRunPath texts) = true
+sets_run_path (SetRpath text) = true
+sets_run_path (AddRpath texts) = true
 sets_run_path _ = false
 
 -- an edit that adds DT_DEBUG
 abbrev pub adds_debug : Edit → Bool
-adds_debug AddDebugEntry = true
+adds_debug AddDebugTag = true
 adds_debug _ = false
 
 -- ## What edits find
@@ -268,7 +268,7 @@ are_apart (Some a) (Some b) = not (a == b)
 are_apart _ _ = false
 
 -- a plan gives it another address
-abbrev pub is_dynamic_moved : Image → Layout → Bool
+abbrev pub is_dynamic_moved : Image → Plan → Bool
 is_dynamic_moved edited plan = are_apart (dynamic_address plan.segments) (dynamic_address edited.segments)
 
 -- A file that loads itself finds its own dynamic section by `_DYNAMIC`, at the address that the link editor gave it; the loader of
@@ -284,11 +284,11 @@ IsUnplanned edited =
     (do_sizes_of_image_fit edited ≡ false) ⊎ (IsTooLarge (resized edited) ⊎ IsOverlapping (resized edited))
 
 -- the edited image has a plan that passes a test, or fails it
-abbrev pub IsPlannedSo : (Layout → Bool) → Image → Bool → Type 0
-IsPlannedSo test edited passes = (plan : Layout) × IsPlan (resized edited) plan × (test plan ≡ passes)
+abbrev pub IsPlannedSo : (Plan → Bool) → Image → Bool → Type 0
+IsPlannedSo test edited passes = (plan : Plan) × IsPlan (resized edited) plan × (test plan ≡ passes)
 
 -- It is told just where it may be so, and the plan passes the test. An image has no more than one plan.
-abbrev pub TellsPlanned : Bool → (Layout → Bool) → Image → Bool → Type 0
+abbrev pub TellsPlanned : Bool → (Plan → Bool) → Image → Bool → Type 0
 TellsPlanned may_be test edited true = (may_be ≡ true) × IsPlannedSo test edited true
 TellsPlanned may_be test edited false = (may_be ≡ false) ⊎ (IsPlannedSo test edited false ⊎ IsUnplanned edited)
 

@@ -21,7 +21,7 @@ use Rattle.elf_layout_plan.specs.declared.plan.SectionPlace.{SectionPlace}
 use Rattle.elf_layout_plan.specs.FilePlaced.{written_size}
 use Rattle.elf_image.specs.Kept.{KeptSection, image_at_read, interpreter_number, kept_sections}
 use Rattle.elf_layout_plan.specs.Memory.{Resized}
-use Rattle.elf_layout_plan.specs.Plan.{Layout, resized}
+use Rattle.elf_layout_plan.specs.Plan.{Plan, resized}
 use Rattle.elf_layout_plan.specs.PlanModel.{place_model}
 use Rattle.elf_write_contents.specs.Base.{is_data}
 use Rattle.elf_write_contents.specs.Headers.{written_header}
@@ -139,7 +139,7 @@ pushed-all image sections ps cs i old now edited seen end so_far =
 -- ## All of it
 
 -- what the headers and tables ask for
-pub headers_fit : (image : Image) (plan : Layout) (form : Form) (header : FileHeader) (headers : List SectionHeader)
+pub headers_fit : (image : Image) (plan : Plan) (form : Form) (header : FileHeader) (headers : List SectionHeader)
     (contents : List (List ℕ)) → form ≡ image.form → header ≡ written_header image plan
     → ((raw : List EntryNumbers) × IsPlannedOutput (output_of image plan headers contents raw))
     → DoHeadersFit form header plan.segments headers
@@ -152,7 +152,7 @@ headers_fit image plan form header headers contents same_form same_header output
     }))
 
 -- with the form and the file header of the image
-spelled_as : (form : Form) (header : FileHeader) (image : Image) (plan : Layout) (headers : List SectionHeader) (spelled : SpelledHeaders)
+spelled_as : (form : Form) (header : FileHeader) (image : Image) (plan : Plan) (headers : List SectionHeader) (spelled : SpelledHeaders)
     → form ≡ image.form → header ≡ written_header image plan → AreHeadersSpelled form header plan.segments headers spelled
     → AreHeadersSpelled image.form (written_header image plan) plan.segments headers spelled
 spelled_as form header image plan headers spelled same_form same_header are =
@@ -172,7 +172,7 @@ same_patches w spelled are =
     ∙ ap (λ (l : List ℕ). patch 0 first ∷ patch w.plan.e_phoff second ∷ patch w.plan.e_shoff l ∷ []) are.of_sections
 
 -- each section has a place and bytes
-pub as_many : (image : Image) (plan : Layout) (headers : List SectionHeader) (contents : List (List ℕ))
+pub as_many : (image : Image) (plan : Plan) (headers : List SectionHeader) (contents : List (List ℕ))
     → ((raw : List EntryNumbers) × IsPlannedOutput (output_of image plan headers contents raw))
     → (length plan.places ≡ length image.sections) × (length contents ≡ length image.sections)
 as_many image plan headers contents (raw, is) =
@@ -181,7 +181,7 @@ as_many image plan headers contents (raw, is) =
     (l.places, l.contents)
 
 -- The headers, tables and contents of a file, each at its place; it has so many bytes.
-pub record IsFileOf (image : Image) (plan : Layout) (headers : List SectionHeader) (contents : List (List ℕ)) (spelled : SpelledHeaders)
+pub record IsFileOf (image : Image) (plan : Plan) (headers : List SectionHeader) (contents : List (List ℕ)) (spelled : SpelledHeaders)
     (form : Form) (header : FileHeader) (size : ℕ) (these : List Patch) : Type 0 where
   pub same_form : form ≡ image.form
   pub same_header : header ≡ written_header image plan
@@ -189,7 +189,7 @@ pub record IsFileOf (image : Image) (plan : Layout) (headers : List SectionHeade
   pub same_size : size ≡ plan.e_shoff + length plan.places * section_header_size form
   pub are : these ≡ header_patches plan spelled ++ patches_of_sections (resized image) (kept_sections image) plan.places contents
 
-module _ (image : Image) (plan : Layout) (headers : List SectionHeader) (contents : List (List ℕ)) (spelled : SpelledHeaders) (form : Form)
+module _ (image : Image) (plan : Plan) (headers : List SectionHeader) (contents : List (List ℕ)) (spelled : SpelledHeaders) (form : Form)
     (header : FileHeader) (size : ℕ) (these : List Patch) (of : IsFileOf image plan headers contents spelled form header size these) where
   of_sections : List Patch
   of_sections = patches_of_sections (resized image) (kept_sections image) plan.places contents

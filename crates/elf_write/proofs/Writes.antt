@@ -23,7 +23,7 @@ use Rattle.elf_tables.specs.Spelled.{entry_fields}
 use Rattle.elf_image.specs.Kept.{KeptSection, kept_sections}
 use Rattle.elf_image.specs.Names.{are_names_changed}
 use Rattle.elf_layout_plan.specs.Memory.{Resized}
-use Rattle.elf_layout_plan.specs.Plan.{Layout, resized}
+use Rattle.elf_layout_plan.specs.Plan.{Plan, resized}
 use Rattle.elf_write_contents.specs.Base.{is_interpreter}
 use Rattle.elf_write_contents.specs.Contents.{IsContent, IsContentOfKind, content_at_number}
 use Rattle.elf_write_contents.specs.Headers.{IsHeaderOf, written_header}
@@ -42,13 +42,13 @@ use Rattle.elf_write_contents.proofs.ForCallers.NumberedSections.{kept_as}
 use Rattle.elf_write_contents.proofs.ForCallers.WholeEdits.{ReadFacts, SectionRead, kept_is, kept_read, read_facts}
 
 -- the content at a position
-record ContentAt (r : Resized) (plan : Layout) (made : List Made) (raw : List EntryNumbers) (ps : List Place) (cs : List (List ℕ)) (i : ℕ) (k : KeptSection) : Type 0 where
+record ContentAt (r : Resized) (plan : Plan) (made : List Made) (raw : List EntryNumbers) (ps : List Place) (cs : List (List ℕ)) (i : ℕ) (k : KeptSection) : Type 0 where
   place : Place
   bytes : List ℕ
   is_bytes : slice_get cs i ≡ Some bytes
   is : IsMadeContent r plan made raw k place bytes
 
-content-at : (r : Resized) (plan : Layout) (made : List Made) (raw : List EntryNumbers) (ks : List KeptSection) (ps : List Place) (cs : List (List ℕ))
+content-at : (r : Resized) (plan : Plan) (made : List Made) (raw : List EntryNumbers) (ks : List KeptSection) (ps : List Place) (cs : List (List ℕ))
     → AreContents r plan made raw ks ps cs
     → (i : ℕ) (k : KeptSection) → slice_get ks i ≡ Some k → ContentAt r plan made raw ps cs i k
 content-at r plan made raw [] [] [] are i k at = absurd (none-some k at)
@@ -64,7 +64,7 @@ content-at r plan made raw (x ∷ ks) (p ∷ ps) (c ∷ cs) are (suc i) k at =
 content-at r plan made raw _ _ _ are i k at = absurd are
 
 -- what bytes show that are no texts' users', whichever texts these are
-without_texts : (r : Resized) (plan : Layout) (raw : List EntryNumbers) (a b : List ℕ) (s : KeptSection) (bytes : List ℕ)
+without_texts : (r : Resized) (plan : Plan) (raw : List EntryNumbers) (a b : List ℕ) (s : KeptSection) (bytes : List ℕ)
     → shows_texts s.section.kind ≡ false → IsContent r plan raw a s bytes → IsContent r plan raw b s bytes
 unfolding shows_texts
 without_texts r plan raw a b s bytes none shown = by_interpreter (is_interpreter r.read s) shown
@@ -107,7 +107,7 @@ few_symbols read image fit changed =
     (ap (λ (b : Bool). not b || nat_lt (length image.dynamic_symbols) (2 ^ 32)) (sym changed)
     ∙ (and_parts (not (are_names_changed read image) || nat_lt (length image.dynamic_symbols) (2 ^ 32)) _ fit).0)
 
-module _ (read image : Image) (plan : Layout) (made : List Made) (raw : List EntryNumbers) (contents : List (List ℕ))
+module _ (read image : Image) (plan : Plan) (made : List Made) (raw : List EntryNumbers) (contents : List (List ℕ))
     (planned : IsPlanned read image plan)
     (are : AreContents (resized image) plan made raw (kept_sections image) plan.places contents) where
   facts : ReadFacts read image
@@ -232,10 +232,10 @@ module _ (read image : Image) (plan : Layout) (made : List Made) (raw : List Ent
 
 -- what the laws of plans and of written files say of them
 pub are_promised : PlansAreApart → PlansShowNotes
-    → (image : Image) (plan : Layout) (bytes : List ℕ) → IsPlannedFile image plan bytes → ArePromised image plan bytes
+    → (image : Image) (plan : Plan) (bytes : List ℕ) → IsPlannedFile image plan bytes → ArePromised image plan bytes
 are_promised are_apart show_notes image plan bytes is =
     let w = is.output in
     subst (λ (i : Image). ArePromised i plan bytes) is.of_image
-    (subst (λ (l : Layout). ArePromised w.image l bytes) is.by_plan
+    (subst (λ (l : Plan). ArePromised w.image l bytes) is.by_plan
     (subst (λ (b : List ℕ). ArePromised w.image w.plan b) (sym is.are_bytes)
     (record { written = files_are_written are_apart show_notes w is.whole; by_plan = files_by_plan w is.whole })))

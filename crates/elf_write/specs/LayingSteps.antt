@@ -19,7 +19,7 @@ use Rattle.elf_tables.specs.Spelled.{spelled_file_header, spelled_section_header
 use Rattle.elf_layout_plan.specs.Anchors.{is_loaded_section}
 use Rattle.elf_image.specs.Kept.{KeptSection, place_at_read}
 use Rattle.elf_layout_plan.specs.Memory.{Resized}
-use Rattle.elf_layout_plan.specs.Plan.{Layout}
+use Rattle.elf_layout_plan.specs.Plan.{Plan}
 use Rattle.elf_write_contents.specs.Base.{has_position, is_opaque, leaves_place}
 use Rattle.elf_write_contents.specs.Output.{patch}
 use Rattle.elf_write.specs.declared.spelled.SpelledHeaders.{SpelledHeaders}
@@ -65,7 +65,7 @@ pub record AreHeadersSpelled (form : Form) (header : FileHeader) (segments : Lis
   pub of_sections : spelled.sections.items ≡ flat_map (spelled_section_header form) sections
 
 -- each where the plan has it
-abbrev pub header_patches : Layout → SpelledHeaders → List Patch
+abbrev pub header_patches : Plan → SpelledHeaders → List Patch
 header_patches plan spelled =
     patch 0 spelled.file.items ∷ patch plan.e_phoff spelled.segments.items ∷ patch plan.e_shoff spelled.sections.items ∷ []
 

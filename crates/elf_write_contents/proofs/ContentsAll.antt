@@ -17,7 +17,7 @@ use Rattle.elf_layout_plan.specs.declared.plan.SectionPlace.{SectionPlace}
 use Rattle.elf_layout_plan.specs.PlanModel.{place_model}
 use Rattle.elf_image.specs.Kept.{KeptSection, interpreter_number, kept_sections}
 use Rattle.elf_layout_plan.specs.Memory.{Resized, sized_sections}
-use Rattle.elf_layout_plan.specs.Plan.{Layout, layout_for, resized}
+use Rattle.elf_layout_plan.specs.Plan.{Plan, plan_for, resized}
 use Rattle.elf_layout_plan.specs.Needs.{written_needs}
 use Rattle.elf_layout_plan.specs.Sizes.{definitions_size, hash_size, needs_size}
 use Rattle.elf_layout_plan.specs.Standing.{place_in, places}
@@ -43,11 +43,11 @@ use Rattle.elf_write_contents.proofs.ContentsByType.{interpreter_made, list_made
 -- ## Position by position
 
 -- a plan has a place for each section
-pub places_long : (read image : Image) (plan : Layout) → IsPlanned read image plan → length plan.places ≡ length image.sections
-unfolding layout_for places
+pub places_long : (read image : Image) (plan : Plan) → IsPlanned read image plan → length plan.places ≡ length image.sections
+unfolding plan_for places
 places_long read image plan is =
     let r : Resized = resized image in
-    let places_are : plan.places ≡ map (place_in r is.planned.moved) (sized_sections r) = ap (λ (l : Layout). l.places) is.planned.follows in
+    let places_are : plan.places ≡ map (place_in r is.planned.moved) (sized_sections r) = ap (λ (l : Plan). l.places) is.planned.follows in
     ap length places_are ∙ length-map (sized_sections r) (place_in r is.planned.moved)
     ∙ ap length (edited_facts image is.ready.edited).sized ∙ length-map (kept_sections image) (sized_of r)
     ∙ length-kept read image (read_facts read image (ready_edit is.ready))
@@ -61,7 +61,7 @@ each_of_more P last [] each is (suc i) b at = absurd (none-some b at)
 each_of_more P last (c ∷ cs) each is zero b at = each 0 b at
 each_of_more P last (c ∷ cs) each is (suc i) b at = each_of_more (λ j. P (suc j)) last cs (λ j. each (suc j)) is i b at
 
-module _ (image : Image) (plan : Layout) (made : List Made) (raw : List EntryNumbers) where
+module _ (image : Image) (plan : Plan) (made : List Made) (raw : List EntryNumbers) where
   -- one more
   pub one_more : (contents now : List (List ℕ)) (bytes : List ℕ) → AreBytesOf image plan made raw contents
       → IsBytesAt image plan made raw (length contents) bytes → now ≡ contents ++ bytes ∷ [] → AreBytesOf image plan made raw now
@@ -145,7 +145,7 @@ numbers_fit read image is all i s s_at =
     ap (do_numbers_fit_in read image) (same_Some s at.section (sym s_at ∙ at.is_section))
     ∙ fits_at (do_section_relocations_fit read image) (kept_sections image) i (kept_as i at.number at.section) all at.is_kept
 
-module _ (read image : Image) (plan : Layout) (made : List Made) (raw : List EntryNumbers) (is : IsPlanned read image plan) (i : ℕ)
+module _ (read image : Image) (plan : Plan) (made : List Made) (raw : List EntryNumbers) (is : IsPlanned read image plan) (i : ℕ)
     (s : ImageSection) (s_at : slice_get image.sections i ≡ Some s) where
   -- the section with its place
   abbrev facts : ReadFacts read image
@@ -295,7 +295,7 @@ module _ (read image : Image) (plan : Layout) (made : List Made) (raw : List Ent
           (list_made read image plan made raw is.ready facts are i place apart (of_type SHT_DYNAMIC e)))
 
 -- the interpreter's
-pub interpreter_at : (read image : Image) (plan : Layout) (made : List Made) (raw : List EntryNumbers) → IsPlanned read image plan → (i : ℕ)
+pub interpreter_at : (read image : Image) (plan : Plan) (made : List Made) (raw : List EntryNumbers) → IsPlanned read image plan → (i : ℕ)
     → (s : ImageSection) → slice_get image.sections i ≡ Some s
     → is_some_and (λ n. n == slice_index image.section_numbers i) (interpreter_number read) ≡ true
     → IsBytesAt image plan made raw i (unwrap_or image.interpreter s.content)

@@ -19,7 +19,7 @@ use Rattle.elf_format.specs.Rules.{is_opaque_relocation}
 use Rattle.elf_format.proofs.ForCallers.ViewsAgree.{there_if}
 use Rattle.elf_image.specs.Kept.{interpreter_number, is_numbered, kept_of_type}
 use Rattle.elf_layout_plan.specs.Needs.{written_entries}
-use Rattle.elf_layout_plan.specs.Plan.{Layout, resized}
+use Rattle.elf_layout_plan.specs.Plan.{Plan, resized}
 use Rattle.elf_layout_plan.specs.Sizes.{interpreter_size, new_size, strings_size}
 use Rattle.elf_layout_plan.specs.Texts.{is_table_copied, texts_in_use}
 use Rattle.elf_tables.specs.Strings.{IsTableOf, PlacesStand, Strings, place_of}
@@ -57,7 +57,7 @@ table_made texts table holds stand = record {
   long = holds.long;
 }
 
-module _ (read image : Image) (plan : Layout) (made : List Made) (raw : List EntryNumbers) (is : IsEditedReady read image) (f : ReadFacts read image)
+module _ (read image : Image) (plan : Plan) (made : List Made) (raw : List EntryNumbers) (is : IsEditedReady read image) (f : ReadFacts read image)
     (i : ℕ) (at : PlacedAt read image plan f.parts i) (apart : is_numbered (interpreter_number read) (kept_as i at.here.number at.here.section) ≡ false) where
   -- ## Sections that are copied
 
@@ -177,7 +177,7 @@ room_for n size old =
     let e : (n + 1) * size ≡ n * size + size = ap (λ m. m * size) (add-one n) ∙ suc-mul n size in
     omega arith
 
-module _ (read image : Image) (plan : Layout) (made : List Made) (raw : List EntryNumbers) (is : IsEditedReady read image) (f : ReadFacts read image)
+module _ (read image : Image) (plan : Plan) (made : List Made) (raw : List EntryNumbers) (is : IsEditedReady read image) (f : ReadFacts read image)
     (are : AreRaw (resized image) plan made raw)
     (i : ℕ) (at : PlacedAt read image plan f.parts i) (apart : is_numbered (interpreter_number read) (kept_as i at.here.number at.here.section) ≡ false)
     (typed_so : at.here.section.sh_type ≡ SHT_DYNAMIC) where
@@ -223,7 +223,7 @@ module _ (read image : Image) (plan : Layout) (made : List Made) (raw : List Ent
 
 -- ## The interpreter
 
-module _ (read image : Image) (plan : Layout) (made : List Made) (raw : List EntryNumbers) (f : ReadFacts read image)
+module _ (read image : Image) (plan : Plan) (made : List Made) (raw : List EntryNumbers) (f : ReadFacts read image)
     (i : ℕ) (at : PlacedAt read image plan f.parts i) (own : is_numbered (interpreter_number read) (kept_as i at.here.number at.here.section) ≡ true) where
   type_is : at.here.section.sh_type ≡ SHT_PROGBITS
   type_is = interpreter_type read image f i at.here own

@@ -10,7 +10,7 @@ use Rattle.elf_format.specs.Rules.{file_of}
 use Rattle.elf_format.proofs.ForCallers.Placed.{IsIn, IsIn-slice_get}
 use Rattle.elf_format.proofs.ForCallers.ViewsAgree.{length-bytes}
 use Rattle.elf_image.specs.Kept.{interpreter_number, is_numbered}
-use Rattle.elf_layout_plan.specs.Plan.{Layout}
+use Rattle.elf_layout_plan.specs.Plan.{Plan}
 use Rattle.elf_layout_plan.specs.Sizes.{interpreter_size, new_size, table_size}
 use Rattle.elf_write_spec.proofs.ForCallers.NumberedSections.{kept_as}
 use Rattle.elf_write_spec.proofs.ForCallers.WholeEdits.{ReadFacts}
@@ -18,7 +18,7 @@ use Rattle.elf_write_contents.proofs.ContentsMade.{IsOther, PlacedAt}
 
 -- ## Sizes that were read
 
-module _ (read image : Image) (plan : Layout) (f : ReadFacts read image) (i : ℕ) (at : PlacedAt read image plan f.parts i) where
+module _ (read image : Image) (plan : Plan) (f : ReadFacts read image) (i : ℕ) (at : PlacedAt read image plan f.parts i) where
   old_type : at.here.old.sh_type ≡ at.here.section.sh_type
   old_type = sym (ap (λ (x : ImageSection). x.sh_type) at.here.of_old.fields)
 

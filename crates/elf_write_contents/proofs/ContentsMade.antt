@@ -17,7 +17,7 @@ use Rattle.elf_format.specs.Rules.{is_opaque_relocation}
 use Rattle.elf_image.specs.Kept.{KeptSection, image_at_read, interpreter_number, is_numbered}
 use Rattle.elf_layout_plan.specs.Memory.{Resized, SizedSection, sized_sections}
 use Rattle.elf_layout_plan.specs.Needs.{written_needs}
-use Rattle.elf_layout_plan.specs.Plan.{Layout, layout_for, resized}
+use Rattle.elf_layout_plan.specs.Plan.{Plan, plan_for, resized}
 use Rattle.elf_layout_plan.specs.Sizes.{definitions_size, dynamic_size, hash_size, interpreter_size, needs_size, new_size, new_sizes, strings_size, table_size}
 use Rattle.elf_layout_plan.specs.Standing.{place_in, places}
 use Rattle.elf_layout_plan.proofs.ForCallers.ApartLists.{at-map}
@@ -42,16 +42,16 @@ abbrev pub resized_with : Image → Image → Resized
 resized_with read image = record { read = read; image = image; sizes = new_sizes read image }
 
 -- a section that is there, with its place
-pub record PlacedAt (read image : Image) (plan : Layout) (p : Parts) (i : ℕ) : Type 0 where
+pub record PlacedAt (read image : Image) (plan : Plan) (p : Parts) (i : ℕ) : Type 0 where
   pub here : SectionRead read image p i
   pub place : Place
   pub is_place : slice_get plan.places i ≡ Some place
   pub place_type : place.sh_type ≡ here.section.sh_type
   pub place_size : place.sh_size ≡ new_size read image (kept_as i here.number here.section)
 
-pub placed_at : (read image : Image) (plan : Layout) → IsPlanned read image plan → (f : ReadFacts read image) → (i : ℕ)
+pub placed_at : (read image : Image) (plan : Plan) → IsPlanned read image plan → (f : ReadFacts read image) → (i : ℕ)
     → i < length image.sections → PlacedAt read image plan f.parts i
-unfolding layout_for places
+unfolding plan_for places
 placed_at read image plan is f i within =
     let at : SectionRead read image f.parts i = section_read read image f i within in
     let k : KeptSection = kept_as i at.number at.section in
@@ -59,7 +59,7 @@ placed_at read image plan is f i within =
     let moved : List ℕ = is.planned.moved in
     let s : SizedSection = sized_of r k in
     let s_at : slice_get (sized_sections r) i ≡ Some s = at-sized r (edited_facts image is.ready.edited).sized i k at.is_kept in
-    let all : plan.places ≡ map (place_in r moved) (sized_sections r) = ap (λ (l : Layout). l.places) is.planned.follows in
+    let all : plan.places ≡ map (place_in r moved) (sized_sections r) = ap (λ (l : Plan). l.places) is.planned.follows in
     let here : slice_get plan.places i ≡ Some (place_in r moved s) =
     ap (λ (l : List Place). slice_get l i) all ∙ at-map (place_in r moved) (sized_sections r) i s s_at in
     let keeps = keeps_kind r moved s (slice_get-at (sized_sections r) i s s_at) in
@@ -72,7 +72,7 @@ placed_at read image plan is f i within =
     }
 
 -- the bytes of a section, once they are those of its place
-pub bytes_at : (read image : Image) (plan : Layout) (made : List Made) (raw : List EntryNumbers) (p : Parts) (i : ℕ) (bytes : List ℕ)
+pub bytes_at : (read image : Image) (plan : Plan) (made : List Made) (raw : List EntryNumbers) (p : Parts) (i : ℕ) (bytes : List ℕ)
     → read ≡ image_at_read image → (at : PlacedAt read image plan p i)
     → IsMadeContent (resized_with read image) plan made raw (kept_as i at.here.number at.here.section) at.place bytes → IsBytesAt image plan made raw i bytes
 bytes_at read image plan made raw p i bytes same at is = record {
@@ -103,7 +103,7 @@ is_plain kinds.GnuVerdef = false
 is_plain kinds.GnuVerneed = false
 
 -- bytes of such a kind
-pub content_plain : (r : Resized) (plan : Layout) (raw : List EntryNumbers) (strings : List ℕ) (s : KeptSection) (bytes : List ℕ) (kind : SectionData)
+pub content_plain : (r : Resized) (plan : Plan) (raw : List EntryNumbers) (strings : List ℕ) (s : KeptSection) (bytes : List ℕ) (kind : SectionData)
     → is_plain kind ≡ true → IsRelocatedOf r s.section bytes kind → IsContentOfKind r plan raw strings s bytes kind
 content_plain r plan raw strings s bytes kinds.Opaque h is = is
 content_plain r plan raw strings s bytes kinds.Uninitialized h is = is
@@ -188,7 +188,7 @@ relocations_stored n opaque is = by_tests (eqb n 0) refl (eqb n 8) refl
     by_tests false a true b = absurd (none (kind_by 8 opaque) refl (ap (λ (m : ℕ). kind_by m opaque) (sym (eqb-true n 8 b)) ∙ is))
     by_tests false a false b = refl
 
-module _ (read image : Image) (plan : Layout) (made : List Made) (raw : List EntryNumbers) (p : Parts) (i : ℕ) (at : PlacedAt read image plan p i) where
+module _ (read image : Image) (plan : Plan) (made : List Made) (raw : List EntryNumbers) (p : Parts) (i : ℕ) (at : PlacedAt read image plan p i) where
   abbrev pub here : KeptSection
   here = kept_as i at.here.number at.here.section
 

@@ -16,7 +16,7 @@ use Rattle.elf_write_symbol_tables.specs.Staying.{Staying, staying_entries}
 use Rattle.elf_write_symbol_tables.specs.Written.{AreWritten}
 use Rattle.elf_layout_plan.specs.Memory.{Resized}
 use Rattle.elf_layout_plan.specs.Needs.{written_entries}
-use Rattle.elf_layout_plan.specs.Plan.{Layout, resized}
+use Rattle.elf_layout_plan.specs.Plan.{Plan, resized}
 use Rattle.elf_layout_plan.specs.Texts.{texts_of_entries}
 use Rattle.elf_write_spec.specs.Contents.{AreEntriesOf, table_value}
 use Rattle.elf_write_spec.specs.Final.{final}
@@ -31,7 +31,7 @@ use Rattle.elf_write_symbol_tables.proofs.ForCallers.LinksAt as links
 use Rattle.elf_write_spec.proofs.ForCallers.WholeEdits.{entries_written}
 
 -- one entry for each, where each text stands at its place
-pub are_entries : (r : Resized) (plan : Layout) (strings : List ℕ) (es : List Entry) (places : List ℕ)
+pub are_entries : (r : Resized) (plan : Plan) (strings : List ℕ) (es : List Entry) (places : List ℕ)
     → TextsStand strings (texts_of_entries es) places
     → AreEntriesOf r plan strings es (numbers_with (λ tag. table_value r plan tag) places es)
 are_entries r plan strings [] places stand = tt
@@ -43,7 +43,7 @@ are_entries r plan strings (Text tag text ∷ es) (p ∷ ps) stand =
     (record { tag = refl; value = stand.0 }, are_entries r plan strings es ps stand.1)
 
 -- without a dynamic section there are none
-pub none_raw : (image : Image) (plan : Layout) (made : List Made) → IsEdited image → type_position image SHT_DYNAMIC ≡ None
+pub none_raw : (image : Image) (plan : Plan) (made : List Made) → IsEdited image → type_position image SHT_DYNAMIC ≡ None
     → (raw : List EntryNumbers) → raw ≡ [] → AreRaw (resized image) plan made raw
 none_raw image plan made is nowhere raw none = record {
   no_list = λ _. none;
@@ -66,7 +66,7 @@ linked_now image is list at = elim (links.link_at image SHT_DYNAMIC is) [
 ]
 
 -- the entries of an image with a dynamic section
-pub are_raw : (read image : Image) (plan : Layout) (made : List Made) → IsEditedReady read image → (list : ℕ)
+pub are_raw : (read image : Image) (plan : Plan) (made : List Made) → IsEditedReady read image → (list : ℕ)
     → type_position image SHT_DYNAMIC ≡ Some list → (raw : List EntryNumbers)
     → AreEntriesOf (resized image) plan (strings_at image made (link_at image list)) (list_at (λ es. es) (written_entries read image)) raw
     → AreRaw (resized image) plan made raw
@@ -87,7 +87,7 @@ are_raw read image plan made is list at raw are =
     }
 
 -- those that were made by the places of their texts
-pub made_raw : (read image : Image) (plan : Layout) (made : List Made) (s : Staying) → IsEditedReady read image → AreWritten read image s
+pub made_raw : (read image : Image) (plan : Plan) (made : List Made) (s : Staying) → IsEditedReady read image → AreWritten read image s
     → (list : ℕ) → type_position image SHT_DYNAMIC ≡ Some list → (es : List Entry) → Some es ≡ image.entries
     → (texts : List (List ℕ)) (places : List ℕ) → texts ≡ list_at texts_of_entries (written_entries read image)
     → TextsStand (strings_at image made (link_at image list)) texts places → (raw : List EntryNumbers)
@@ -104,7 +104,7 @@ made_raw read image plan made s is stays list at es there texts places own stand
     (are_entries (resized image) plan strings left places (subst (λ (ts : List (List ℕ)). TextsStand strings ts places) texts_left stand))))
 
 -- an image with a dynamic section and no list has none
-pub none_listed : (read image : Image) (plan : Layout) (made : List Made) (s : Staying) → IsEditedReady read image → AreWritten read image s
+pub none_listed : (read image : Image) (plan : Plan) (made : List Made) (s : Staying) → IsEditedReady read image → AreWritten read image s
     → (list : ℕ) → type_position image SHT_DYNAMIC ≡ Some list → None ≡ image.entries → (raw : List EntryNumbers) → raw ≡ []
     → AreRaw (resized image) plan made raw
 none_listed read image plan made s is stays list at none raw raw_none =

@@ -11,7 +11,7 @@ use Rattle.elf_format.specs.Places.{Place}
 use Rattle.elf_image.specs.Edited.{IsEdited}
 use Rattle.elf_image.specs.Lookups.{dynamic_strings_position, link_position, section_position, type_position}
 use Rattle.elf_image.specs.Kept.{KeptSection, dynamic_strings_number, kept_at_number, kept_from, kept_of_type, link_of_type}
-use Rattle.elf_layout_plan.specs.Plan.{Layout}
+use Rattle.elf_layout_plan.specs.Plan.{Plan}
 use Rattle.elf_write_spec.specs.Contents.{place_of_kept, strings_place}
 use Rattle.elf_write_contents.specs.EntrySteps.{place_at}
 use Rattle.elf_write_symbol_tables.proofs.ForCallers.LinksAt.{Link, LinkAt, NoLink, link_at}
@@ -49,14 +49,14 @@ module _ (places : List Place) where
       (by_numbers test (p + 1) ns ss (omega (arith, long)))
 
 -- where the first section of a type comes to stand
-pub type_place : (image : Image) (plan : Layout) (type : ℕ) → IsEdited image
+pub type_place : (image : Image) (plan : Plan) (type : ℕ) → IsEdited image
     → place_of_kept plan (kept_of_type type image) ≡ place_at plan (type_position image type)
 type_place image plan type is =
     by_sections plan.places (λ s. s.sh_type == type) 0 image.section_numbers image.sections is.is_edit.sections.numbered
     ∙ ap (place_at plan) (sym (position_from-zero (λ (s : ImageSection). s.sh_type == type) image.sections))
 
 -- where the section comes to stand that had a number
-number_place : (image : Image) (plan : Layout) (number : ℕ) → IsEdited image
+number_place : (image : Image) (plan : Plan) (number : ℕ) → IsEdited image
     → place_of_kept plan (kept_at_number number image) ≡ place_at plan (section_position image number)
 number_place image plan number is =
     by_numbers plan.places (λ n. n == number) 0 image.section_numbers image.sections is.is_edit.sections.numbered
@@ -64,7 +64,7 @@ number_place image plan number is =
 
 -- ## The dynamic strings
 
-module _ (image : Image) (plan : Layout) (is : IsEdited image) where
+module _ (image : Image) (plan : Plan) (is : IsEdited image) where
   abbrev place_numbered : Option ℕ → Option Place
   place_numbered o = place_of_kept plan (o >>= λ number. kept_at_number number image)
 

@@ -19,7 +19,7 @@ use Rattle.elf_tables.specs.Fields.{do_fields_fit, does_field_fit}
 use Rattle.elf_tables.specs.Spelled.{entry_fields, file_header_fields, section_fields, segment_fields}
 use Rattle.elf_image.specs.Kept.{KeptSection, image_at_read, kept_of_type, kept_sections, link_of_type}
 use Rattle.elf_layout_plan.specs.Memory.{Resized}
-use Rattle.elf_layout_plan.specs.Plan.{Layout, resized}
+use Rattle.elf_layout_plan.specs.Plan.{Plan, resized}
 use Rattle.elf_write_spec.specs.Contents.{AreEntriesOf, IsEntryOf}
 use Rattle.elf_write_spec.specs.Final.{final}
 use Rattle.elf_write_spec.specs.Headers.{Reads, written_header, written_section}
@@ -61,7 +61,7 @@ some_words : (wide : Wide) → 0 < words_end wide
 some_words W32 = omega arith
 some_words W64 = omega arith
 
-module _ (r : Resized) (plan : Layout) (strings : List ℕ) (short : length strings ≤ words_end r.image.form.wide) where
+module _ (r : Resized) (plan : Plan) (strings : List ℕ) (short : length strings ≤ words_end r.image.form.wide) where
   fits : ℕ → Bool
   fits n = does_field_fit (word_size r.image.form.wide, n)
 
@@ -103,7 +103,7 @@ no_entries read image is none =
     ∙ ap (list_at (λ es. es)) (entries_written read image)
     ∙ ap (list_at (λ es. es)) (written_none read image (none_edited read.entries image.entries f.edit.entries none_read))
 
-module _ (read image : Image) (plan : Layout) (made : List Made) (raw : List EntryNumbers) where
+module _ (read image : Image) (plan : Plan) (made : List Made) (raw : List EntryNumbers) where
   list_fits : IsEditedReady read image → AreStrings read image made → AreRaw (resized image) plan made raw → (o : Option KeptSection)
       → kept_of_type SHT_DYNAMIC image ≡ o
       → list_all (λ x. do_fields_fit (entry_fields image.form x)) raw

@@ -17,7 +17,7 @@ use Rattle.elf_tables.specs.Spelled.{class_word, file_header_fields, section_fie
 use Rattle.elf_write_symbol_tables.specs.Found.{is_local}
 use Rattle.elf_image.specs.Kept.{KeptSection, kept_sections}
 use Rattle.elf_layout_plan.specs.Memory.{Resized}
-use Rattle.elf_layout_plan.specs.Plan.{Layout, resized}
+use Rattle.elf_layout_plan.specs.Plan.{Plan, resized}
 use Rattle.elf_write_spec.specs.Final.{final}
 use Rattle.elf_write_spec.specs.Headers.{IsHeaderOf, behind_locals, written_header, written_info, written_section}
 use Rattle.elf_write_contents.specs.HeaderSteps.{AreMade, IsHeaderAt}
@@ -119,7 +119,7 @@ far_section r (k ∷ ss) (q ∷ ps) (suc i) s p s_at p_at far =
     and_right (do_fields_fit (section_fields r.image.form (written_section r k.section q 0))) (do_sections_fit r ss ps)
     (far_section r ss ps i s p s_at p_at far)
 
-far_headers : (image : Image) (plan : Layout) → do_sections_fit (resized image) (kept_sections image) plan.places ≡ false
+far_headers : (image : Image) (plan : Plan) → do_sections_fit (resized image) (kept_sections image) plan.places ≡ false
     → do_header_numbers_fit image plan ≡ false
 unfolding do_header_numbers_fit
 far_headers image plan far =
@@ -131,6 +131,6 @@ far_headers image plan far =
     and_left (headers && do_sections_fit r (kept_sections image) plan.places) entries
     (and_right headers (do_sections_fit r (kept_sections image) plan.places) far)
 
-pub far_numbers : (image : Image) (plan : Layout) → do_sections_fit (resized image) (kept_sections image) plan.places ≡ false
+pub far_numbers : (image : Image) (plan : Plan) → do_sections_fit (resized image) (kept_sections image) plan.places ≡ false
     → do_numbers_fit image plan ≡ false
 far_numbers image plan far = headers_unfit image plan (far_headers image plan far)

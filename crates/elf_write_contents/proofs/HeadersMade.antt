@@ -25,7 +25,7 @@ use Rattle.elf_image.specs.Kept.{image_at_read, kept_sections}
 use Rattle.elf_write_symbol_tables.specs.Staying.{Staying, unmarked_needs}
 use Rattle.elf_write_symbol_tables.specs.Written.{AreWritten}
 use Rattle.elf_layout_plan.specs.Memory.{Resized, sized_sections}
-use Rattle.elf_layout_plan.specs.Plan.{Layout, layout_for, resized}
+use Rattle.elf_layout_plan.specs.Plan.{Plan, plan_for, resized}
 use Rattle.elf_layout_plan.specs.Standing.{place_in, places}
 use Rattle.elf_layout_plan.proofs.ForCallers.ApartLists.{at-map}
 use Rattle.elf_layout_plan.proofs.ForCallers.ApartRead.{edited_facts}
@@ -73,7 +73,7 @@ header_with h phoff shoff phentsize phnum shentsize shnum names = record {
   e_shstrndx = names;
 }
 
-pub file_header_is : (image : Image) (plan : Layout)
+pub file_header_is : (image : Image) (plan : Plan)
     → (h : Header) (form : Form) (phoff shoff phentsize phnum shentsize shnum names : ℕ) → h ≡ image.header → form.wide ≡ image.form.wide
     → form.order ≡ image.form.order → phoff ≡ plan.e_phoff → shoff ≡ plan.e_shoff → phentsize ≡ segment_header_size form
     → phnum ≡ length plan.segments → shentsize ≡ section_header_size form → shnum ≡ length plan.places
@@ -99,13 +99,13 @@ file_header_is image plan h form phoff shoff phentsize phnum shentsize shnum nam
 -- ## The lengths of lists
 
 -- each section has a place
-pub length-places : (image : Image) (plan : Layout) → IsPlanned (image_at_read image) image plan
+pub length-places : (image : Image) (plan : Plan) → IsPlanned (image_at_read image) image plan
     → length plan.places ≡ length (kept_sections image)
-unfolding layout_for places
+unfolding plan_for places
 length-places image plan is =
     let r : Resized = resized image in
     let moved : List ℕ = is.planned.moved in
-    ap (λ (l : Layout). length l.places) is.planned.follows
+    ap (λ (l : Plan). length l.places) is.planned.follows
     ∙ length-map (sized_sections r) (place_in r moved)
     ∙ ap length (edited_facts image is.ready.edited).sized
     ∙ length-map (kept_sections image) (sized_of r)
@@ -213,7 +213,7 @@ seen_at image sections i x seen less is =
     ap (λ (l : List ImageSection). slice_get l i) (sym seen)
     ∙ at-map section_model sections i x (slice_get_read sections (length sections) i x (λ j. length sections) within is)
 
-module _ (image : Image) (plan : Layout) (made : List Made) (known : Known)
+module _ (image : Image) (plan : Plan) (made : List Made) (known : Known)
     (planned : IsPlanned (image_at_read image) image plan) (strings : AreStrings (image_at_read image) image made) (is : IsKnown image known)
     (i : ℕ) (less : i < length image.sections) where
   known_facts : ReadFacts (image_at_read image) image

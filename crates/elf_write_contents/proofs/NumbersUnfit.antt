@@ -5,13 +5,13 @@ use Rattle.std.specs.List.{list_all}
 use Rattle.std.proofs.lemmas.Bool.{and_left, and_right}
 use Rattle.elf_format.specs.Image.{Image}
 use Rattle.elf_image.specs.Kept.{image_at_read, kept_sections}
-use Rattle.elf_layout_plan.specs.Plan.{Layout}
+use Rattle.elf_layout_plan.specs.Plan.{Plan}
 use Rattle.elf_write_symbol_tables.specs.WrittenStrings.{do_names_reach}
 use Rattle.elf_write_symbol_tables.specs.Fits.{do_section_relocations_fit}
 use Rattle.elf_write_symbol_tables.specs.Renumbering.{do_symbols_fit}
 use Rattle.elf_write_contents.specs.Numbers.{do_header_numbers_fit, do_numbers_fit}
 
-module _ (image : Image) (plan : Layout) where
+module _ (image : Image) (plan : Plan) where
   headers : Bool
   headers = do_header_numbers_fit image plan
 

@@ -6,7 +6,7 @@ use Rattle.std.proofs.lemmas.Bool.{and_from, lt-ltb, or_right}
 use Rattle.elf_format.specs.Image.{Image}
 use Rattle.elf_image.specs.Kept.{kept_sections}
 use Rattle.elf_image.specs.Names.{are_names_changed}
-use Rattle.elf_layout_plan.specs.Plan.{Layout}
+use Rattle.elf_layout_plan.specs.Plan.{Plan}
 use Rattle.elf_write_symbol_tables.specs.WrittenStrings.{do_names_reach}
 use Rattle.elf_write_symbol_tables.specs.NewNumbers.{NewNumbers}
 use Rattle.elf_write_symbol_tables.specs.RenumberingRecord.{Renumbering}
@@ -39,7 +39,7 @@ symbols_fit read image r is =
     (not (are_static_numbers_new read image) || nat_lt (length image.symbols) (2 ^ 32))
     (order_fits read image r.dynamic is.dynamic) (static_fit read image r.static_numbers is.static_numbers)
 
-module _ (read image : Image) (plan : Layout) (is : IsPlanned read image plan) where
+module _ (read image : Image) (plan : Plan) (is : IsPlanned read image plan) where
   pub names_far : do_names_reach read image ≡ false → do_numbers_fit image plan ≡ false
   names_far far = names_unfit image plan (ap (λ (r : Image). do_names_reach r image) (sym is.ready.at_read) ∙ far)
 

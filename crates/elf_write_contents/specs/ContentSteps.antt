@@ -9,7 +9,7 @@ use Rattle.elf_format.specs.Image.{Image, ImageSection}
 use Rattle.elf_format.specs.Places.{Place}
 use Rattle.elf_image.specs.Kept.{KeptSection, kept_sections}
 use Rattle.elf_layout_plan.specs.Memory.{Resized}
-use Rattle.elf_layout_plan.specs.Plan.{Layout, resized}
+use Rattle.elf_layout_plan.specs.Plan.{Plan, resized}
 use Rattle.elf_layout_plan.specs.Sizes.{hash_size}
 use Rattle.elf_write_spec.specs.Contents.{AreRelocationsOf, AreVersionsIn, IsGabiContent, IsGnuContent}
 use Rattle.elf_write_symbol_tables.specs.Made.{Made}
@@ -21,12 +21,12 @@ abbrev pub made_or : List Made → ℕ → List ℕ → List ℕ
 made_or made number content = elim (made_of made number) [ Some m ↦ m.table.bytes | None ↦ content ]
 
 -- the bytes are those of the section at a position, as many as its place
-pub record IsBytesAt (image : Image) (plan : Layout) (made : List Made) (raw : List EntryNumbers) (i : ℕ) (bytes : List ℕ) : Type 0 where
+pub record IsBytesAt (image : Image) (plan : Plan) (made : List Made) (raw : List EntryNumbers) (i : ℕ) (bytes : List ℕ) : Type 0 where
   pub are : (k : KeptSection) (place : Place) → slice_get (kept_sections image) i ≡ Some k → slice_get plan.places i ≡ Some place
       → IsMadeContent (resized image) plan made raw k place bytes
 
 -- these are those of the first sections, each
-pub record AreBytesOf (image : Image) (plan : Layout) (made : List Made) (raw : List EntryNumbers) (contents : List (List ℕ)) : Type 0 where
+pub record AreBytesOf (image : Image) (plan : Plan) (made : List Made) (raw : List EntryNumbers) (contents : List (List ℕ)) : Type 0 where
   pub each : (i : ℕ) (bytes : List ℕ) → slice_get contents i ≡ Some bytes → IsBytesAt image plan made raw i bytes
 
 -- ## Sections that number the dynamic symbols

@@ -6,13 +6,13 @@ use Rattle.elf_format.specs.declared.records.EntryNumbers.{EntryNumbers}
 use Rattle.elf_format.specs.Dynamic.{Auto, Entry, Integer, Text}
 use Rattle.elf_format.specs.Image.{entry_tag}
 use Rattle.elf_format.specs.Places.{Place}
-use Rattle.elf_layout_plan.specs.Plan.{Layout}
+use Rattle.elf_layout_plan.specs.Plan.{Plan}
 use Rattle.elf_write_contents.specs.Numbers.{entry_with}
 
 -- ## Places of sections
 
 -- the place of the section at a position
-abbrev pub place_at : Layout → Option ℕ → Option Place
+abbrev pub place_at : Plan → Option ℕ → Option Place
 place_at plan position = position >>= λ i. slice_get plan.places i
 
 -- ## Entries

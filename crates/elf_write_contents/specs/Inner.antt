@@ -8,7 +8,7 @@ use Rattle.elf_format.specs.Options.{list_at}
 use Rattle.elf_format.specs.Places.{Place, occupies_file}
 use Rattle.elf_image.specs.Kept.{KeptSection, kept_of_type}
 use Rattle.elf_layout_plan.specs.Memory.{Resized}
-use Rattle.elf_layout_plan.specs.Plan.{IsPlan, Layout, resized}
+use Rattle.elf_layout_plan.specs.Plan.{IsPlan, Plan, resized}
 use Rattle.elf_write_spec.specs.Contents.{AreEntriesOf, IsContent}
 use Rattle.elf_write_spec.specs.Final.{final}
 use Rattle.elf_write_spec.specs.Headers.{IsHeaderOf}
@@ -21,7 +21,7 @@ use Rattle.elf_write_symbol_tables.specs.WrittenStrings.{strings_at}
 -- ## What is written
 
 -- an edited image with a plan of it
-pub record IsPlanned (read image : Image) (plan : Layout) : Type 0 where
+pub record IsPlanned (read image : Image) (plan : Plan) : Type 0 where
   pub ready : IsEditedReady read image
   pub planned : IsPlan (resized image) plan
 
@@ -34,7 +34,7 @@ AreHeaders r names (s ∷ ss) (p ∷ ps) (h ∷ hs) = IsHeaderOf r names s.secti
 AreHeaders r names _ _ _ = ⊥
 
 -- the numbers of the dynamic list's entries, none without a dynamic section
-pub record AreRaw (r : Resized) (plan : Layout) (made : List Made) (raw : List EntryNumbers) : Type 0 where
+pub record AreRaw (r : Resized) (plan : Plan) (made : List Made) (raw : List EntryNumbers) : Type 0 where
   pub no_list : kept_of_type SHT_DYNAMIC r.image ≡ None → raw ≡ []
   pub listed : (s : KeptSection) → kept_of_type SHT_DYNAMIC r.image ≡ Some s
       → AreEntriesOf r plan (strings_at r.image made s.section.sh_link) (list_at (λ es. es) (final r.read r.image).entries) raw
@@ -42,24 +42,24 @@ pub record AreRaw (r : Resized) (plan : Layout) (made : List Made) (raw : List E
 -- ## Contents
 
 -- the bytes of a section, as many as its place
-pub record IsMadeContent (r : Resized) (plan : Layout) (made : List Made) (raw : List EntryNumbers) (s : KeptSection) (place : Place) (bytes : List ℕ) : Type 0 where
+pub record IsMadeContent (r : Resized) (plan : Plan) (made : List Made) (raw : List EntryNumbers) (s : KeptSection) (place : Place) (bytes : List ℕ) : Type 0 where
   pub sized : length bytes ≡ (if occupies_file place then place.sh_size else 0)
   pub content : IsContent r plan raw (strings_at r.image made s.section.sh_link) s bytes
   pub strings : s.section.sh_type ≡ SHT_STRTAB → bytes ≡ strings_at r.image made s.number
 
 -- section by section
-abbrev pub AreContents : Resized → Layout → List Made → List EntryNumbers → List KeptSection → List Place → List (List ℕ) → Type 0
+abbrev pub AreContents : Resized → Plan → List Made → List EntryNumbers → List KeptSection → List Place → List (List ℕ) → Type 0
 AreContents r plan made raw [] [] [] = Unit {0}
 AreContents r plan made raw (s ∷ ss) (p ∷ ps) (bytes ∷ more) = IsMadeContent r plan made raw s p bytes × AreContents r plan made raw ss ps more
 AreContents r plan made raw _ _ _ = ⊥
 
 -- ## All of it
 
-abbrev pub output_of : Image → Layout → List SectionHeader → List (List ℕ) → List EntryNumbers → Output
+abbrev pub output_of : Image → Plan → List SectionHeader → List (List ℕ) → List EntryNumbers → Output
 output_of image plan headers contents raw = record { image = image; plan = plan; headers = headers; contents = contents; raw = raw }
 
 -- these bytes are those of an image that is written whole
-pub record IsPlannedFile (image : Image) (plan : Layout) (bytes : List ℕ) : Type 0 where
+pub record IsPlannedFile (image : Image) (plan : Plan) (bytes : List ℕ) : Type 0 where
   pub output : Output
   pub of_image : output.image ≡ image
   pub by_plan : output.plan ≡ plan
@@ -67,6 +67,6 @@ pub record IsPlannedFile (image : Image) (plan : Layout) (bytes : List ℕ) : Ty
   pub are_bytes : bytes ≡ written_bytes output
 
 -- what these bytes promise
-pub record ArePromised (image : Image) (plan : Layout) (bytes : List ℕ) : Type 0 where
+pub record ArePromised (image : Image) (plan : Plan) (bytes : List ℕ) : Type 0 where
   pub written : IsWrittenOf image bytes
   pub by_plan : IsWrittenByPlan image plan bytes

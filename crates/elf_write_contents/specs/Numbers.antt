@@ -14,7 +14,7 @@ use Rattle.elf_tables.specs.Fields.{do_fields_fit}
 use Rattle.elf_tables.specs.Spelled.{entry_fields, file_header_fields, section_fields, segment_fields}
 use Rattle.elf_image.specs.Kept.{KeptSection, image_at_read, kept_sections}
 use Rattle.elf_layout_plan.specs.Memory.{Resized}
-use Rattle.elf_layout_plan.specs.Plan.{Layout, resized}
+use Rattle.elf_layout_plan.specs.Plan.{Plan, resized}
 use Rattle.elf_write_spec.specs.Contents.{table_value}
 use Rattle.elf_write_spec.specs.Final.{final}
 use Rattle.elf_write_spec.specs.Headers.{written_header, written_section}
@@ -32,13 +32,13 @@ abbrev pub entry_with : ℕ → ℕ → EntryNumbers
 entry_with tag value = record { d_tag = tag; d_value = value }
 
 -- an entry of the dynamic list, wherever its text stands, which fits
-abbrev pub does_entry_fit : Resized → Layout → Entry → Bool
+abbrev pub does_entry_fit : Resized → Plan → Entry → Bool
 does_entry_fit r plan (Auto tag) = do_fields_fit (entry_fields r.image.form (entry_with tag (table_value r plan tag)))
 does_entry_fit r plan (Integer tag number) = do_fields_fit (entry_fields r.image.form (entry_with tag number))
 does_entry_fit r plan (Text tag text) = do_fields_fit (entry_fields r.image.form (entry_with tag 0))
 
 -- each number of the file header, the program headers, the section headers and the dynamic list fits its field
-unfoldable pub do_header_numbers_fit : Image → Layout → Bool
+unfoldable pub do_header_numbers_fit : Image → Plan → Bool
 do_header_numbers_fit image plan =
     let r = resized image in
     do_fields_fit (file_header_fields image.form (written_header image plan))
@@ -48,7 +48,7 @@ do_header_numbers_fit image plan =
 
 -- Each of them does; so do the offsets of texts, where texts move in dynamic strings that are copied, and the new numbers of dynamic
 -- symbols in hash tables and in relocations.
-unfoldable pub do_numbers_fit : Image → Layout → Bool
+unfoldable pub do_numbers_fit : Image → Plan → Bool
 do_numbers_fit image plan =
     let read = image_at_read image in
     do_header_numbers_fit image plan

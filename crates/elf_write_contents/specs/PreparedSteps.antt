@@ -3,7 +3,7 @@ use Rattle.std.specs.Prelude.{◌≡◌, true}
 use Rattle.std.specs.List.{list_all}
 use Rattle.elf_format.specs.Image.{Image}
 use Rattle.elf_image.specs.Kept.{kept_sections}
-use Rattle.elf_layout_plan.specs.Plan.{Layout, resized}
+use Rattle.elf_layout_plan.specs.Plan.{Plan, resized}
 use Rattle.elf_write_spec.specs.Headers.{written_header}
 use Rattle.elf_write_symbol_tables.specs.WrittenStrings.{AreStrings, strings_at}
 use Rattle.elf_write_contents.specs.Inner.{AreHeaders, AreRaw}
@@ -13,7 +13,7 @@ use Rattle.elf_write_contents.specs.Numbers.{do_records_fit}
 use Rattle.elf_write_contents.specs.declared.prepared.Prepared.{Prepared}
 
 -- the string table, the headers and the dynamic entries of an image that is written by a plan, each number of which fits its field
-pub record IsPrepared (read image : Image) (plan : Layout) (p : Prepared) : Type 0 where
+pub record IsPrepared (read image : Image) (plan : Plan) (p : Prepared) : Type 0 where
   pub strings : AreStrings read image p.made.items
   pub renumbering : IsRenumbering read image p.renumbering
   pub header : p.header ≡ written_header image plan

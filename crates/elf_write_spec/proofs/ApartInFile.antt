@@ -18,7 +18,7 @@ use Rattle.elf_layout_plan.specs.Blocks.{have_causes, stay_apart}
 use Rattle.elf_layout_plan.specs.FilePlaced.{written_headers, written_table}
 use Rattle.elf_image.specs.Kept.{kept_sections}
 use Rattle.elf_layout_plan.specs.Memory.{Resized, SizedSection, blocks_with, sized_sections, table_load, table_size_with}
-use Rattle.elf_layout_plan.specs.Plan.{IsPlan, Layout, layout_for, resized}
+use Rattle.elf_layout_plan.specs.Plan.{IsPlan, Plan, plan_for, resized}
 use Rattle.elf_layout_plan.specs.Rounds.{are_in_old_order, do_move, headers_needed, sections_at}
 use Rattle.elf_layout_plan.specs.Standing.{UnloadedSlot, content_end, unloaded_slots, unloaded_start, next_table, place_in, places, sections_offset, segments_end, table_offset}
 use Rattle.elf_layout_plan.specs.Written.{written_segments}
@@ -40,7 +40,7 @@ use Rattle.elf_write_spec.proofs.UnloadedFacts.{UnloadedAt, UnloadedBefore, unlo
 use Rattle.elf_format.proofs.ForCallers.{apart-before, apart-behind, apart-empty, apart-from_empty}
 
 -- the section header table stands behind each loaded segment, and so does a section of the file that has bytes and isn't loaded
-pub record StandsBehind (plan : Layout) : Type 0 where
+pub record StandsBehind (plan : Plan) : Type 0 where
   pub table : (i : ℕ) (p : SegmentHeader) → slice_get (loads_of plan.segments) i ≡ Some p → end_of (file_part p) ≤ plan.e_shoff
   pub sections : (i j : ℕ) (p : SegmentHeader) (s : Place) → slice_get (loads_of plan.segments) i ≡ Some p → slice_get plan.places j ≡ Some s
       → occupies_memory s ≡ false → IsTrue (occupies_file s) → eqb s.sh_size 0 ≡ false → end_of (file_part p) ≤ s.sh_offset
@@ -281,9 +281,9 @@ module _ (r : Resized) (moved : List ℕ) (looked : ℕ) (reads : ReadsPlaced r)
       (λ x y x_there y_there h. h x_there y_there) there each (pairs-filter ApartWhereThere occupies_file (places r moved) there_pairs))
 
   all_are_apart : (rounds : ℕ) → apart start table ≡ true
-      → all_apart (written_headers r (layout_for r rounds looked moved) ++ section_table r (layout_for r rounds looked moved)
-      ++ map file_range (filter occupies_file (layout_for r rounds looked moved).places)) ≡ true
-  unfolding layout_for section_ranges
+      → all_apart (written_headers r (plan_for r rounds looked moved) ++ section_table r (plan_for r rounds looked moved)
+      ++ map file_range (filter occupies_file (plan_for r rounds looked moved).places)) ≡ true
+  unfolding plan_for section_ranges
   all_are_apart rounds headers =
       let size : ℕ = length (places r moved) * section_header_size r.image.form in
       let last : Range = range (sections_offset r moved) size in
@@ -317,8 +317,8 @@ module _ (r : Resized) (moved : List ℕ) (looked : ℕ) (reads : ReadsPlaced r)
   load_end : (i : ℕ) (p : SegmentHeader) → slice_get (loads_of (written_segments r moved)) i ≡ Some p → end_of (file_part p) ≤ segments_end r moved
   load_end i p at = load_before_segments_end r moved reads p (slice_get-at (loads_of (written_segments r moved)) i p at)
 
-  all_stands_behind : (rounds : ℕ) → StandsBehind (layout_for r rounds looked moved)
-  unfolding layout_for
+  all_stands_behind : (rounds : ℕ) → StandsBehind (plan_for r rounds looked moved)
+  unfolding plan_for
   all_stands_behind rounds = record {
     table = λ i p at.
         omega (arith, load_end i p at, segments_before_unloaded r moved reads, unloaded_before_end r moved reads, end_before_sections r moved reads);
@@ -335,7 +335,7 @@ stays_apart r looked moved h =
     (and_parts (have_causes (blocks_with r looked) moved && stay_apart moved (blocks_with r looked))
     (are_in_old_order (sections_at r moved)) h).0).1
 
-pub stands_behind : (image : Image) (plan : Layout) → IsEdited image → IsPlan (resized image) plan → StandsBehind plan
+pub stands_behind : (image : Image) (plan : Plan) → IsEdited image → IsPlan (resized image) plan → StandsBehind plan
 stands_behind image plan edited planned =
     let r : Resized = resized image in
     let enough : headers_needed r planned.moved ≤ plan.looked = leb-true (headers_needed r planned.moved) plan.looked planned.ended.enough in
@@ -343,17 +343,17 @@ stands_behind image plan edited planned =
     (stays_apart r plan.looked planned.moved planned.ended.move) enough (resized_sections image) planned.ended.move plan.rounds)
 
 -- the ranges of a plan
-abbrev ranges_of : Image → Layout → List Range
+abbrev ranges_of : Image → Plan → List Range
 ranges_of image plan = written_headers (resized image) plan ++ section_table (resized image) plan
     ++ map file_range (filter occupies_file plan.places)
 
 pub plans_are_apart_in_file : PlansAreApartInFile
-unfolding layout_for
+unfolding plan_for
 plans_are_apart_in_file image plan edited planned headers =
     let r : Resized = resized image in
     let enough : headers_needed r planned.moved ≤ plan.looked = leb-true (headers_needed r planned.moved) plan.looked planned.ended.enough in
-    let now : apart (range 0 (file_header_size image.form)) (written_table r (layout_for r plan.rounds plan.looked planned.moved)) ≡ true =
-    subst (λ (l : Layout). apart (range 0 (file_header_size image.form)) (written_table r l) ≡ true) planned.follows headers in
-    subst (λ (l : Layout). all_apart (ranges_of image l) ≡ true) (sym planned.follows)
+    let now : apart (range 0 (file_header_size image.form)) (written_table r (plan_for r plan.rounds plan.looked planned.moved)) ≡ true =
+    subst (λ (l : Plan). apart (range 0 (file_header_size image.form)) (written_table r l) ≡ true) planned.follows headers in
+    subst (λ (l : Plan). all_apart (ranges_of image l) ≡ true) (sym planned.follows)
     (all_are_apart r planned.moved plan.looked (reads_placed image edited)
     (stays_apart r plan.looked planned.moved planned.ended.move) enough (resized_sections image) planned.ended.move plan.rounds now)

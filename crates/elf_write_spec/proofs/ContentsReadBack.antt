@@ -22,7 +22,7 @@ use Rattle.elf_format.proofs.ForCallers.ViewsAgree.{links_right, there_and}
 use Rattle.elf_hashes.specs.Versions.{AreVersionsOf}
 use Rattle.elf_image.specs.Kept.{KeptSection, image_at_read}
 use Rattle.elf_layout_plan.specs.Memory.{Resized}
-use Rattle.elf_layout_plan.specs.Plan.{Layout, resized}
+use Rattle.elf_layout_plan.specs.Plan.{Plan, resized}
 use Rattle.elf_layout_plan.specs.Texts.{is_table_copied}
 use Rattle.elf_write_spec.specs.ReadBack.{HasWrittenParts}
 use Rattle.elf_write_spec.specs.Base.{is_interpreter}
@@ -46,7 +46,7 @@ kind_at p old x of_old type e kind by_type =
     ap (λ (y : ImageSection). y.kind) of_old.fields ∙ ap (λ (n : ℕ). kind_by n (is_opaque_relocation p old)) e ∙ by_type (is_opaque_relocation p old)
 
 -- a content that isn't the interpreter's
-by_kind : (r : Resized) (plan : Layout) (raw : List EntryNumbers) (strings : List ℕ) (s : KeptSection) (bytes : List ℕ) (b : Bool)
+by_kind : (r : Resized) (plan : Plan) (raw : List EntryNumbers) (strings : List ℕ) (s : KeptSection) (bytes : List ℕ) (b : Bool)
     → b ≡ false
     → (elim b as (λ _. Type 0) [
       | true ↦ bytes ≡ unwrap_or r.image.interpreter s.section.content

@@ -21,7 +21,7 @@ use Rattle.elf_layout_plan.specs.Blocks.{have_causes, stay_apart}
 use Rattle.elf_image.specs.Kept.{KeptSection, dynamic_strings_number, interpreter_number, is_numbered, kept_sections, place_at_read}
 use Rattle.elf_layout_plan.specs.Memory.{Resized, SizedSection, blocks_with, is_movable, priority_of, sized_sections}
 use Rattle.elf_layout_plan.specs.Needs.{written_needs}
-use Rattle.elf_layout_plan.specs.Plan.{IsPlan, Layout, layout_for, resized}
+use Rattle.elf_layout_plan.specs.Plan.{IsPlan, Plan, plan_for, resized}
 use Rattle.elf_layout_plan.specs.Rounds.{are_in_old_order, sections_at}
 use Rattle.elf_layout_plan.specs.Sizes.{definitions_size, dynamic_size, hash_size, interpreter_size, needs_size, new_size, strings_size, table_size}
 use Rattle.elf_layout_plan.specs.Standing.{place_in, places}
@@ -153,7 +153,7 @@ fixed r k other none =
     ∙ cond-false (is_movable r.image k) 2 0 stays
 
 -- a section that can't move, and has bytes in the file and in memory as it had at read, keeps its offset
-module _ (image : Image) (plan : Layout) (edited : IsEdited image) (planned : IsPlan (resized image) plan) where
+module _ (image : Image) (plan : Plan) (edited : IsEdited image) (planned : IsPlan (resized image) plan) where
   abbrev r : Resized
   r = resized image
 
@@ -210,13 +210,13 @@ module _ (image : Image) (plan : Layout) (edited : IsEdited image) (planned : Is
       → slice_get plan.places i ≡ Some place
       → is_interpreter r.read k ≡ false → IsNoTable k.section.sh_type → is_stored (place_at_read k.section) ≡ true → is_stored place ≡ true
       → k.position ≡ i → place.sh_offset ≡ k.section.sh_offset
-  unfolding layout_for places
+  unfolding plan_for places
   fixed_keeps_offset i k place at_k at_place other none stored stored_now position =
       let t : SizedSection = sized_of r k in
       let moved : List ℕ = planned.moved in
       let at_t : slice_get (sized_sections r) i ≡ Some t = at-sized r (resized_sections image) i k at_k in
       let here : Has t (sized_sections r) = slice_get-at (sized_sections r) i t at_t in
-      let placed : plan.places ≡ places r moved = ap (λ (l : Layout). l.places) planned.follows in
+      let placed : plan.places ≡ places r moved = ap (λ (l : Plan). l.places) planned.follows in
       let there : slice_get plan.places i ≡ Some (place_in r moved t) =
       ap (λ (l : List Place). slice_get l i) placed ∙ at-map (place_in r moved) (sized_sections r) i t at_t in
       let same : place ≡ place_in r moved t = same_Some place (place_in r moved t) (sym at_place ∙ there) in

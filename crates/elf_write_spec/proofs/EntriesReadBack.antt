@@ -18,7 +18,7 @@ use Rattle.elf_image.specs.DynamicList.{IsListed, is_table_tag, is_text_tag}
 use Rattle.elf_image.specs.Edited.{AreEntriesOf as AreEditedEntries}
 use Rattle.elf_image.specs.Kept.{image_at_read}
 use Rattle.elf_layout_plan.specs.Memory.{Resized}
-use Rattle.elf_layout_plan.specs.Plan.{Layout, resized}
+use Rattle.elf_layout_plan.specs.Plan.{Plan, resized}
 use Rattle.elf_write_spec.specs.ReadBack.{HasWrittenParts, written_parts}
 use Rattle.elf_write_spec.specs.Contents.{AreEntriesOf, IsEntryOf}
 use Rattle.elf_write_spec.specs.Final.{final}
@@ -38,7 +38,7 @@ use Rattle.elf_write_spec.proofs.WholeLists.{passes_one}
 no_text : (tag : ℕ) → is_table_tag tag ≡ true → is_text_tag tag ≡ false
 no_text tag h = not-true (is_text_tag tag) (passes_one (λ t. not (is_text_tag t)) table_tags tag refl h)
 
-module _ (r : Resized) (plan : Layout) (strings : List ℕ) (room : ℕ) (texts : Memory) (long : length strings ≤ room)
+module _ (r : Resized) (plan : Plan) (strings : List ℕ) (room : ℕ) (texts : Memory) (long : length strings ≤ room)
     (keeps : Keeps (memory_of strings) texts) where
   shown_is : (e : Entry) (x : EntryNumbers) → IsEntryOf r plan strings e x → IsListed e → shown_entry room texts x ≡ Some e
   unfolding shown_entry

@@ -33,7 +33,7 @@ use Rattle.elf_layout_plan.proofs.ForCallers.SegmentHeaderBack.{segment_headers_
 use Rattle.elf_layout_plan.proofs.ForCallers.TableBack.{tables_are_read_back}
 use Rattle.elf_image.specs.Kept.{KeptSection, image_at_read, kept_sections}
 use Rattle.elf_layout_plan.specs.Memory.{Resized}
-use Rattle.elf_layout_plan.specs.Plan.{Layout, resized}
+use Rattle.elf_layout_plan.specs.Plan.{Plan, resized}
 use Rattle.elf_layout_plan.proofs.ForCallers.ApartLists.{Each}
 use Rattle.elf_write_spec.specs.ReadBack.{written_parts}
 use Rattle.elf_write_spec.specs.Base.{is_data, is_interpreter, is_opaque}
@@ -84,7 +84,7 @@ table_there {A} size numbers spelled decoded back xs file offset count fit many 
 
 -- ## The bytes of data
 
-by_kind : (r : Resized) (plan : Layout) (raw : List EntryNumbers) (strings : List ℕ) (s : KeptSection) (bytes : List ℕ)
+by_kind : (r : Resized) (plan : Plan) (raw : List EntryNumbers) (strings : List ℕ) (s : KeptSection) (bytes : List ℕ)
     (k : SectionData) → is_opaque k ≡ true
     → IsContentOfKind r plan raw strings s bytes k → bytes ≡ s.section.content
 by_kind r plan raw strings s bytes kinds.Opaque h c = c
@@ -106,7 +106,7 @@ other_than X Y true e h = absurd (false≢true (sym e))
 other_than X Y false e h = h
 
 -- the bytes that are written of data are those that were read
-pub data_content : (r : Resized) (plan : Layout) (raw : List EntryNumbers) (strings : List ℕ) (s : KeptSection) (bytes : List ℕ)
+pub data_content : (r : Resized) (plan : Plan) (raw : List EntryNumbers) (strings : List ℕ) (s : KeptSection) (bytes : List ℕ)
     → is_data r.read s ≡ true
     → IsContent r plan raw strings s bytes → bytes ≡ s.section.content
 data_content r plan raw strings s bytes is_it content =

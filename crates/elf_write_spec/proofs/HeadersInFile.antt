@@ -10,7 +10,7 @@ use Rattle.elf_image.specs.Edited.{IsEdited}
 use Rattle.elf_layout_plan.specs.Added.{header_count, kept_end}
 use Rattle.elf_layout_plan.specs.Blocks.{have_causes, stay_apart}
 use Rattle.elf_layout_plan.specs.Memory.{Resized, blocks_with, table_load, table_size_with}
-use Rattle.elf_layout_plan.specs.Plan.{IsPlan, Layout, layout_for, resized}
+use Rattle.elf_layout_plan.specs.Plan.{IsPlan, Plan, plan_for, resized}
 use Rattle.elf_layout_plan.specs.Rounds.{are_in_old_order, do_move, headers_needed, sections_at}
 use Rattle.elf_layout_plan.specs.Standing.{unloaded_start, next_table, sections_offset, segments_end, table_offset}
 use Rattle.elf_layout_plan.specs.Written.{written_segments}
@@ -20,7 +20,7 @@ use Rattle.elf_layout_plan.proofs.ForCallers.PlacedSegments.{before_kept_end, en
 use Rattle.elf_layout_plan.proofs.ForCallers.PlacedStays.{table_kept_in}
 
 -- both end before the section header table
-pub record EndBefore (r : Resized) (plan : Layout) : Type 0 where
+pub record EndBefore (r : Resized) (plan : Plan) : Type 0 where
   pub header : file_header_size r.image.form ≤ plan.e_shoff
   pub table : plan.e_phoff + length plan.segments * segment_header_size r.image.form ≤ plan.e_shoff
 
@@ -83,14 +83,14 @@ module _ (r : Resized) (rounds looked : ℕ) (moved : List ℕ) (reads : ReadsPl
         end_before_sections r moved reads,
       )
 
-  layout_ends : EndBefore r (layout_for r rounds looked moved)
-  unfolding layout_for
+  layout_ends : EndBefore r (plan_for r rounds looked moved)
+  unfolding plan_for
   layout_ends = record { header = header_ends; table = table_ends_by (table_load r) refl }
 
-pub headers_end_before : (image : Image) (plan : Layout) → IsEdited image → IsPlan (resized image) plan → EndBefore (resized image) plan
+pub headers_end_before : (image : Image) (plan : Plan) → IsEdited image → IsPlan (resized image) plan → EndBefore (resized image) plan
 headers_end_before image plan edited is =
     let r : Resized = resized image in
     let enough : headers_needed r is.moved ≤ plan.looked = leb-true (headers_needed r is.moved) plan.looked is.ended.enough in
     let ends = layout_ends r plan.rounds plan.looked is.moved (reads_placed image edited)
     (what_stays r plan.looked is.moved is.ended.move) enough in
-    subst (λ (l : Layout). EndBefore r l) (sym is.follows) ends
+    subst (λ (l : Plan). EndBefore r l) (sym is.follows) ends

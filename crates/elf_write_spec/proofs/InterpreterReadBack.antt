@@ -22,7 +22,7 @@ use Rattle.elf_format.proofs.ForCallers.ViewsAgree.{there_if}
 use Rattle.elf_image.specs.Edited.{IsInterpreterOf}
 use Rattle.elf_image.specs.Kept.{KeptSection, image_at_read, is_numbered}
 use Rattle.elf_layout_plan.specs.Memory.{Resized}
-use Rattle.elf_layout_plan.specs.Plan.{Layout, resized}
+use Rattle.elf_layout_plan.specs.Plan.{Plan, resized}
 use Rattle.elf_layout_plan.specs.Written.{anchored_to, target_at}
 use Rattle.elf_layout_plan.proofs.ForCallers.ApartLists.{find-at}
 use Rattle.elf_write_spec.specs.ReadBack.{HasWrittenParts, written_parts}
@@ -149,7 +149,7 @@ none_of None h = refl
 none_of (Some name) h = absurd (false≢true (sym h))
 
 -- the content of the interpreter's section is its name, where there is one
-name_written : (r : Resized) (plan : Layout) (raw : List EntryNumbers) (strings : List ℕ) (s : KeptSection) (bytes : List ℕ) (b : Bool)
+name_written : (r : Resized) (plan : Plan) (raw : List EntryNumbers) (strings : List ℕ) (s : KeptSection) (bytes : List ℕ) (b : Bool)
     → b ≡ true
     → (elim b as (λ _. Type 0)
     [ true ↦ bytes ≡ unwrap_or r.image.interpreter s.section.content | _ ↦ IsContentByKind r plan raw strings s bytes ])

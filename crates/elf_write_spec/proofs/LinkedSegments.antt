@@ -16,7 +16,7 @@ use Rattle.elf_image.specs.Segments.{added_stack}
 use Rattle.elf_layout_plan.specs.Anchors.{HeaderTable, Itself, Anchor, Notes, OneSection, anchor_by_range, anchor_of, anchor_or_itself, does_relro_stay, section_or_table, section_under}
 use Rattle.elf_image.specs.Kept.{KeptSection, interpreter_number, is_numbered, kept_of_type, kept_sections}
 use Rattle.elf_layout_plan.specs.Memory.{Resized}
-use Rattle.elf_layout_plan.specs.Plan.{IsPlan, Layout, layout_for}
+use Rattle.elf_layout_plan.specs.Plan.{IsPlan, Plan, plan_for}
 use Rattle.elf_layout_plan.specs.Standing.{places}
 use Rattle.elf_layout_plan.specs.Written.{Target, behind_last_load, anchored_to, places_of_kept, resized_table, target_at, targets_of, targets_of_notes, written_from, written_segments}
 use Rattle.elf_layout_plan.proofs.ForCallers.ApartLists.{each-at}
@@ -225,11 +225,11 @@ count-whole type table page_size read now h loaded other =
 
 -- ## A plan's
 
-planned_segments : (r : Resized) (plan : Layout) → (planned : IsPlan r plan) → plan.segments ≡ written_segments r planned.moved
-unfolding layout_for
-planned_segments r plan planned = ap (λ (l : Layout). l.segments) planned.follows
+planned_segments : (r : Resized) (plan : Plan) → (planned : IsPlan r plan) → plan.segments ≡ written_segments r planned.moved
+unfolding plan_for
+planned_segments r plan planned = ap (λ (l : Plan). l.segments) planned.follows
 
-pub count-planned : (r : Resized) (plan : Layout) → IsPlan r plan → (type : ℕ) → (PT_LOAD == type) ≡ false → (PT_GNU_STACK == type) ≡ false
+pub count-planned : (r : Resized) (plan : Plan) → IsPlan r plan → (type : ℕ) → (PT_LOAD == type) ≡ false → (PT_GNU_STACK == type) ≡ false
     → ((p : SegmentHeader) → p.p_type ≡ type → is_notes (anchor_of r.read r.image p) ≡ false)
     → (table : ℕ) (read : List SegmentHeader) → AreSegments table r.image.page_size read r.image.segments
     → count_of type plan.segments ≤ count_of type read
@@ -247,7 +247,7 @@ pub record NoMoreSingles (read now : List SegmentHeader) : Type 0 where
   pub interpreter : count_of PT_INTERP now ≤ count_of PT_INTERP read
   pub table : count_of PT_PHDR now ≤ count_of PT_PHDR read
 
-pub no_more_singles : (r : Resized) (plan : Layout) → IsPlan r plan → (table : ℕ) (read : List SegmentHeader)
+pub no_more_singles : (r : Resized) (plan : Plan) → IsPlan r plan → (table : ℕ) (read : List SegmentHeader)
     → AreSegments table r.image.page_size read r.image.segments
     → NoMoreSingles read plan.segments
 no_more_singles r plan planned table read whole = record {

@@ -26,7 +26,7 @@ use Rattle.elf_layout_plan.specs.FilePlaced.{written_headers, written_size, writ
 use Rattle.elf_layout_plan.specs.Anchors.{is_loaded_section}
 use Rattle.elf_image.specs.Kept.{KeptSection, image_at_read, kept_sections, place_at_read}
 use Rattle.elf_layout_plan.specs.Memory.{Resized}
-use Rattle.elf_layout_plan.specs.Plan.{Layout, layout_for, resized}
+use Rattle.elf_layout_plan.specs.Plan.{Plan, plan_for, resized}
 use Rattle.elf_layout_plan.specs.Written.{written_segments}
 use Rattle.elf_layout_plan.proofs.ForCallers.ApartLists.{Each, all-at, any-from, each-append, each-at}
 use Rattle.elf_layout_plan.proofs.ForCallers.PlacedLists.{Has, any-from as any-has, filter-at, has_cases, has_none, slice_get-at}
@@ -129,14 +129,14 @@ there_too : (segments others : List SegmentHeader) (i : ℕ) (q : SegmentHeader)
 there_too segments others i q same at = subst (λ (l : List SegmentHeader). slice_get (loads_of l) i ≡ Some q) (sym same) at
 
 load_now : (w : Output) → IsPlannedOutput w → (i : ℕ) (p : SegmentHeader) → slice_get (loads_of w.image.segments) i ≡ Some p → LoadNow w p
-unfolding layout_for
+unfolding plan_for
 load_now w is i p at =
     let r : Resized = resized w.image in
     let moved : List ℕ = is.planned.moved in
     let here : Has p (loads_of r.image.segments) = slice_get-at (loads_of r.image.segments) i p at in
     let back = filter-at is_loaded r.image.segments p here in
     let any = any-has is_loaded r.image.segments p back.0 back.1 in
-    let segments : w.plan.segments ≡ written_segments r moved = ap (λ (l : Layout). l.segments) is.planned.follows in
+    let segments : w.plan.segments ≡ written_segments r moved = ap (λ (l : Plan). l.segments) is.planned.follows in
     let (j, at_j) = found_at (loads_of (written_segments r moved)) p (load_written r moved (reads_placed w.image is.edited) any p here) in
     record { index = j; here = there_too w.plan.segments (written_segments r moved) j p segments at_j }
 

@@ -26,7 +26,7 @@ use Rattle.elf_image.specs.DynamicList.{IsListed}
 use Rattle.elf_image.specs.Edited as edited
 use Rattle.elf_image.specs.Kept.{image_at_read, interpreter_number, is_numbered}
 use Rattle.elf_layout_plan.specs.Memory.{Resized}
-use Rattle.elf_layout_plan.specs.Plan.{Layout, resized}
+use Rattle.elf_layout_plan.specs.Plan.{Plan, resized}
 use Rattle.elf_layout_plan.specs.Sizes.{dynamic_size, interpreter_size, new_size, table_size}
 use Rattle.elf_layout_plan.proofs.ForCallers.ApartLists.{Each}
 use Rattle.elf_write_spec.specs.ReadBack.{HasWrittenParts, written_parts}
@@ -50,7 +50,7 @@ all_listed None (Some now) h = absurd h
 all_listed (Some read) None h = absurd h
 all_listed (Some read) (Some now) h = h.listed
 
-module _ (r : Resized) (plan : Layout) (strings : List ℕ) where
+module _ (r : Resized) (plan : Plan) (strings : List ℕ) where
   pub length-raw : (es : List Entry) (raw : List EntryNumbers) → AreEntriesOf r plan strings es raw → length raw ≡ length es
   length-raw [] [] h = refl
   length-raw [] (x ∷ xs) h = absurd h

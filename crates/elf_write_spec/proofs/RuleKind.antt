@@ -19,7 +19,7 @@ use Rattle.elf_format.specs.Views.{NamedSymbol}
 use Rattle.elf_image.specs.ReadImage.{AreDynamicSymbols, AreStaticSymbols}
 use Rattle.elf_image.specs.Kept.{image_at_read}
 use Rattle.elf_layout_plan.specs.Memory.{Resized}
-use Rattle.elf_layout_plan.specs.Plan.{Layout, does_place_fit, does_plan_fit, does_segment_fit, layout_for, resized}
+use Rattle.elf_layout_plan.specs.Plan.{Plan, does_place_fit, does_plan_fit, does_segment_fit, plan_for, resized}
 use Rattle.elf_layout_plan.specs.Sizes.{fits_field}
 use Rattle.elf_layout_plan.specs.Standing.{sections_offset}
 use Rattle.elf_layout_plan.proofs.ForCallers.PlacedLists.{Has, all-at, all-from, filter-at, filter-from, find-at, slice_get-at}
@@ -119,8 +119,8 @@ below : (a b : ℕ) → nat_lt a b ≡ true → a < b
 below a b h = grind (arith, nat_tests)
 
 offset_is : (w : Output) (is : IsPlannedOutput w) → w.plan.e_shoff ≡ sections_offset (resized w.image) is.planned.moved
-unfolding layout_for
-offset_is w is = ap (λ (l : Layout). l.e_shoff) is.planned.follows
+unfolding plan_for
+offset_is w is = ap (λ (l : Plan). l.e_shoff) is.planned.follows
 
 -- it stands behind the file header
 pub behind_header : (w : Output) → IsPlannedOutput w → file_header_size w.image.form ≤ w.plan.e_shoff

@@ -20,7 +20,7 @@ use Rattle.elf_image.specs.Names.{are_names_changed}
 use Rattle.elf_image.specs.Relocated.{is_against}
 use Rattle.elf_image.specs.Staying.{table_number}
 use Rattle.elf_layout_plan.specs.Memory.{Resized}
-use Rattle.elf_layout_plan.specs.Plan.{Layout}
+use Rattle.elf_layout_plan.specs.Plan.{Plan}
 use Rattle.elf_layout_plan.specs.Texts.{is_table_copied}
 use Rattle.elf_write_spec.specs.Renumbered.{AreRenumbered}
 use Rattle.elf_write_spec.specs.Contents.{AreRelocationsOf, AreStaticRelocationsOf, IsContentOfKind, gabi_buckets, sizes_in}
@@ -83,7 +83,7 @@ nothing_told r s = record {
   against_static = λ h. absurd (false≢true (sym h));
 }
 
-module _ (r : Resized) (plan : Layout) (raw : List EntryNumbers) (strings : List ℕ) (s : KeptSection) (bytes : List ℕ) where
+module _ (r : Resized) (plan : Plan) (raw : List EntryNumbers) (strings : List ℕ) (s : KeptSection) (bytes : List ℕ) where
   -- relocations that aren't against dynamic symbols that change
   pub relocations_static : (are_names_changed r.read r.image && is_against (table_number SHT_DYNSYM r.image) s.section) ≡ false
       → AreRelocationsOf r s.section bytes → AreStaticRelocationsOf r s.section bytes

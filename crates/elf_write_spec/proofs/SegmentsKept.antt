@@ -19,7 +19,7 @@ use Rattle.elf_layout_plan.specs.Added.{AddedLoad, Slot, added_loads, alignment_
 use Rattle.elf_layout_plan.specs.Anchors.{is_loaded_section}
 use Rattle.elf_layout_plan.specs.FilePlaced.{written_headers, written_table}
 use Rattle.elf_layout_plan.specs.Memory.{Resized, SizedSection, sized_sections}
-use Rattle.elf_layout_plan.specs.Plan.{IsPlan, Layout, layout_for, resized}
+use Rattle.elf_layout_plan.specs.Plan.{IsPlan, Plan, plan_for, resized}
 use Rattle.elf_layout_plan.specs.Rounds.{added_flags, flags_for, headers_needed}
 use Rattle.elf_layout_plan.specs.Standing.{place_in, places, stands_at}
 use Rattle.elf_layout_plan.specs.Written.{behind_last_load, with_table_size, written_from, written_segments}
@@ -101,7 +101,7 @@ holds_slot load t s is size =
     (le-leb (t.offset + s.size) (q.p_offset + q.p_filesz) (omega (arith, is.ends, size))))
     (eq-eqb (t.address + q.p_offset) (q.p_vaddr + t.offset) is.distance)
 
-module _ (image again : Image) (plan : Layout) (edited : IsEdited image) (planned : IsPlan (resized image) plan)
+module _ (image again : Image) (plan : Plan) (edited : IsEdited image) (planned : IsPlan (resized image) plan)
     (same_segments : again.segments ≡ plan.segments) (same_form : again.form ≡ image.form) (same_places : places_in again ≡ plan.places) where
   abbrev r : Resized
   r = resized image
@@ -110,12 +110,12 @@ module _ (image again : Image) (plan : Layout) (edited : IsEdited image) (planne
   moved = planned.moved
 
   planned_segments : plan.segments ≡ written_segments r moved
-  unfolding layout_for
-  planned_segments = ap (λ (l : Layout). l.segments) planned.follows
+  unfolding plan_for
+  planned_segments = ap (λ (l : Plan). l.segments) planned.follows
 
   planned_places : plan.places ≡ places r moved
-  unfolding layout_for
-  planned_places = ap (λ (l : Layout). l.places) planned.follows
+  unfolding plan_for
+  planned_places = ap (λ (l : Plan). l.places) planned.follows
 
   -- ## Those that were added among the others
 

@@ -24,7 +24,7 @@ use Rattle.elf_format.proofs.ForCallers.ViewsAgree.{agrees, test_at}
 use Rattle.elf_image.specs.DynamicList.{IsListed, is_number_tag, is_text_tag}
 use Rattle.elf_image.specs.Kept.{KeptSection, dynamic_strings_number, image_at_read, kept_at_number, link_of_type}
 use Rattle.elf_layout_plan.specs.Memory.{Resized}
-use Rattle.elf_layout_plan.specs.Plan.{Layout, resized}
+use Rattle.elf_layout_plan.specs.Plan.{Plan, resized}
 use Rattle.elf_write_spec.specs.ReadBack.{HasWrittenParts, written_parts}
 use Rattle.elf_write_spec.specs.Contents.{AreEntriesOf, IsEntryOf, content_at_number, place_of_kept, table_value}
 use Rattle.elf_write_spec.specs.Final.{final}
@@ -52,7 +52,7 @@ no_entries (suc room) form = none_bind (bytes_at (by_class form.wide 8 16) nowhe
 
 -- ## The value of DT_STRSZ
 
-module _ (r : Resized) (plan : Layout) (strings : List ℕ) where
+module _ (r : Resized) (plan : Plan) (strings : List ℕ) where
   entry_value : (e : Entry) (x : EntryNumbers) → IsEntryOf r plan strings e x → IsListed e → x.d_tag ≡ DT_STRSZ
       → x.d_value ≡ table_value r plan DT_STRSZ
   entry_value (Auto tag) x is listed h = is.value ∙ ap (table_value r plan) (sym is.tag ∙ h)

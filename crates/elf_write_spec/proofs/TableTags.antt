@@ -17,7 +17,7 @@ use Rattle.elf_format.specs.Options.{each, is_one_of}
 use Rattle.elf_format.specs.Rules.{tags_come_once}
 use Rattle.elf_image.specs.DynamicList.{IsListed, is_table_tag, is_text_tag, table_tag, tables_of}
 use Rattle.elf_layout_plan.specs.Memory.{Resized}
-use Rattle.elf_layout_plan.specs.Plan.{Layout}
+use Rattle.elf_layout_plan.specs.Plan.{Plan}
 use Rattle.elf_layout_plan.proofs.ForCallers.ApartLists.{all-at, all-from, any-at, any-from, each-at, each-from}
 use Rattle.elf_write_spec.specs.Contents.{AreEntriesOf, IsEntryOf, table_value}
 
@@ -251,7 +251,7 @@ pub tables_read : (room : ℕ) (texts : Memory) (raw : List EntryNumbers) (es : 
     → All IsListed es → raw_tables raw ≡ tables_of es
 tables_read room texts raw es h listed = ap (filter is_table_tag) (shown-tags room texts raw es h) ∙ tables-tags es listed
 
-module _ (r : Resized) (plan : Layout) (strings : List ℕ) where
+module _ (r : Resized) (plan : Plan) (strings : List ℕ) where
   written-tags : (es : List Entry) (raw : List EntryNumbers) → AreEntriesOf r plan strings es raw → map (λ e. e.d_tag) raw ≡ tags_of es
   written-tags [] [] h = refl
   written-tags [] (x ∷ xs) h = absurd h

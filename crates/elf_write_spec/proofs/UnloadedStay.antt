@@ -14,7 +14,7 @@ use Rattle.elf_layout_plan.specs.Anchors.{is_loaded_section}
 use Rattle.elf_image.specs.Kept.{KeptSection, kept_sections}
 use Rattle.elf_layout_plan.specs.Memory.{Resized, SizedSection, blocks_with, edge_blocks, header_blocks, is_uninitialized_of_threads, section_block, sized_sections, takes_memory}
 use Rattle.elf_format.specs.declared.constants.TheConstants.{SHT_NULL}
-use Rattle.elf_layout_plan.specs.Plan.{IsPlan, Layout, layout_for, resized}
+use Rattle.elf_layout_plan.specs.Plan.{IsPlan, Plan, plan_for, resized}
 use Rattle.elf_layout_plan.specs.Rounds.{are_in_old_order, do_move, sections_at}
 use Rattle.elf_layout_plan.specs.Standing.{place_in, places, slot_of}
 use Rattle.elf_layout_plan.proofs.ForCallers.ApartFixed.{edges_no_section, headers_no_section, resized_sections}
@@ -120,10 +120,10 @@ module _ (r : Resized) (sized : sized_sections r ≡ map (sized_of r) (kept_sect
       ap (λ (y : Place). y.sh_addr) (same_Some x (place_in r moved t) (sym there ∙ placed))
       ∙ stays_by looked moved move (slot_of r moved t) refl
 
-pub unloaded_stays : (image : Image) (plan : Layout) → IsPlan (resized image) plan → (i : ℕ) (s : KeptSection)
+pub unloaded_stays : (image : Image) (plan : Plan) → IsPlan (resized image) plan → (i : ℕ) (s : KeptSection)
     → slice_get (kept_sections image) i ≡ Some s
     → is_loaded_section s.section ≡ false → (x : Place) → slice_get plan.places s.position ≡ Some x → x.sh_addr ≡ s.section.sh_addr
-unfolding layout_for
+unfolding plan_for
 unloaded_stays image plan is i s at unloaded x there =
     stays (resized image) (resized_sections image) i s at unloaded plan.looked is.moved is.ended.move x
-    (sym (ap (λ (l : Layout). slice_get l.places s.position) is.follows) ∙ there)
+    (sym (ap (λ (l : Plan). slice_get l.places s.position) is.follows) ∙ there)

@@ -18,7 +18,7 @@ use Rattle.elf_image.specs.Needed.{is_info_number, is_lasting, lasting_types, na
 use Rattle.elf_image.specs.ReadImage.{IsSectionOf}
 use Rattle.elf_image.specs.Kept.{KeptSection, dynamic_strings_number, image_at_read, is_numbered, kept_at_number, kept_of_type, kept_sections}
 use Rattle.elf_layout_plan.specs.Memory.{Resized, SizedSection, sized_sections}
-use Rattle.elf_layout_plan.specs.Plan.{Layout, layout_for, resized}
+use Rattle.elf_layout_plan.specs.Plan.{Plan, plan_for, resized}
 use Rattle.elf_layout_plan.specs.Sizes.{new_size}
 use Rattle.elf_layout_plan.specs.Standing.{place_in, places}
 use Rattle.elf_write_spec.specs.Contents.{content_at_number}
@@ -125,13 +125,13 @@ written-at w _ _ _ _ is i k at = absurd is
 kind_at : (w : Output) → IsPlannedOutput w → (i : ℕ) (k : KeptSection) (place : Place) → slice_get (kept_sections w.image) i ≡ Some k
     → slice_get w.plan.places i ≡ Some place
     → (place.sh_type ≡ k.section.sh_type) × (place.sh_flags ≡ k.section.sh_flags) × (place.sh_size ≡ new_size (image_at_read w.image) w.image k)
-unfolding layout_for places
+unfolding plan_for places
 kind_at w is i k place k_at place_at =
     let r : Resized = resized w.image in
     let moved : List ℕ = is.planned.moved in
     let s : SizedSection = sized_of r k in
     let s_at : slice_get (sized_sections r) i ≡ Some s = at-sized r (edited_facts w.image is.edited).sized i k k_at in
-    let all : w.plan.places ≡ map (place_in r moved) (sized_sections r) = ap (λ (l : Layout). l.places) is.planned.follows in
+    let all : w.plan.places ≡ map (place_in r moved) (sized_sections r) = ap (λ (l : Plan). l.places) is.planned.follows in
     let here : slice_get w.plan.places i ≡ Some (place_in r moved s) =
     ap (λ (l : List Place). slice_get l i) all ∙ at-map (place_in r moved) (sized_sections r) i s s_at in
     let same : place ≡ place_in r moved s = same_Some place (place_in r moved s) (sym place_at ∙ here) in

@@ -18,7 +18,7 @@ use Rattle.elf_image.specs.Segments.{added_stack}
 use Rattle.elf_layout_plan.specs.Anchors.{HeaderTable, Itself, Anchor, Notes, OneSection, anchor_of}
 use Rattle.elf_image.specs.Kept.{KeptSection, image_at_read}
 use Rattle.elf_layout_plan.specs.Memory.{Resized}
-use Rattle.elf_layout_plan.specs.Plan.{Layout, layout_for, resized}
+use Rattle.elf_layout_plan.specs.Plan.{Plan, plan_for, resized}
 use Rattle.elf_layout_plan.specs.Standing.{places}
 use Rattle.elf_layout_plan.specs.Written.{Target, behind_last_load, anchored_to, places_of_kept, resized_table, target_at, targets_of, targets_of_notes, written_from, written_segments}
 use Rattle.elf_layout_plan.proofs.ForCallers.ApartLists.{Each, find-at}
@@ -235,12 +235,12 @@ pub data SegmentAt (w : Output) (is : IsPlannedOutput w) (f : ReadFacts w) (type
       → SegmentAt w is f type
 
 pub segments_are : (w : Output) (is : IsPlannedOutput w) → w.plan.segments ≡ written_segments (resized w.image) is.planned.moved
-unfolding layout_for
-segments_are w is = ap (λ (l : Layout). l.segments) is.planned.follows
+unfolding plan_for
+segments_are w is = ap (λ (l : Plan). l.segments) is.planned.follows
 
 pub all_places_are : (w : Output) (is : IsPlannedOutput w) → w.plan.places ≡ places (resized w.image) is.planned.moved
-unfolding layout_for
-all_places_are w is = ap (λ (l : Layout). l.places) is.planned.follows
+unfolding plan_for
+all_places_are w is = ap (λ (l : Plan). l.places) is.planned.follows
 
 pub segment_at : (w : Output) (is : IsPlannedOutput w) (f : ReadFacts w) (type : ℕ) → (PT_LOAD == type) ≡ false
     → (PT_GNU_STACK == type) ≡ false → is_one_of single_segment_types type ≡ true → SegmentAt w is f type

@@ -31,7 +31,7 @@ use Rattle.elf_image.specs.Relocated.{is_against}
 use Rattle.elf_image.specs.Staying.{table_number}
 use Rattle.elf_image.specs.Kept.{KeptSection, dynamic_strings_number, kept_at_number, kept_of_type}
 use Rattle.elf_layout_plan.specs.Memory.{Resized}
-use Rattle.elf_layout_plan.specs.Plan.{Layout}
+use Rattle.elf_layout_plan.specs.Plan.{Plan}
 use Rattle.elf_layout_plan.specs.Texts.{is_table_copied, texts_in_use}
 use Rattle.elf_write_spec.specs.Base.{is_interpreter}
 use Rattle.elf_write_spec.specs.Final.{are_symbols_kept, are_versions_kept, final, is_static_renumbered, new_dynamic_symbols, new_static_symbols}
@@ -40,18 +40,18 @@ use Rattle.elf_write_spec.specs.Headers.{Reads}
 -- ## The dynamic list (gABI, Dynamic Section)
 
 -- where a section comes to stand
-abbrev pub place_of_kept : Layout → Option KeptSection → Option Place
+abbrev pub place_of_kept : Plan → Option KeptSection → Option Place
 place_of_kept plan s = s >>= λ k. slice_get plan.places k.position
 
-abbrev pub address_of_type : Image → Layout → ℕ → ℕ
+abbrev pub address_of_type : Image → Plan → ℕ → ℕ
 address_of_type image plan type = unwrap_or (place_of_kept plan (kept_of_type type image) >>= λ p. Some p.sh_addr) 0
 
 -- where the dynamic strings come to stand
-abbrev pub strings_place : Image → Layout → Option Place
+abbrev pub strings_place : Image → Plan → Option Place
 strings_place image plan = place_of_kept plan (dynamic_strings_number image >>= λ number. kept_at_number number image)
 
 -- the value of a tag that follows from a table: where that stands, how long it is, how large its records are or how many there are
-abbrev pub table_value : Resized → Layout → ℕ → ℕ
+abbrev pub table_value : Resized → Plan → ℕ → ℕ
 table_value r plan tag =
     if tag == DT_STRTAB then unwrap_or (strings_place r.image plan >>= λ p. Some p.sh_addr) 0
     else if tag == DT_STRSZ then unwrap_or (strings_place r.image plan >>= λ p. Some p.sh_size) 0
@@ -66,17 +66,17 @@ table_value r plan tag =
     else length (final r.read r.image).needs
 
 -- the value of an entry: a table's, a number of its own, or where its text stands
-abbrev pub IsValueOf : Resized → Layout → List ℕ → Entry → ℕ → Type 0
+abbrev pub IsValueOf : Resized → Plan → List ℕ → Entry → ℕ → Type 0
 IsValueOf r plan strings (Auto tag) value = value ≡ table_value r plan tag
 IsValueOf r plan strings (Integer tag number) value = value ≡ number
 IsValueOf r plan strings (Text tag text) value = Reads strings value text
 
-pub record IsEntryOf (r : Resized) (plan : Layout) (strings : List ℕ) (e : Entry) (raw : EntryNumbers) : Type 0 where
+pub record IsEntryOf (r : Resized) (plan : Plan) (strings : List ℕ) (e : Entry) (raw : EntryNumbers) : Type 0 where
   pub tag : raw.d_tag ≡ entry_tag e
   pub value : IsValueOf r plan strings e raw.d_value
 
 -- one entry for each of the list, in their order
-abbrev pub AreEntriesOf : Resized → Layout → List ℕ → List Entry → List EntryNumbers → Type 0
+abbrev pub AreEntriesOf : Resized → Plan → List ℕ → List Entry → List EntryNumbers → Type 0
 AreEntriesOf r plan strings [] [] = Unit {0}
 AreEntriesOf r plan strings [] (x ∷ xs) = ⊥
 AreEntriesOf r plan strings (e ∷ es) [] = ⊥
@@ -221,7 +221,7 @@ content_at_number image contents number = unwrap_or (kept_at_number number image
 
 -- What the bytes of a section show that is of a kind. The list of entries and its numbers are handed in, and the bytes of the string
 -- table that the section links to.
-abbrev pub IsContentOfKind : Resized → Layout → List EntryNumbers → List ℕ → KeptSection → List ℕ → SectionData → Type 0
+abbrev pub IsContentOfKind : Resized → Plan → List EntryNumbers → List ℕ → KeptSection → List ℕ → SectionData → Type 0
 IsContentOfKind r plan raw strings s bytes kind = elim kind [
   | kinds.Dynamic ↦ AreEntriesOf r plan strings (list_at (λ es. es) (final r.read r.image).entries) raw × (bytes ≡ spelled_list r.image.form raw (length bytes))
   | kinds.Strings ↦ IsStringTableOf r.read r.image s bytes
@@ -236,11 +236,11 @@ IsContentOfKind r plan raw strings s bytes kind = elim kind [
   | _ ↦ bytes ≡ s.section.content
 ]
 
-abbrev pub IsContentByKind : Resized → Layout → List EntryNumbers → List ℕ → KeptSection → List ℕ → Type 0
+abbrev pub IsContentByKind : Resized → Plan → List EntryNumbers → List ℕ → KeptSection → List ℕ → Type 0
 IsContentByKind r plan raw strings s bytes = IsContentOfKind r plan raw strings s bytes s.section.kind
 
 -- The interpreter's section has its name, which is as it was read where no program header names it any more.
-abbrev pub IsContent : Resized → Layout → List EntryNumbers → List ℕ → KeptSection → List ℕ → Type 0
+abbrev pub IsContent : Resized → Plan → List EntryNumbers → List ℕ → KeptSection → List ℕ → Type 0
 IsContent r plan raw strings s bytes = elim (is_interpreter r.read s) [
   | true ↦ bytes ≡ unwrap_or r.image.interpreter s.section.content
   | _ ↦ IsContentByKind r plan raw strings s bytes

@@ -9,7 +9,7 @@ use Rattle.elf_format.specs.Places.{Place}
 use Rattle.elf_format.specs.Records.{section_header_size, segment_header_size}
 use Rattle.elf_format.specs.Views.{NamedSymbol}
 use Rattle.elf_layout_plan.specs.Memory.{Resized}
-use Rattle.elf_layout_plan.specs.Plan.{Layout}
+use Rattle.elf_layout_plan.specs.Plan.{Plan}
 use Rattle.elf_hashes.specs.Found.{is_local}
 pub use Rattle.elf_image.specs.Needed.{is_info_number}
 use Rattle.elf_write_spec.specs.Final.{final, new_number}
@@ -21,7 +21,7 @@ Reads table place text = (room : ℕ) → length text < room → text_at room (m
 -- ## The file header (gABI, ELF Header)
 
 -- what was read, with the ABI of the image, and where the header tables of the plan stand and how many entries they have
-abbrev pub written_header : Image → Layout → FileHeader
+abbrev pub written_header : Image → Plan → FileHeader
 written_header image plan = record {
   os_abi = image.header.os_abi;
   abi_version = image.header.abi_version;

@@ -13,7 +13,7 @@ use Rattle.elf_image.specs.Edited.{IsEdited}
 use Rattle.elf_layout_plan.specs.FilePlaced.{written_headers}
 use Rattle.elf_image.specs.Kept.{image_at_read}
 use Rattle.elf_layout_plan.specs.Memory.{Resized}
-use Rattle.elf_layout_plan.specs.Plan.{IsPlan, Layout, resized}
+use Rattle.elf_layout_plan.specs.Plan.{IsPlan, Plan, resized}
 use Rattle.elf_write_spec.specs.ReadBack.{HasWrittenParts, IsReadBack}
 use Rattle.elf_write_spec.specs.Final.{final_view}
 use Rattle.elf_write_spec.specs.KeptSymbols.{AreSymbolsKept}
@@ -22,14 +22,14 @@ use Rattle.elf_write_spec.specs.Stays.{AreHashesSeen, AreOthersSeen, IsDataSeen,
 use Rattle.elf_write_spec.specs.Output.{AreHeadersApart, IsPlannedOutput, Output, written_bytes}
 
 -- the section header table
-abbrev pub section_table : Resized → Layout → List Range
+abbrev pub section_table : Resized → Plan → List Range
 section_table r plan = range plan.e_shoff (length plan.places * section_header_size r.image.form) ∷ []
 
 -- In each plan of an edited image the file header, the two header tables and all sections with bytes in the file share no byte of it,
 -- if the file header and the program header table share none.
 abbrev pub PlansAreApartInFile : Type 0
 PlansAreApartInFile =
-    (image : Image) (plan : Layout) → IsEdited image → IsPlan (resized image) plan → AreHeadersApart image plan
+    (image : Image) (plan : Plan) → IsEdited image → IsPlan (resized image) plan → AreHeadersApart image plan
     → IsTrue (all_apart (written_headers (resized image) plan ++ section_table (resized image) plan ++ map file_range (filter occupies_file plan.places)))
 
 -- A written file has the parts that were written.

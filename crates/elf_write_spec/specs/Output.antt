@@ -18,7 +18,7 @@ use Rattle.elf_image.specs.Names.{are_names_changed}
 use Rattle.elf_layout_plan.specs.FilePlaced.{written_size, written_table}
 use Rattle.elf_image.specs.Kept.{KeptSection, image_at_read, kept_of_type, kept_sections}
 use Rattle.elf_layout_plan.specs.Memory.{Resized}
-use Rattle.elf_layout_plan.specs.Plan.{IsPlan, Layout, resized}
+use Rattle.elf_layout_plan.specs.Plan.{IsPlan, Plan, resized}
 use Rattle.elf_write_spec.specs.Base.{base, is_data}
 use Rattle.elf_write_spec.specs.Contents.{IsContent, content_at_number}
 use Rattle.elf_write_spec.specs.Headers.{IsHeaderOf, written_header}
@@ -27,7 +27,7 @@ use Rattle.elf_write_spec.specs.Headers.{IsHeaderOf, written_header}
 -- and the numbers of the dynamic entries.
 pub record Output : Type 0 where
   pub image : Image
-  pub plan : Layout
+  pub plan : Plan
   pub headers : List SectionHeader
   pub contents : List (List ℕ)
   pub raw : List EntryNumbers
@@ -90,7 +90,7 @@ pub record DoNumbersFit (w : Output) : Type 0 where
   pub symbols : are_names_changed (image_at_read w.image) w.image ≡ true → length w.image.dynamic_symbols < 2 ^ 32
 
 -- The file header doesn't move, nor does a program header table that stands in a loaded segment: they are to share no byte.
-abbrev pub AreHeadersApart : Image → Layout → Type 0
+abbrev pub AreHeadersApart : Image → Plan → Type 0
 AreHeadersApart image plan = IsTrue (apart (range 0 (file_header_size image.form)) (written_table (resized image) plan))
 
 pub record IsOutput (w : Output) : Type 0 where

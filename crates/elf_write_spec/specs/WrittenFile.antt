@@ -22,7 +22,7 @@ use Rattle.elf_image.specs.Staying.{table_number}
 use Rattle.elf_layout_plan.specs.Anchors.{is_loaded_section}
 use Rattle.elf_layout_plan.specs.Apart.{addresses_of, did_show_note, does_take_memory, is_loaded_note, is_shown_by}
 use Rattle.elf_layout_plan.specs.Memory.{is_movable}
-use Rattle.elf_layout_plan.specs.Plan.{IsPlan, Layout, resized}
+use Rattle.elf_layout_plan.specs.Plan.{IsPlan, Plan, resized}
 use Rattle.elf_layout_plan.specs.Texts.{is_table_copied}
 use Rattle.elf_image.specs.Kept.{KeptSection, kept_of_type, kept_sections, place_at_read}
 use Rattle.elf_write_spec.specs.ReadBack.{HasWrittenParts, IsReadBack}
@@ -180,7 +180,7 @@ pub record IsNumberedList (image again : Image) (raw : List EntryNumbers) : Type
 
 -- These bytes are a file to which an image is written by a plan: what is written of headers and sections stands where the plan has it,
 -- and reading the file finds it there.
-pub record IsWrittenByPlan (image : Image) (plan : Layout) (file : List ℕ) : Type 0 where
+pub record IsWrittenByPlan (image : Image) (plan : Plan) (file : List ℕ) : Type 0 where
   pub output : Output
   pub of_image : output.image ≡ image
   pub by_plan : output.plan ≡ plan
@@ -251,4 +251,4 @@ pub record IsWrittenOf (image : Image) (file : List ℕ) : Type 0 where
       s.section.sh_type ≡ SHT_STRTAB → IsStringTableOf read image s now.content)
   pub apart : IsEverythingApart again
   -- the plan by which it is written
-  pub by_plan : (plan : Layout) × IsPlan (resized image) plan × IsWrittenByPlan image plan file
+  pub by_plan : (plan : Plan) × IsPlan (resized image) plan × IsWrittenByPlan image plan file

@@ -20,7 +20,7 @@ pub(crate) enum Way {
     /// By the call of the writer that is named, and the names of symbols and sections are shown too.
     NamedCall,
     /// Without words: DT_RUNPATH in the place of DT_RPATH.
-    UseRunpath,
+    ForceRunpath,
     /// By prefixes, and behind a `>` what was found: its run paths shrink.
     Shrink,
 }
@@ -49,7 +49,7 @@ fn edit_file(
     out: &mut String,
 ) -> Result<(), AllocError> {
     match way {
-        Way::UseRunpath => use_runpath(file, out)?,
+        Way::ForceRunpath => use_runpath(file, out)?,
         Way::Shrink => shrink(alloc, file, words, out)?,
         Way::NamedCall => named::make(alloc, file, words, out)?,
         _ => edit_by_words(alloc, file, words, way, out)?,

@@ -58,7 +58,7 @@ impl Cases for Edits {
             "$" => files::edit(alloc, bytes, words, Way::BatchWithSymbols, out),
             "." => files::edit(alloc, bytes, words, Way::Calls, out),
             "s" => files::edit(alloc, bytes, words, Way::NamedCall, out),
-            "u" => files::edit(alloc, bytes, words, Way::UseRunpath, out),
+            "u" => files::edit(alloc, bytes, words, Way::ForceRunpath, out),
             "~" => files::edit(alloc, bytes, words, Way::Shrink, out),
             _ => shown::show_list(alloc, bytes, out),
         }

@@ -13,7 +13,7 @@ enum Edit {
     /// The second entry goes, where it is a DT_RUNPATH.
     DeleteSecond,
     /// Every DT_NEEDED goes.
-    DeleteNeeded,
+    RemoveNeeded,
     /// The first entry becomes a DT_RPATH, where it is a DT_NEEDED.
     RetagFirst,
     /// Every DT_RUNPATH becomes a DT_RPATH.
@@ -22,7 +22,7 @@ enum Edit {
 
 const EDITS: [Edit; 4] = [
     Edit::DeleteSecond,
-    Edit::DeleteNeeded,
+    Edit::RemoveNeeded,
     Edit::RetagFirst,
     Edit::RetagRunPaths,
 ];
@@ -48,7 +48,7 @@ fn change(image: &mut Builder<'_>, edit: Edit) {
         Edit::DeleteSecond => if tag_at(image, 1) == Some(DT_RUNPATH) {
             image.delete_dynamic(1);
         },
-        Edit::DeleteNeeded => image.delete_dynamic_tag(DT_NEEDED),
+        Edit::RemoveNeeded => image.delete_dynamic_tag(DT_NEEDED),
         Edit::RetagFirst => if tag_at(image, 0) == Some(DT_NEEDED) {
             image.retag(0, DT_RPATH);
         },

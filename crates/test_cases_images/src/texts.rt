@@ -62,7 +62,7 @@ fn print_memory(rt: &HostRuntime) -> io::Result<()> {
 /// The causes that have no values.
 fn cause(number: u32) -> ModifyCause {
     match number {
-        0 => ModifyCause::NoDynamic(Task::SetRunPath),
+        0 => ModifyCause::NoDynamic(Task::SetRpath),
         1 => ModifyCause::NoInterp,
         2 => ModifyCause::BadPageSize(1000),
         3 => ModifyCause::NoRunPath,

@@ -1,6 +1,6 @@
 //! The edits of an ELF file, by the names of the program's commands.
 ghost use Rattle.std.specs.Prelude.{◌≡◌, ◌∷◌, [], IfOk, IsOk};
-ghost use Rattle.elf_edits.specs.Edit.{AddDebugEntry, AddNeeded, AddRunPath, ClearExecStack, ClearSymbolVersion, DeleteNeeded, DeleteRunPath, NoDefaultLibrary, RenameDynamicSymbols, ReplaceLibrary, ReplaceNeeded, SetExecStack, SetInterpreter, SetOsAbi, SetPageSize, SetRunPath, SetSoname, UseRpath};
+ghost use Rattle.elf_edits.specs.Edit.{AddDebugTag, AddNeeded, AddRpath, ClearExecStack, ClearSymbolVersion, RemoveNeeded, RemoveRpath, NoDefaultLib, RenameDynamicSymbols, ReplaceLibrary, ReplaceNeeded, SetExecStack, SetInterpreter, SetOsAbi, SetPageSize, SetRpath, SetSoname, ForceRpath};
 ghost use Rattle.elf_edits.specs.EditModel.{pairs_model, texts_model};
 ghost use Rattle.arwen_elf_writer.specs.Taken.{RemovedAre, edits_model, shrink_model};
 ghost use Rattle.elf_image.specs.Leave.{with_dynamic_move};
@@ -47,7 +47,7 @@ impl<'a> ElfContainer<'a> {
 
     /// Adds a directory to every run path; without one, puts a DT_RUNPATH last (gABI, Dynamic Section).
     pub fn add_runpath(&mut self, alloc: Global, text: &[u8]) -> Result<()>
-        ensures { EditTaken (AddRunPath (text.now ∷ [])) self.old self.new result }
+        ensures { EditTaken (AddRpath (text.now ∷ [])) self.old self.new result }
     {
         let texts = one_text(alloc, text)?;
         self.inner.edit(alloc, ElfEdit::AddRpath(texts))
@@ -55,21 +55,21 @@ impl<'a> ElfContainer<'a> {
 
     /// Drops every run path. Takes no memory.
     pub fn remove_runpath(&mut self) -> Result<()>
-        ensures { InPlaceTaken DeleteRunPath self.old self.new result }
+        ensures { InPlaceTaken RemoveRpath self.old self.new result }
     {
         self.inner.elf_delete_runpath()
     }
 
     /// Gives every run path this text; without one, puts a DT_RUNPATH last.
     pub fn set_runpath(&mut self, alloc: Global, text: &[u8]) -> Result<()>
-        ensures { EditTaken (SetRunPath text.now) self.old self.new result }
+        ensures { EditTaken (SetRpath text.now) self.old self.new result }
     {
         self.inner.elf_set_runpath(alloc, text)
     }
 
     /// Makes every DT_RUNPATH a DT_RPATH. Takes no memory.
     pub fn force_rpath(&mut self) -> Result<()>
-        ensures { InPlaceTaken UseRpath self.old self.new result }
+        ensures { InPlaceTaken ForceRpath self.old self.new result }
     {
         self.inner.elf_use_rpath()
     }
@@ -119,7 +119,7 @@ impl<'a> ElfContainer<'a> {
 
     /// Drops every needed library of one of these names.
     pub fn remove_needed(&mut self, alloc: Global, names: &[Vec<u8>]) -> Result<()>
-        ensures { EditTaken (DeleteNeeded (texts_model names.now)) self.old self.new result }
+        ensures { EditTaken (RemoveNeeded (texts_model names.now)) self.old self.new result }
     {
         self.inner.delete_needed_names(alloc, names)
     }
@@ -165,14 +165,14 @@ impl<'a> ElfContainer<'a> {
 
     /// Leaves out the default directories: sets DF_1_NODEFLIB in every DT_FLAGS_1; without one, puts one last.
     pub fn no_default_lib(&mut self, alloc: Global) -> Result<()>
-        ensures { EditTaken NoDefaultLibrary self.old self.new result }
+        ensures { EditTaken NoDefaultLib self.old self.new result }
     {
         self.inner.elf_no_default_lib(alloc)
     }
 
     /// Puts an entry DT_DEBUG last, unless one is there.
     pub fn add_debug_tag(&mut self, alloc: Global) -> Result<()>
-        ensures { EditTaken AddDebugEntry self.old self.new result }
+        ensures { EditTaken AddDebugTag self.old self.new result }
     {
         self.inner.elf_add_dynamic_debug(alloc)
     }

@@ -3,7 +3,7 @@ ghost use Rattle.std.specs.Prelude.{IfErr, IfOk, OnOk, length, map, string_bytes
 ghost use Rattle.byte_store.specs.Composed.{IsDifference};
 ghost use Rattle.byte_store.specs.Known.{HasLength, IsAll};
 ghost use Rattle.elf_commands_steps.specs.ShrinkModel.{answer_model};
-ghost use Rattle.elf_edits.specs.Edit.{ShrinkRunPath};
+ghost use Rattle.elf_edits.specs.Edit.{ShrinkRpath};
 ghost use Rattle.elf_commands.specs.ElfAsked.{shrinking};
 ghost use Rattle.elf_commands.specs.ElfEngine.{MayFailAs};
 ghost use Rattle.elf_commands.specs.ElfStores.{WritesEnd};
@@ -35,10 +35,10 @@ pub(crate) fn run_shrink<W: Write>(
     probe: &[ProbeAnswer<'_>],
     out: &mut W,
 ) -> Result<Option<Vec<u8>>, ElfCommandError>
-    ensures ran { IfOk result (λ new. RunsShrink (ShrinkRunPath
+    ensures ran { IfOk result (λ new. RunsShrink (ShrinkRpath
         (map string_bytes args.now.allowed_rpath_prefixes.items) (map answer_model probe.now))
         bytes.now new (W.contents out.old) (W.contents out.new)) }
-    ensures err { IfErr result (TellsShrink W.contents (ShrinkRunPath
+    ensures err { IfErr result (TellsShrink W.contents (ShrinkRpath
         (map string_bytes args.now.allowed_rpath_prefixes.items) (map answer_model probe.now))
         bytes.now out.old out.new) }
 {

@@ -1,6 +1,6 @@
 -- A run of the command makes the edit.
 use Rattle.std.proofs.Common.{List, None, map, string_bytes, subst}
-use Rattle.elf_edits.specs.Edit.{Answer, Edit, ShrinkRunPath}
+use Rattle.elf_edits.specs.Edit.{Answer, Edit, ShrinkRpath}
 use Rattle.elf_edits_shrink.specs.ShrinkModel.{answer_model}
 use Rattle.elf_commands.specs.Meaning.{ElfMeaning}
 use Rattle.elf_commands.specs.ShrinkRuns.{RunsCommand}
@@ -10,6 +10,6 @@ use Rattle.arwen_cli_patchelf.proofs.first_found.shrunk_by.Goals as goal
 pub returns-in-Ok-clause-left : goal.returns-in-Ok-clause-left
 returns-in-Ok-clause-left c =
     let answers : List Answer = map answer_model c.args.answers.now in
-    let edit : Edit = ShrinkRunPath (map string_bytes c.args.prefixes.now) answers in
+    let edit : Edit = ShrinkRpath (map string_bytes c.args.prefixes.now) answers in
     let Of : ElfMeaning → Type 0 = λ m. RunsCommand m answers c.args.bytes.now c.in-Ok.new None None in
     left_after c.edits_show.ensures c.read_images_hold_parts.ensures edit c.args.bytes.now c.in-Ok.new (subst Of c.in_ok-command.ensures c.in-Ok.ensures.ran).0

@@ -4,7 +4,7 @@ use Rattle.std.specs.Prelude.{IfErr, IfOk}
 use Rattle.std.specs.declared.alloc.Global.{Global}
 use Rattle.std.specs.declared.vec.Vec.{Vec}
 use Rattle.std.proofs.lemmas.Result.{IfErr-weaker, IfOk-weaker}
-use Rattle.elf_edits.specs.Edit.{Answer, ShrinkRunPath}
+use Rattle.elf_edits.specs.Edit.{Answer, ShrinkRpath}
 use Rattle.elf_edits_shrink.specs.ShrinkModel.{answer_model}
 use Rattle.elf_edits_shrink.specs.declared.probe.ProbeAnswer.{ProbeAnswer}
 use Rattle.elf_commands.specs.ElfAsked.{one}
@@ -30,7 +30,7 @@ returns-in-Some-clause-shrunk g c =
     let answers : List Answer = map answer_model c.in-Some.answers.items in
     let Of : Option (Vec ProbeAnswer Global) → Type 0 = λ o. AreFirstFoundWhere finds prefixes file (answers_model o) in
     let found : AreFirstFoundWhere finds prefixes file (Some answers) = subst Of c.in-Some.is c.in_ok-found.ensures.found in
-    let At : List ProbeAnswer → Type 0 = λ l. IfOk c.shrunk_by-made.result (λ new. LeavesElf (one (ShrinkRunPath prefixes (map answer_model l))) file (bytes_left file new)) in
+    let At : List ProbeAnswer → Type 0 = λ l. IfOk c.shrunk_by-made.result (λ new. LeavesElf (one (ShrinkRpath prefixes (map answer_model l))) file (bytes_left file new)) in
     IfOk-weaker c.shrunk_by-made.result _ _ (λ new leaves. some_shrink finds prefixes file (bytes_left file new) answers found.0 found.1 leaves)
     (subst At c.as_slice.ensures.value c.shrunk_by-made.ensures.left)
 
@@ -42,6 +42,6 @@ returns-in-Some-clause-err g c =
     let answers : List Answer = map answer_model c.in-Some.answers.items in
     let Of : Option (Vec ProbeAnswer Global) → Type 0 = λ o. AreFirstFoundWhere finds prefixes file (answers_model o) in
     let found : AreFirstFoundWhere finds prefixes file (Some answers) = subst Of c.in-Some.is c.in_ok-found.ensures.found in
-    let At : List ProbeAnswer → Type 0 = λ l. IfErr c.shrunk_by-made.result (TellsEdit (one (ShrinkRunPath prefixes (map answer_model l))) file) in
+    let At : List ProbeAnswer → Type 0 = λ l. IfErr c.shrunk_by-made.result (TellsEdit (one (ShrinkRpath prefixes (map answer_model l))) file) in
     IfErr-weaker c.shrunk_by-made.result _ _ (λ e tells. first_tells finds prefixes file answers e found.0 found.1 tells)
     (subst At c.as_slice.ensures.value c.shrunk_by-made.ensures.err)

@@ -1,13 +1,13 @@
 use Rattle.std.proofs.Common.{map, string_bytes}
 use Rattle.std.proofs.lemmas.Result.{IfErr-weaker, IfOk-weaker}
 use Rattle.elf_commands_steps.specs.ShrinkModel.{answer_model}
-use Rattle.elf_edits.specs.Edit.{ShrinkRunPath}
+use Rattle.elf_edits.specs.Edit.{ShrinkRpath}
 use Rattle.elf_commands.proofs.ShrinkLaws.{found_in, shrunk_file, shrunk_makeable, unshrunk_file}
 use Rattle.elf_commands.proofs.elf.shrinking.shrunk_pieces.Goals as goal
 
 pub returns-in-Ok-clause-makeable : goal.returns-in-Ok-clause-makeable
 returns-in-Ok-clause-makeable g c =
-    let edit = ShrinkRunPath (map string_bytes c.args.prefixes.now) (map answer_model c.in-Ok.answers.items) in
+    let edit = ShrinkRpath (map string_bytes c.args.prefixes.now) (map answer_model c.in-Ok.answers.items) in
     IfOk-weaker c.pieces_by_answers.result _ _ (λ made shrunk.
     shrunk_makeable c.edits_show.ensures c.read_images_hold_parts.ensures edit c.args.bytes.now c.in_ok-elf.elf.inner made.difference (string_bytes made.text) c.in_ok-elf.ensures.reads.0 shrunk) c.pieces_by_answers.ensures.shrunk
 
