@@ -86,7 +86,7 @@ are_raw read image plan made is list at raw are =
           (sym own) are);
     }
 
--- those that were made by the places of their texts
+-- the entries that were made by the places of their texts
 pub made_raw : (read image : Image) (plan : Layout) (made : List Made) (s : Staying) → IsEditedReady read image → AreWritten read image s
     → (list : ℕ) → type_position image SHT_DYNAMIC ≡ Some list → (es : List Entry) → Some es ≡ image.entries
     → (texts : List (List ℕ)) (places : List ℕ) → texts ≡ list_at texts_of_entries (written_entries read image)

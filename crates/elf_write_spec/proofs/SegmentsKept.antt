@@ -117,7 +117,7 @@ module _ (image again : Image) (plan : Layout) (edited : IsEdited image) (planne
   unfolding layout_for
   planned_places = ap (λ (l : Layout). l.places) planned.follows
 
-  -- ## Those that were added among the others
+  -- ## Added program headers among the others
 
   abbrev base : List SegmentHeader
   base = flat_map (written_from r moved) image.segments
