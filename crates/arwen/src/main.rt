@@ -26,7 +26,8 @@ fn texts_of<'w>(alloc: Global, words: &'w [String]) -> Result<Vec<&'w str>, Allo
     Ok(texts)
 }
 
-/// The same of their texts. Lines of other tools are run as theirs, and `help` behind which one stands as its help.
+/// Does what the texts of words ask, the program's name first, and answers the status to end with.
+/// Lines of other tools are run as theirs, and `help` behind which one stands as its help.
 fn answer(rt: &HostRuntime, words: &[&str]) -> ExitCode {
     let (name, words) = match words.split_first() {
         Some((name, words)) => (*name, words),

@@ -5,7 +5,7 @@ use Rattle.arwen_c.specs.declared.answer.Answer.{Answer}
 use Rattle.arwen_c.specs.declared.error.CallError.{CallError}
 use Rattle.arwen_c.specs.declared.status.TheConstants.{ARWEN_MEMORY, NO_EDIT}
 
--- these bytes and this text, and no cause
+-- the answer has these bytes and this text, and no cause
 pub record Hands (bytes text : List ℕ) (answer : Answer) : Type 0 where
   pub bytes_are : answer.bytes.now ≡ bytes
   pub text_is : answer.text.now ≡ text

@@ -38,7 +38,7 @@ module _ {F : Type 0} where
 
 -- ## An array
 
--- its edits of an ELF file, as those of a command
+-- an array's edits of an ELF file, as the edits of a command
 abbrev pub groups_if : Result (List ElfEdit) ListFault → Result (List GroupEdit) ListFault
 groups_if (Ok edits) = Ok (map group_of edits)
 groups_if (Err fault) = Err fault

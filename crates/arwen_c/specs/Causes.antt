@@ -122,7 +122,7 @@ words_cause words.WrongWords = 303
 words_cause words.KeyValue = 304
 words_cause words.Number = 305
 
--- and with an edit of an array
+-- the cause of a wrong edit of an array
 abbrev pub array_cause : WrongEdit → ℕ
 array_cause wrong.UnknownKind = 321
 array_cause wrong.WrongCount = 322

@@ -85,7 +85,7 @@ pub record IsVerified (fit : Bool) (file new told : List ℕ) : Type 0 where
 
 -- ## Errors
 
--- this, or want of memory, which may be answered in any case
+-- an error is told as said, or is want of memory, which may be answered in any case
 abbrev pub OrMemory : (CallError → Type 0) → CallError → Type 0
 OrMemory tells Memory = ⊤
 OrMemory tells e = tells e

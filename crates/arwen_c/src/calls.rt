@@ -52,7 +52,7 @@ pub fn applied(
     }
 }
 
-/// The same of an ELF file.
+/// The bytes of an ELF file after the edits of an array, and the notes. Errors: those of `applied`.
 fn elf_applied(
     alloc: Global,
     bytes: &[u8],
@@ -71,7 +71,8 @@ fn elf_applied(
     }
 }
 
-/// The same of a Mach-O file.
+/// The bytes of a Mach-O file after the edits of an array, and the notes. Errors: those of
+/// `applied`.
 fn macho_applied(
     alloc: Global,
     bytes: &[u8],
@@ -110,7 +111,7 @@ pub fn applied_words(
     }
 }
 
-/// The same of words that are UTF-8.
+/// The bytes of a file after the edits that words in UTF-8 name, and the notes.
 fn by_words(
     alloc: Global,
     bytes: &[u8],
@@ -132,7 +133,7 @@ fn by_words(
     }
 }
 
-/// The same of an ELF file.
+/// The bytes of an ELF file after the edits that words in UTF-8 name, and the notes.
 fn elf_by_words(
     alloc: Global,
     bytes: &[u8],
@@ -151,7 +152,7 @@ fn elf_by_words(
     }
 }
 
-/// The same of a Mach-O file.
+/// The bytes of a Mach-O file after the edits that words in UTF-8 name, and the notes.
 fn macho_by_words(
     alloc: Global,
     bytes: &[u8],

@@ -5,7 +5,7 @@ ghost use Rattle.arwen_c.specs.CauseWords.{causes, row_model, words_in, words_of
 /// A cause: the one place that says how its number is told.
 #[derive(Clone, Copy, Debug)]
 pub struct CauseRow {
-    /// Its number.
+    /// The number of the cause.
     pub number: u32,
     /// The words for it, of no particular file.
     pub words: &'static str,

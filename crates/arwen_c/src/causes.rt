@@ -30,7 +30,7 @@ pub(crate) fn cause_of(error: &CallError) -> u32
     }
 }
 
-/// That of an edit of an array.
+/// The cause of a wrong edit of an array.
 fn array_cause(wrong: WrongEdit) -> u32
     ensures { result ≡ array_told wrong }
 {
@@ -42,7 +42,7 @@ fn array_cause(wrong: WrongEdit) -> u32
     }
 }
 
-/// That of words.
+/// The cause of wrong words.
 fn words_cause(kind: EditKind) -> u32
     ensures { result ≡ words_told kind }
 {
@@ -55,7 +55,7 @@ fn words_cause(kind: EditKind) -> u32
     }
 }
 
-/// That of an ELF file.
+/// The cause of an error of an edit of an ELF file.
 fn elf_cause(error: &ElfCommandError) -> u32
     ensures { result ≡ elf_told error.now }
 {
@@ -114,7 +114,7 @@ fn modify_cause(cause: &ModifyCause) -> u32
     }
 }
 
-/// That of a Mach-O file.
+/// The cause of an error of an edit of a Mach-O file.
 fn macho_cause(error: &MachoCommandError) -> u32
     ensures { result ≡ macho_told error.now }
 {
@@ -160,7 +160,7 @@ fn file_cause(fault: MachFault) -> u32
     }
 }
 
-/// That of a code signature.
+/// The cause of a fault of a code signature.
 fn signing_cause(fault: SigningFault) -> u32
     ensures { result ≡ signing_told fault }
 {

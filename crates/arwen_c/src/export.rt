@@ -38,7 +38,7 @@ pub extern "C" fn arwen_apply(
     answered(alloc, made, answer)
 }
 
-/// The same by words: those behind `apply FILE`.
+/// Edits the bytes of a file as `arwen_apply` does, by words: those behind `apply FILE`.
 #[unsafe(no_mangle)]
 pub extern "C" fn arwen_apply_words(
     alloc: Global,

@@ -32,7 +32,7 @@ fn words_text(alloc: Global, fault: &EditFault) -> Result<String, AllocError> {
     format!(in alloc; "invalid edit list: {fault}")
 }
 
-/// That a word is no UTF-8.
+/// The text for a word that is no UTF-8.
 fn no_text(alloc: Global, group: usize) -> Result<String, AllocError> {
     format!(in alloc; "invalid edit list: group {group}: a word is no UTF-8")
 }

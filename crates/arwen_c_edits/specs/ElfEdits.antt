@@ -59,7 +59,7 @@ no_elf_kind kind = if is_macho_kind kind then OtherFormat else UnknownKind
 
 -- ## Edits
 
--- those that take nothing
+-- edits that take nothing
 unfoldable pub bare_edit : ℕ → Option Edit
 bare_edit kind =
     if kind == ELF_ADD_DEBUG_TAG then Some AddDebugTag

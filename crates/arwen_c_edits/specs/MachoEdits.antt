@@ -29,7 +29,7 @@ no_macho_kind kind = if_elf (elf_takes kind)
 
 -- ## Edits
 
--- those that take one word
+-- edits that take one word
 unfoldable pub word_call : ℕ → Text → Option Call
 word_call kind word =
     if kind == MACHO_ADD_RPATH then Some (add_rpath word)
@@ -44,7 +44,7 @@ words_call kind old new =
 
 -- ## Reading
 
--- both words are UTF-8
+-- two texts that are both UTF-8, as words
 abbrev pub two_words : Text × Text → Read (Text × Text)
 two_words texts = then_read (λ old. then_read (λ new. Ok (old, new)) (word_in texts.1)) (word_in texts.0)
 

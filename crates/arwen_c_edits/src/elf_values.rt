@@ -19,11 +19,11 @@ pub enum ReadEdit {
     Plain(ElfEdit),
     /// The symbols for link editors and for the loader get other names.
     RenameSymbols(Vec<(Vec<u8>, Vec<u8>)>),
-    /// Those of some names go.
+    /// The symbols of some names go, for link editors and for the loader.
     DeleteSymbols(Vec<Vec<u8>>),
     /// Sections get other names.
     RenameSections(Vec<(Vec<u8>, Vec<u8>)>),
-    /// Those of some names go.
+    /// The sections of some names go.
     DeleteSections(Vec<Vec<u8>>),
 }
 

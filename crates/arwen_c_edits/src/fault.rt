@@ -37,7 +37,7 @@ pub struct ListFault {
 /// Why an edit was not read.
 #[derive(Debug, Drop)]
 pub enum ReadError {
-    /// It is wrong.
+    /// The edit is wrong.
     Wrong(WrongEdit),
     /// There was no memory.
     Memory,

@@ -14,6 +14,6 @@ pub struct LentText<'a> {
 pub struct LentEdit<'a> {
     /// The number of its kind.
     pub kind: u32,
-    /// Its texts.
+    /// The texts of the edit.
     pub texts: &'a [LentText<'a>],
 }

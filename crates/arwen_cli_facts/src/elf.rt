@@ -36,7 +36,7 @@ pub enum ElfKind {
 /// A library that an ELF file needs.
 #[derive(Drop)]
 pub struct NeededLibrary {
-    /// Its name (`DT_NEEDED`).
+    /// The library's name (`DT_NEEDED`).
     pub name: String,
     /// The versions that are needed of it, in order (GNU symbol versioning).
     pub versions: Vec<String>,
@@ -45,7 +45,7 @@ pub struct NeededLibrary {
 /// What is told of an ELF file. Texts have U+FFFD for what is no character.
 #[derive(Drop)]
 pub struct ElfSummary {
-    /// What it is for.
+    /// What the file is for.
     pub kind: ElfKind,
     /// The machine that its code is for (gABI, ELF Header, `e_machine`).
     pub machine: u16,
@@ -101,7 +101,7 @@ fn summary_of(alloc: Global, writer: Writer<'_>) -> Result<ElfSummary, AllocErro
     summary
 }
 
-/// The same of one that is lent.
+/// What is told of an image that is lent.
 fn summary_lent(alloc: Global, writer: &Writer<'_>) -> Result<ElfSummary, AllocError>
     ensures { IfOk result (λ s. elf_model s ≡ elf_facts writer.now) }
 {

@@ -12,7 +12,7 @@ use thiserror::Error;
 /// Why nothing is told of a file.
 #[derive(Debug, Drop, Error)]
 pub enum ShowError {
-    /// It begins as no file that is read here.
+    /// The file begins as none that is read here.
     #[error("neither an ELF file nor a Mach-O file")]
     UnknownFormat,
     /// An ELF file that is refused.
@@ -21,7 +21,7 @@ pub enum ShowError {
     /// A Mach-O file that is refused.
     #[error("error while reading Mach-O file")]
     Macho(MachoError),
-    /// It could not be read, or what is told was not written.
+    /// The file could not be read, or what is told was not written.
     #[error("file error")]
     Io(io::Error),
     /// There was no memory.

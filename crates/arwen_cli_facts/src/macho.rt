@@ -35,7 +35,7 @@ pub struct MachoSummary {
     pub libraries: Vec<String>,
     /// The run paths (`LC_RPATH`), in order.
     pub run_paths: Vec<String>,
-    /// Whether it has a code signature.
+    /// Whether the slice has a code signature.
     pub is_signed: bool,
     /// What its code signature says, or why that isn't read.
     pub signature: Option<SignatureSummary>,

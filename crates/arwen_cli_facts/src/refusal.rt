@@ -24,7 +24,7 @@ pub enum Told<'t> {
 pub struct Refusal<'t> {
     /// The error.
     pub error: ShowError,
-    /// What it leaves open, where that is known.
+    /// What the error leaves open, where that is known.
     pub reason: Option<Told<'t>>,
 }
 

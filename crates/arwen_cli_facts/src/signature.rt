@@ -40,7 +40,7 @@ pub struct SignatureContents {
 /// What is told of a code signature.
 #[derive(Drop)]
 pub enum SignatureSummary {
-    /// What it says.
+    /// What the signature says.
     Read(SignatureContents),
     /// Why it isn't read.
     Refused(SigningFault),

@@ -26,7 +26,7 @@ IsFileRefusal may_fail known refusal =
     ((e : ReadError) × may_fail e × (refusal ≡ unread_refusal e))
     ⊎ ((bytes : List ℕ) × IsAll known bytes × IsRefusalOf bytes refusal)
 
--- its line: the path, the causes, and what they leave open
+-- the line of a refusal: the path, the causes, and what they leave open
 pub record IsRefusalLine (path : List ℕ) (refusal : Refusal) (line : List ℕ) : Type 0 where
   pub causes : List ℕ
   pub bracket : Option (List ℕ)
@@ -57,7 +57,7 @@ abbrev pub is_told : Telling → Bool
 is_told (told text) = true
 is_told (refused line) = false
 
--- it tells of the file at a path: of all its bytes where they are known, or by an error that reading it may answer
+-- a telling is of the file at a path: of all its bytes where they are known, or of an error that reading it may answer
 abbrev pub TellingAt : (List ℕ → ReadError → Type 0) → (List ℕ → Option (List ℕ)) → Style → List ℕ → Telling → Type 0
 TellingAt may_fail contents style path (told text) = TellsFile style path (contents path) text
 TellingAt may_fail contents style path (refused line) =

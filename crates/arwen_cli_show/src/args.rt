@@ -39,11 +39,11 @@ pub struct Args {
 /// Why words ask for no file to be shown.
 #[derive(Clone, Copy)]
 pub enum ArgsFault<'a> {
-    /// They ask for help.
+    /// The words ask for help.
     Help,
-    /// They have an option that isn't known.
+    /// The words have an option that isn't known.
     Unknown(&'a str),
-    /// They name no file.
+    /// The words name no file.
     NoPath,
     /// There was no memory.
     Memory,

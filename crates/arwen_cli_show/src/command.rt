@@ -71,7 +71,7 @@ pub fn execute<R: Files + Print + Eprint + AllocGlobal>(
     answer
 }
 
-/// The same of what is lent.
+/// Tells what the files of lent arguments are, as `execute` does.
 fn show_lent<R: Files + Print + Eprint + AllocGlobal>(
     rt: &R,
     args: &Args,

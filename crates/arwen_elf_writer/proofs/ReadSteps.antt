@@ -61,7 +61,7 @@ none_found tags xs i end all h =
     let e : texts_tagged tags (map entry_model (drop i xs)) ≡ [] = ap (λ ys. texts_tagged tags (map entry_model ys)) (drop_all i xs end) in
     ap first_of (sym e ∙ h)
 
--- the same of entries that are taken from the front of a list
+-- what the first of the entries that are left has, or hasn't, of a text
 pub left_found : (tags : List ℕ) (xs behind : List Dynamic) (x : Dynamic) → xs ≡ x ∷ behind → (text : List ℕ) → text_if tags (entry_model x) ≡ Some text → texts_tagged tags (map entry_model xs) ≡ text ∷ texts_tagged tags (map entry_model behind)
 left_found tags xs behind x e text found = ap (λ ys. texts_tagged tags (map entry_model ys)) e ∙ texts_found tags (entry_model x) (map entry_model behind) text found
 

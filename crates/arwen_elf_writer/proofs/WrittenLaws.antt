@@ -28,7 +28,7 @@ module _ (lent image : Image) (same : lent ≡ image) where
     edited = λ _. subst (λ (i : Image). IsWrittenOf i bytes) same written;
   }
 
-  -- it was edited, so nothing is said of an image that was not
+  -- the image was edited, so nothing is said of an image that was not
   pub no_source : {A : Type 0} → lent.changed ≡ true → image.changed ≡ false → A
   no_source edited unedited = absurd (true≢false (sym edited ∙ ap (λ (i : Image). i.changed) same ∙ unedited))
 

@@ -18,7 +18,7 @@ pub record HoldsBytes (is_new : Option (List ℕ) → Type 0) (bytes : List ℕ)
   pub is_start : is_new start
   pub appended : Appends start known bytes
 
--- it has got the first of them, but not all, and then a write failed; so many writes failed
+-- a file that was created has got the first of these bytes, but not all, and then a write failed; so many writes failed
 pub record HoldsFront (is_new : Option (List ℕ) → Type 0) (bytes : List ℕ) (known : Option (List ℕ)) (failed : ℕ) : Type 0 where
   pub start : Option (List ℕ)
   pub is_start : is_new start
@@ -43,7 +43,7 @@ pub record HoldsImage (is_new : Option (List ℕ) → Type 0) (image : Image) (k
   pub are_written : IsImageWritten image bytes
   pub held : HoldsBytes is_new bytes known
 
--- it has got the first of them, and then a write failed
+-- a file that was created has got the first bytes of an image, and then a write failed
 pub record HoldsImageFront (is_new : Option (List ℕ) → Type 0) (image : Image) (known : Option (List ℕ)) (failed : ℕ) : Type 0 where
   pub bytes : List ℕ
   pub are_written : IsImageWritten image bytes
@@ -57,6 +57,6 @@ IsLacking is_new contents may_fail image (Io fault) (Some file) = HoldsImageFron
 IsLacking is_new contents may_fail image other None = IsNoImage image other
 IsLacking is_new contents may_fail image other (Some file) = ⊥
 
--- the same of what is answered then
+-- an answer tells why a new file hasn't got the bytes of an image
 abbrev pub IsNotStored : {W : Type 0} → (Option (List ℕ) → Type 0) → (W → Option (List ℕ)) → (Error → Type 0) → Image → NotWritten W → Type 0
 IsNotStored is_new contents may_fail image refused = IsLacking is_new contents may_fail image refused.error refused.file

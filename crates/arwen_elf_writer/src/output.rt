@@ -45,7 +45,7 @@ fn pieces_by<'a, 'data>(
     }
 }
 
-// The same, by the new sizes of its sections.
+// What of the bytes of an edited image differs from its source, by the new sizes of its sections.
 fn pieces_by_sizes<'a, 'data>(
     alloc: Global,
     read: &'a Builder<'data>,
@@ -70,7 +70,8 @@ fn pieces_by_sizes<'a, 'data>(
     }
 }
 
-// The same, by no more than the image that was read from its source.
+// What of the bytes of an edited image differs from its source, by no more than the image that was
+// read from it.
 fn pieces_from<'a, 'data>(
     alloc: Global,
     read: &'a Builder<'data>,

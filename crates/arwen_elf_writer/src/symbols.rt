@@ -36,9 +36,10 @@ impl<'data> Writer<'data> {
         self.edit_symbols(alloc, SymbolEdit::RenameSymbols(pairs.as_slice()))
     }
 
-    /// The same of the symbols for a link editor and of those for a loader. Errors: those of `elf_rename_symbols`, and
-    /// `Modify` with `CannotRenumber` where a symbol for a loader is to have another name, and hash tables or relocations
-    /// can't follow.
+    /// Gives the symbols for a link editor and for a loader, but the first of each, whose names are
+    /// keys the keys' values, all at once. Errors: those of `elf_rename_symbols`, and `Modify` with
+    /// `CannotRenumber` where a symbol for a loader is to have another name, and hash tables or
+    /// relocations can't follow.
     pub fn rename_symbols(
         &mut self,
         alloc: Global,
@@ -66,8 +67,8 @@ impl<'data> Writer<'data> {
         self.edit_symbols(alloc, SymbolEdit::DeleteSymbols(names.as_slice()))
     }
 
-    /// The same of the symbols for a loader. Errors: those of `elf_delete_symbols`; `CannotRenumber` too where a hash table
-    /// can't be made anew.
+    /// Deletes the symbols for a loader, but the first, that have one of these names. Errors: those
+    /// of `elf_delete_symbols`; `CannotRenumber` too where a hash table can't be made anew.
     pub fn elf_delete_dynamic_symbols(
         &mut self,
         alloc: Global,
@@ -80,7 +81,8 @@ impl<'data> Writer<'data> {
         self.edit_symbols(alloc, SymbolEdit::DeleteDynamicSymbols(names.as_slice()))
     }
 
-    /// The same of both. Errors: those of `elf_delete_symbols` and `elf_delete_dynamic_symbols`.
+    /// Deletes the symbols for a link editor and for a loader, but the first of each, that have one
+    /// of these names. Errors: those of `elf_delete_symbols` and `elf_delete_dynamic_symbols`.
     pub fn delete_symbols(
         &mut self,
         alloc: Global,

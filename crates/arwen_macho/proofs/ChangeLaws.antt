@@ -53,7 +53,7 @@ change_bytes held change is of =
     ∙ ap (λ (n : ℕ). with_area (ctx_of held.state.old) (laid_bytes held.state) n (concat (list_of held change)) change.high) (sym count)
     ∙ over
 
--- they show the new list, and so the file as it is then
+-- the bytes that are stored show the new list, and so the file as it is then
 pub changed_held : (held : Held) (change : Change) (bytes : List ℕ) → IsState held.state → IsChangeOf held change → bytes ≡ laid_bytes (changed_file held change).state → (record { state = record { old = held.state.old; list = commands_of bytes; high = change.high }; is_edited = true }) ≡ changed_file held change
 changed_held held change bytes is of same =
     let shown : commands_of bytes ≡ list_of held change = ap commands_of same ∙ (laid_shows (changed_file held change).state (changed_is held change is of)).commands in

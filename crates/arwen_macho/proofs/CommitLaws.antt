@@ -33,7 +33,7 @@ drop-zip R (suc n) [] (y ∷ ys) all = absurd all
 drop-zip R (suc n) (x ∷ xs) [] all = absurd all
 drop-zip R (suc n) (x ∷ xs) (y ∷ ys) all = drop-zip R n xs ys all.1
 
--- these changes are left, the first ones of all; those behind them are carried out
+-- the changes that are left are the first ones of all; those behind them are carried out
 pub record Carried (slices : List HeldSlice) (changes : List Change) (copy : List ℕ) (left : List Change) (slices_now : List HeldSlice) (copy_now : List ℕ) : Type 0 where
   pub left_is : left ≡ take (length left) changes
   pub slices_are : slices_now ≡ take (length left) slices ++ changed_machos (drop (length left) slices) (drop (length left) changes)
@@ -100,7 +100,7 @@ last_ready len slices changes copy before left change slices_now copy_now m read
     let Q : List Change → Type 0 = λ l. AllZip (IsReadyIn len) (m ∷ drop (k + 1) slices) l in
     (subst Q last.next (subst P (next_slice slices k m last.some here) (drop-zip (IsReadyIn len) k slices changes ready))).0
 
--- and is carried out
+-- the last change that is left is carried out
 pub one_carried : (len : ℕ) (slices : List HeldSlice) (changes : List Change) (copy : List ℕ) (before left : List Change) (change : Change) (slices_now : List HeldSlice) (copy_now : List ℕ) (m : HeldSlice) → AllZip (IsReadyIn len) slices changes → Carried slices changes copy before slices_now copy_now → before ≡ left ++ change ∷ [] → m ≡ get_or slices_now (length left) m → Carried slices changes copy left (set slices_now (length left) (changed_macho m change)) (put_at m.arch.offset (front_of m change) copy_now)
 one_carried len slices changes copy before left change slices_now copy_now m ready carried pushed is =
     let k : ℕ = length left in

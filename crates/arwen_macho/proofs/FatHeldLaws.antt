@@ -31,7 +31,7 @@ changes_are calls s changes is steps =
           (step_all calls slices changes steps ∙ ap (λ (l : List Slice). Ok l) (changed_shown slices changes));
     }
 
--- they can be carried out
+-- changes that do what the calls do can be carried out
 pub ready_of : (s : Inside) (changes : List Change) → IsFatHeld s → AreChangesOf (fat_held_of s) changes → AllZip (IsReadyIn (length s.source.now)) s.archs.items changes
 ready_of s changes is of =
     let state : FatState = (fat_held_of s).state in

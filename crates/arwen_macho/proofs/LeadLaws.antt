@@ -140,7 +140,7 @@ pub first_bytes : (old : List ℕ) → AreBytes old → container_found old ≡ 
 unfolding container_found
 first_bytes old are found = first_either old (begins_fat old) are found
 
--- those of a file of either shape
+-- where fronts lead a thin file's state, they lead the thin file as a container
 pub lead_on_thin : (calls : List Call) (held : Held) (fronts : List Front) → LeadOn laid_bytes held.state (step calls held.state) fronts → LeadOn container_bytes (SingleArch held) (container_step calls (SingleArch held)) fronts
 unfolding container_step
 lead_on_thin calls held fronts lead = record {

@@ -55,7 +55,7 @@ put-laid_over a part len (s ∷ slices) bytes sized inside long apart lie =
     parts (inl below) = inl (omega arith)
     parts (inr above) = inr above
 
--- and holds what it held
+-- a part that is apart from the slices holds what it held
 pub slice-laid_over : (a : FatArch) (len : ℕ) (slices : List Slice) (bytes : List ℕ) → length bytes ≡ len → ApartFrom a slices → AreLaid len slices → slice_of (bytes_laid_over slices bytes) a ≡ slice_of bytes a
 slice-laid_over a len [] bytes long apart lie = refl
 slice-laid_over a len (s ∷ slices) bytes long apart lie =
@@ -75,7 +75,7 @@ take-laid_over n len (s ∷ slices) bytes long behind lie =
     take-laid_over n len slices (put_at s.arch.offset (laid_bytes s.state) bytes) (placed len s bytes long lie.0) behind.1 lie.1.1
     ∙ take-put_at n s.arch.offset (laid_bytes s.state) bytes behind.0 (omega arith)
 
--- so does what stands in none of them
+-- a position that lies in none of the slices
 abbrev pub OutsideAll : ℕ → List Slice → Type 0
 OutsideAll p [] = ⊤
 OutsideAll p (s ∷ slices) = IsOutside p s.arch × OutsideAll p slices

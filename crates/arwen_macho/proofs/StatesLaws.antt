@@ -149,7 +149,7 @@ pub fresh_is_state : FreshIsState
 unfolding container_found
 fresh_is_state old are found = fresh_either old (begins_fat old) are found
 
--- so what a batch makes of a state shows itself
+-- what a batch makes of a state shows itself
 pub shows_step : (calls : List Call) (old : MachoType) → IsFileState old → All TextsAreBytes calls → StepShows (container_step calls old)
 shows_step calls old is texts = go (container_step calls old) refl
   where

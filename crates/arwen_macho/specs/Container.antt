@@ -84,7 +84,7 @@ AnswersAll (calls ∷ batches) [] file = ⊥
 AnswersAll (calls ∷ batches) (answer ∷ answers) file =
     AnswersBatch calls file answer × AnswersAll batches answers (left_by file (container_step calls file) answer)
 
--- the same of answers in a `Vec`, and what they leave
+-- answers in a `Vec` are each that of its batch upon what the batches before it left, and leave this
 abbrev pub AnswersEach : List (List Call) → MachoType → Vec (Result (Unit {0}) MachoBatchError) Global → Type 0
 AnswersEach batches old answers = AnswersAll batches answers.items old
 

@@ -39,6 +39,6 @@ pub record AreStepOf (calls : List Call) (held : FatHeld) (changes : List Change
   pub of : AreChangesOf held changes
   pub steps : fat_step calls held.state ≡ Ok (fat_changed held changes).state
 
--- the same of changes in a `Vec`
+-- changes of all slices, in a `Vec`, that do what these calls do
 abbrev pub StepsOf : List Call → FatHeld → Vec Change Global → Type 0
 StepsOf calls held changes = AreStepOf calls held changes.items

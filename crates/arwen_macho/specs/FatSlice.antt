@@ -36,7 +36,7 @@ first_macho old arch = record { inner = held_at_read (slice_of old arch); arch =
 abbrev pub IsStepIn : List Call → HeldSlice → Change → Type 0
 IsStepIn calls m change = IsStepOf calls m.inner change
 
--- those of the slices of a fat file
+-- changes of the slices of a fat file, in a `Vec`, that do what these calls do
 abbrev pub AreStepsIn : List Call → List HeldSlice → Vec Change Global → Type 0
 AreStepsIn calls slices changes = AllZip (IsStepIn calls) slices changes.items
 

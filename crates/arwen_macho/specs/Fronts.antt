@@ -56,10 +56,10 @@ pub record IsFrontAt (calls : List Call) (held : Held) (at : ℕ) (front : Front
   pub offset : front.offset ≡ at
   pub bytes : front.bytes.items ≡ take change.high (laid_bytes (changed_file held change).state)
 
--- that of a slice
+-- the front of a slice, after a change that does what these calls do
 abbrev pub IsFrontOf : List Call → HeldSlice → Front → Type 0
 IsFrontOf calls m front = IsFrontAt calls m.inner m.arch.offset front
 
--- those of the slices of a fat file
+-- the fronts of the slices of a fat file, after changes that do what these calls do
 abbrev pub AreFrontsOf : List Call → List HeldSlice → Vec Front Global → Type 0
 AreFrontsOf calls slices fronts = AllZip (IsFrontOf calls) slices fronts.items

@@ -64,7 +64,7 @@ LastDecides =
     (s : State) (calls : List Call) (list : List (List ℕ)) → edited_by (ctx_of s.old) 0 calls s.list ≡ Ok list
     → IsOk (step calls s) ↔ (end_of (ctx_of s.old) list ≤ available s)
 
--- so edits that would be refused for room by themselves may begin a batch that is accepted
+-- edits that would be refused for room by themselves may begin a batch that is accepted
 abbrev pub MiddleMayOverflow : Type 0
 MiddleMayOverflow =
     (s : State) (calls more : List Call) (middle list : List (List ℕ)) → edited_by (ctx_of s.old) 0 calls s.list ≡ Ok middle

@@ -80,7 +80,7 @@ EMPTY_LITTLE = (0x1c ∷ 0 ∷ 0 ∷ 0x80 ∷ 0x10 ∷ 0 ∷ 0 ∷ 0 ∷ 0x0c �
 abbrev pub LIBRARY : DylibCommand
 LIBRARY = record { cmd = LC_LOAD_DYLIB; cmdsize = 0; dylib = record { name = 0; timestamp = 2; current_version = 0x00010203; compatibility_version = 0x00010000 } }
 
--- the same loaded weakly, and as the library's own name
+-- LIBRARY loaded weakly, and as the library's own name
 abbrev pub WEAK : DylibCommand
 WEAK = record LIBRARY { cmd = LC_LOAD_WEAK_DYLIB }
 
@@ -130,7 +130,7 @@ BuildsNameNarrow = (dylib_built narrow_big NAME LIBRARY ≡ Ok NAME_NARROW_BIG) 
 abbrev pub empty_file : List ℕ → List ℕ
 empty_file rest = (0xcf ∷ 0xfa ∷ 0xed ∷ 0xfe ∷ zeros 28) ++ rest
 
--- the same with these bytes as the header's two counts
+-- a file of 64 bits, little, with these bytes as the header's two counts, and these behind the header
 abbrev pub file_with : List ℕ → List ℕ → List ℕ
 file_with counts rest = (0xcf ∷ 0xfa ∷ 0xed ∷ 0xfe ∷ zeros 12) ++ counts ++ zeros 8 ++ rest
 
@@ -212,7 +212,7 @@ ClearsPad =
 abbrev pub RefusesSecond : Type 0
 RefusesSecond = StepRefused (add_rpath PATH_A ∷ remove_rpath ABSENT ∷ []) READ 1 (rpath_missing ABSENT)
 
--- the other three forms
+-- what is read of such a file in the other three forms: 64 bits, big, and 32 bits, little and big
 abbrev pub READ_WIDE_BIG : State
 READ_WIDE_BIG = first_state ((0xfe ∷ 0xed ∷ 0xfa ∷ 0xcf ∷ zeros 28) ++ zeros 32)
 
@@ -259,7 +259,7 @@ RefusesMissing = StepRefused (change_rpath ABSENT PATH_A ∷ []) ADDED 0 (rpath_
 abbrev pub RefusesMissingFirst : Type 0
 RefusesMissingFirst = StepRefused (change_rpath ABSENT BROKEN ∷ []) ADDED 0 (rpath_missing ABSENT)
 
--- what is added stands behind the others
+-- what is added stands behind the commands that are there
 abbrev pub AddsBehind : Type 0
 AddsBehind = edited_list wide_little (add_rpath PATH_A) (built_rpath wide_little PATH_B ∷ []) ≡ Ok (built_rpath wide_little PATH_B ∷ built_rpath wide_little PATH_A ∷ [])
 

@@ -5,7 +5,7 @@ use macho_image::image::Prepared;
 pub struct Fit {
     /// How many they are.
     pub count: u32,
-    /// Their bytes.
+    /// The bytes of the load commands.
     pub area: Vec<u8>,
     /// The furthest offset where commands will ever have ended.
     pub high: usize,

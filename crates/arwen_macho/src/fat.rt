@@ -271,7 +271,8 @@ impl<'a> FatMachoContainer<'a> {
         self.fronts_by(alloc, lent.as_slice())
     }
 
-    // The same of edits with lent texts.
+    // What `apply` of edits with lent texts would write over the file's bytes: the front of each
+    // slice, in their order.
     fn fronts_by(&self, alloc: Global, edits: &[Edit<'_>]) -> Result<Vec<Front>, MachoBatchError>
         requires { AreTexts edits.now }
         ensures ok { IfOk result (LeadFat (calls_lent edits.now) self.now) }

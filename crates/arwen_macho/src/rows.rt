@@ -45,7 +45,7 @@ pub fn pad_is_kept_by_a_batch()
     ensures clears_pad { ClearsPad }
 {}
 
-/// The same in a file of 64 bits, big, and of 32 bits, little and big.
+/// A first rpath fits once in a file of 64 bits, big, and in files of 32 bits, little and big.
 #[tactic(auto, using(crate::proofs::RowLaws::accepts_wide_big, crate::proofs::RowLaws::adds_wide_big, crate::proofs::RowLaws::adds_no_second_wide_big, crate::proofs::RowLaws::accepts_narrow_little, crate::proofs::RowLaws::adds_narrow_little, crate::proofs::RowLaws::adds_no_second_narrow_little, crate::proofs::RowLaws::accepts_narrow_big, crate::proofs::RowLaws::adds_narrow_big, crate::proofs::RowLaws::adds_no_second_narrow_big))]
 pub fn first_rpath_fits_once_in_other_forms()
     ensures accepts_wide_big { AcceptsWideBig }
@@ -75,8 +75,8 @@ pub fn texts_are_compared_whole()
     ensures refuses_shown_as { RefusesShownAs }
 {}
 
-/// What is added stands behind the others. Of equal names the first is removed or changed, and a library
-/// keeps its kind and its numbers.
+/// What is added stands behind the commands that are there. Of equal names the first is removed or
+/// changed, and a library keeps its kind and its numbers.
 #[tactic(auto, using(crate::proofs::RowLaws::adds_behind, crate::proofs::RowLaws::removes_first, crate::proofs::RowLaws::changes_first, crate::proofs::RowLaws::changes_first_library, crate::proofs::RowLaws::changes_first_id))]
 pub fn first_match_is_edited()
     ensures adds_behind { AddsBehind }

@@ -36,7 +36,7 @@ same_next at n old new same =
     ∙ sym (append_assoc (take at new) (take n (drop at new)) (drop (at + n) old))
     ∙ ap (λ (xs : List ℕ). xs ++ drop (at + n) old) (take_sum at n new)
 
--- the same where a part of the first is laid there
+-- the first bytes of one list, and the others of another: more of the first where a part of the first is laid there
 next_over : (at n : ℕ) (old new : List ℕ) → at + n ≤ length new → put_at at (take n (drop at new)) (take at new ++ drop at old) ≡ take (at + n) new ++ drop (at + n) old
 next_over at n old new inside =
     let part : List ℕ = take n (drop at new) in
@@ -81,7 +81,7 @@ module _ (pieces more : List Piece) (p : Piece) (old new : List ℕ) (end : ℕ)
       ∙ next_over at (end - at) old new (omega arith)
       ∙ ap (λ (k : ℕ). take k new ++ drop k old) sum
 
-  -- it stands in the new bytes, and not in the old ones, from which its first block differs
+  -- the piece stands in the new bytes, and not in the old ones, from which its first block differs
   bytes_long : length p.bytes.now ≡ end - p.offset
   bytes_long = ap length is ∙ length-take-le (end - p.offset) (drop p.offset new) (omega (arith, length-drop p.offset new))
 

@@ -40,7 +40,7 @@ all_first most known bytes below first all knows =
     let len : length bytes ≡ length (take most all) = ap length (first all knows) in
     first all knows ∙ take_all most all (omega (arith, length-take most all))
 
--- and so many
+-- bytes that are all of a store's tell its length
 pub all_length : (old new : Option (List ℕ)) (bytes : List ℕ) (n : ℕ) → n ≡ length bytes → Stays old new → IsAll old bytes → HasLength new n
 all_length old new bytes n is kept whole all knows = ap length (sym (whole all (sym kept ∙ knows))) ∙ sym is
 

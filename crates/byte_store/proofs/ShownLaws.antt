@@ -182,7 +182,7 @@ module _ (front part old : List ℕ) (o : ℕ) (ps : List Patch) (inside : o + l
       ∙ ap (λ (xs : List ℕ). get_or xs j 0) makes
       ∙ sym (stands_at target (patch_at o part) j stands (omega arith)))
 
-  -- their copies, behind the offset
+  -- the copies of the patches, behind the offset
   moved_lie : All (LiesIn (length front)) (map (shifted o) ps)
   moved_lie =
       let long : length old ≡ length part = old_long in

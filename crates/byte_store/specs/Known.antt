@@ -55,7 +55,7 @@ resized n bytes = take n bytes ++ replicate (n - length bytes) 0
 abbrev pub Resizes : {T E : Type 0} → ℕ → Result T E → Option (List ℕ) → Option (List ℕ) → Type 0
 Resizes n result old new = MatchResult result (λ _. Becomes (resized n) old new) (λ _. Stays old new)
 
--- these are the first of known bytes
+-- these bytes are the first of known bytes
 abbrev pub IsFront : Option (List ℕ) → List ℕ → Type 0
 IsFront known bytes = (all : List ℕ) → known ≡ Some all → bytes ≡ take (length bytes) all
 

@@ -8,7 +8,7 @@ pub record Patch : Type 0 where
   pub offset : ℕ
   pub bytes : List ℕ
 
--- those of a piece
+-- the patch of a piece
 abbrev pub patch_of : Piece → Patch
 patch_of piece = record { offset = piece.offset; bytes = piece.bytes.now }
 

@@ -16,9 +16,9 @@ use std::io::ErrorKind;
 /// A store whose bytes are in memory.
 #[derive(Debug, Drop)]
 pub struct MemoryStore {
-    /// Its bytes.
+    /// The bytes of the store.
     pub bytes: Vec<u8>,
-    /// Whether it has been opened for writing.
+    /// Whether the store has been opened for writing.
     pub is_open: bool,
     /// How many of its calls failed.
     pub failures: Failures,
@@ -117,7 +117,7 @@ pub struct MemoryFile<'a> {
     pub alloc: Global,
     /// The path of the file.
     pub path: &'a str,
-    /// Its bytes. A store that is opened has a copy of them.
+    /// The bytes of the file. A store that is opened has a copy of them.
     pub bytes: &'a [u8],
 }
 

@@ -211,7 +211,7 @@ fn read_behind<F: Read>(reader: &mut F, buffer: &mut [u8], at: usize) -> io::Res
     reader.read(&mut buffer[at..])
 }
 
-/// The same in an empty buffer.
+/// The first bytes of a store, at most so many, read into an empty buffer.
 fn load_into<S: Store>(store: &mut S, mut bytes: Vec<u8>, most: usize) -> Result<Vec<u8>, ReadError>
     requires { vec_len bytes ≡ 0 }
     ensures read { IfOk result (λ bytes. IsFirst most (S.contents store.old) bytes.items) }

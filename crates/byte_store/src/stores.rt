@@ -15,7 +15,7 @@ pub trait Store {
     // The bytes, where they are known.
     ghost contents: { Self → Option (List ℕ) } = { λ _. None };
 
-    // It has been opened for writing.
+    // The store has been opened for writing.
     ghost is_writable: { Self → Bool };
 
     // How many calls failed, up to `u64::MAX`.

@@ -23,7 +23,7 @@ pub data Kind : Type 0 where
   path_and_words : Kind
   path_and_options : Text → ℕ → Kind
 
--- such values, each in the order of its words
+-- the values of a command, by their kind, each in the order of its words
 pub data Given : Type 0 where
   path : Text → Given
   text : Text → Text → Given
@@ -40,7 +40,7 @@ given_by path_and_words (file ∷ list) = Some (words file list)
 given_by (path_and_options long short) (file ∷ []) = Some (options file [])
 given_by _ _ = None
 
--- the same words, with an empty path where the path stands
+-- the words of values of a kind, with an empty path where the path stands
 abbrev pub with_empty_path : Kind → List Text → List Text
 with_empty_path path_and_words list = [] ∷ list
 with_empty_path _ list = list ++ [] ∷ []

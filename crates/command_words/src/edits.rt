@@ -18,7 +18,7 @@ pub enum EditKind {
     /// The group has no word.
     #[error("Empty")]
     Empty,
-    /// Its first word names no edit.
+    /// The group's first word names no edit.
     #[error("UnknownEdit")]
     UnknownEdit,
     /// The edit takes another number of words.
@@ -85,7 +85,7 @@ impl std::error::Error for EditFault {}
 /// Why words were not read as edits.
 #[derive(Debug, Drop, Error)]
 pub enum EditsError {
-    /// They are no list of edits.
+    /// The words are no list of edits.
     #[error("Fault")]
     Fault(EditFault),
     /// There was no memory.
@@ -235,7 +235,7 @@ fn no_options(alloc: Global) -> Values
     Values::Options(String::new(alloc), Vec::new(alloc))
 }
 
-/// The same words, owned. Error: `AllocError`.
+/// Copies of words, which own their texts. Error: `AllocError`.
 pub fn copies(alloc: Global, words: &[&str]) -> Result<Vec<String>, AllocError>
     ensures { IfOk result (λ copies.
         map string_bytes copies.items ≡ map (λ word. word.now) words.now) }
@@ -256,7 +256,7 @@ fn push_copy(alloc: Global, copies: &mut Vec<String>, word: &str) -> Result<(), 
     Ok(())
 }
 
-/// The same words, lent. Error: `AllocError`.
+/// Words as texts that are lent. Error: `AllocError`.
 pub fn words_of<'a>(alloc: Global, words: &'a [String]) -> Result<Vec<&'a str>, AllocError>
     ensures { IfOk result (λ texts.
         map (λ text. text.now) texts.items ≡ map string_bytes words.now) }
@@ -268,7 +268,7 @@ pub fn words_of<'a>(alloc: Global, words: &'a [String]) -> Result<Vec<&'a str>, 
     Ok(texts)
 }
 
-/// The same text. Error: `AllocError`.
+/// A copy of a text. Error: `AllocError`.
 pub fn copied(alloc: Global, text: &String) -> Result<String, AllocError>
     ensures { IfOk result (λ copy. string_bytes copy ≡ string_bytes text.now) }
 {

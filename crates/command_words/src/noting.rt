@@ -3,7 +3,7 @@
 /// Whether the lines are wanted that tell what a user should know of an edit, each of which begins with `note: `.
 #[derive(Clone, Copy)]
 pub enum Notes {
-    /// They are, of the file as it is before the edit.
+    /// The lines are wanted, of the file as it is before the edit.
     Wanted,
     /// None are.
     LeftOut,

@@ -14,11 +14,11 @@ pub struct Value {
 /// An option of a command, which takes a value and may be given again.
 #[derive(Clone, Copy, Debug)]
 pub struct ValueOption {
-    /// Its long name, which stands behind two hyphens.
+    /// The option's long name, which stands behind two hyphens.
     pub long: &'static str,
-    /// Its short name, which stands behind one.
+    /// The option's short name, which stands behind one hyphen.
     pub short: char,
-    /// Its value.
+    /// The option's value.
     pub value: Value,
 }
 

@@ -19,7 +19,7 @@ pub enum ValueError {
     NoPair {
         /// The word.
         word: String,
-        /// Its place among the words, counted from 1.
+        /// The word's place among the words, counted from 1.
         place: usize,
     },
     /// There was no memory.

@@ -312,7 +312,7 @@ rest_stays (ReplaceLibrary pairs) h k m image = not_both m
 rest_stays AllowDynamicMove h k m image = not_both m
 rest_stays _ h k m image = refl
 
--- and has a list
+-- the image has a list
 there : (task : List ℕ) (image : Image) → cause_if (not (is_some image.entries)) (NoDynamic task) ≡ None → is_some image.entries ≡ true
 there task image h = not_false_is (is_some image.entries) (stands_not (not (is_some image.entries)) (NoDynamic task) h)
 

@@ -29,7 +29,7 @@ all_stay : (es : List Entry) → without_tags [] es ≡ es
 all_stay [] = refl
 all_stay (e ∷ es) = ap (λ l. e ∷ l) (all_stay es)
 
--- those of a first tag go, and then those of the others
+-- the entries of a first tag go, and then those of the other tags
 dropped_in_turn : (tag : ℕ) (tags : List ℕ) (es : List Entry) → without_tags tags (without_tag tag es) ≡ without_tags (tag ∷ tags) es
 dropped_in_turn tag tags [] = refl
 dropped_in_turn tag tags (e ∷ es) = by_test (has_tag tag e)
@@ -135,7 +135,7 @@ tags_dropped edit task old drops =
     by_list machine None = refl
     by_list machine (Some es) = ap Some (sym (drops.entries machine es))
 
--- and has no cause of its own
+-- an edit that drops entries has no cause of its own
 pub drop_is_plain : (edit : Edit) (task : List ℕ) → DropsTags edit task → IsPlain edit task
 unfolding cause first_cause
 drop_is_plain edit task drops = record {

@@ -14,6 +14,6 @@ by_lists None (Some now) h = absurd h
 by_lists (Some read) None h = absurd h
 by_lists (Some read) (Some now) h = h.listed
 
--- its entries may stand before a DT_NULL
+-- the entries of an image that a writer holds may stand before a DT_NULL
 pub lists_entries : (image : Image) → IsEdited image → ListsEntries image
 lists_entries image is = by_lists is.read.entries image.entries is.is_edit.entries

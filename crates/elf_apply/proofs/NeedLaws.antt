@@ -131,7 +131,7 @@ needs_draft pairs image d (Some made) free there is after = record {
   leave = λ _. is_marked image.changed (is_written (record d { needs = Some made })) (needs_mark d made);
 }
 
--- it stands as an edit of the list does
+-- where an edit of the list is free, so is that of the needed versions with the same names
 free_as_needed : (pairs : List (List ℕ × List ℕ)) (image : Image) → IsFree (ReplaceLibrary pairs) (facts_of image) → IsFree (ReplaceNeeded pairs) (facts_of image)
 free_as_needed pairs image free = record { list = free.list; interpreter = free.interpreter; texts = free.texts; own = free.own }
 

@@ -83,7 +83,7 @@ drafted d image = record image {
 abbrev pub stack_flags_of : List SegmentHeader → ℕ
 stack_flags_of segments = unwrap_or (option_map (λ p. p.p_flags) (segment_of_type PT_GNU_STACK segments)) STACK_FLAGS
 
--- the same with what was written
+-- the flags of the stack that were written, or else those of these program headers
 abbrev pub flags_now : Draft → List SegmentHeader → ℕ
 flags_now d segments = unwrap_or d.stack_flags (stack_flags_of segments)
 
@@ -204,7 +204,7 @@ with_tag_dropped tag image = record image {
   entries = option_map (without_tag tag) image.entries;
 }
 
--- the same of several tags, one after the other
+-- the image without the entries of several tags, tag by tag
 unfoldable pub with_tags_dropped : List ℕ → Image → Image
 with_tags_dropped [] image = image
 with_tags_dropped (tag ∷ tags) image = with_tags_dropped tags (with_tag_dropped tag image)

@@ -36,12 +36,13 @@ module _ (S : RattleType) (image : S.Denot → Image) (s : MutBor S.Denot) where
       LendsSo S u32 s r (λ last flags. OnSome r (image last ≡ with_segments (with_stack_flags flags (image s.now).segments) (image s.now)))
       (λ last. image last ≡ image s.now)
 
-  -- the same with a program header that is added where there is none; on an error the image is as it was
+  -- the image is marked, and the program header for the stack, which is added where there is none, has the flags that are written last; on
+  -- an error the image is as it was
   abbrev pub LendsAddedFlags : Result (MutBor ℕ) ElfError → Fml
   LendsAddedFlags r =
       LendsSoOk S u32 s r (λ last flags. image last ≡ with_stack flags (image s.now)) (λ last. image last ≡ image s.now)
 
--- the same of a builder that has such a program header
+-- a builder that has a program header for the stack lends the flags of that
 abbrev pub LendsFlagsThere : MutBor Image → MutBor ℕ → Fml
 LendsFlagsThere s r = Lends (the_row (record { mir = named 1; lft = [] })) u32 s r (λ flags. with_stack flags s.now)
 

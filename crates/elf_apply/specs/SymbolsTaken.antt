@@ -11,7 +11,7 @@ use Rattle.elf_apply.specs.declared.error.ElfError.TheVariants.{Memory, Modify}
 use Rattle.elf_apply.specs.declared.error.ModifyCause.{ModifyCause}
 use Rattle.elf_apply.specs.declared.error.ModifyCause.TheVariants as told
 
--- the cause that is told; the others are no edit's of these
+-- the cause that is told; what stands against no edit of symbols or sections is none
 abbrev pub symbol_cause_told : ModifyCause → Option Cause
 symbol_cause_told told.MipsImage = Some causes.MipsImage
 symbol_cause_told told.NulInText = Some causes.NulInText

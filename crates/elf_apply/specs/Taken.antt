@@ -75,7 +75,7 @@ AnswersAll [] (answer ∷ answers) image = ⊥
 AnswersAll (edits ∷ batches) [] image = ⊥
 AnswersAll (edits ∷ batches) (answer ∷ answers) image = AnswersBatch edits image answer × AnswersAll batches answers (left_upon image (run edits image) answer)
 
--- the same of answers in a `Vec`, and what they leave
+-- answers in a `Vec` are each that of its batch upon what the batches before it left, and leave this
 abbrev pub AnswersEach : List (List Edit) → Image → Vec (Result (Unit {0}) ElfBatchError) Global → Type 0
 AnswersEach batches old answers = AnswersAll batches answers.items old
 

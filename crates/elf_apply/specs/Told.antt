@@ -12,7 +12,7 @@ use Rattle.elf_apply.specs.declared.error.ElfError.TheVariants.{Memory, Modify}
 use Rattle.elf_apply.specs.declared.error.ModifyCause.{ModifyCause}
 use Rattle.elf_apply.specs.declared.error.ModifyCause.TheVariants as told
 
--- the cause that is told, with what its text tells; the others are no edit's of these
+-- the cause that is told, with what its text tells; what stands against no edit of these is none
 abbrev pub cause_told : ModifyCause → Option Cause
 cause_told (told.NoDynamic task) = Some (NoDynamic (words_of task))
 cause_told told.NoInterp = Some NoInterpreter
@@ -42,12 +42,12 @@ abbrev pub TellsCause : ElfError → Result Image Cause → Type 0
 TellsCause (Modify cause) answer = IsRefusedFor (cause_told cause) answer
 TellsCause other answer = ⊥
 
--- the same, or there was no memory
+-- an error tells the cause of a refused edit, or there was no memory
 abbrev pub Refuses : ElfError → Result Image Cause → Type 0
 Refuses Memory answer = Unit {0}
 Refuses other answer = TellsCause other answer
 
--- the same of the edit of a batch with this number
+-- an error tells the cause of the refused edit of a batch with this number, or there was no memory
 abbrev pub RefusesAt : ℕ → ElfError → Result Image Refusal → Type 0
 RefusesAt index Memory answer = Unit {0}
 RefusesAt index (Modify cause) answer = IsRefusedAt index (cause_told cause) answer

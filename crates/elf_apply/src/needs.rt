@@ -12,7 +12,7 @@ use elf_image::{VersionNeed, VersionNeedName};
 use std::alloc::{AllocError, Global};
 use std::collections::HashMap;
 
-// The same version.
+// A copy of a needed version.
 fn copied_version<'data>(
     alloc: Global,
     version: &VersionNeedName<'data>,
@@ -27,7 +27,7 @@ fn copied_version<'data>(
     })
 }
 
-// The same versions.
+// Copies of needed versions.
 fn copied_versions<'data>(
     alloc: Global,
     versions: &[VersionNeedName<'data>],
@@ -55,7 +55,8 @@ fn replaced_need<'data>(
     Ok(VersionNeed { file, versions })
 }
 
-// The same of all libraries, in order.
+// The versions that are needed of all libraries, in order; each library has the name that a map has
+// for its own, if it has one.
 fn replaced_needs<'data>(
     alloc: Global,
     names: &HashMap<&[u8], &[u8]>,

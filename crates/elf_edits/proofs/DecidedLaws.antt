@@ -127,7 +127,7 @@ no_new_name pairs image free fixed =
     sym (ap (list_any (has_new_name pairs)) (cond-false (can_renumber image) [] (names_behind_first image.dynamic_symbols) fixed))
     ∙ stands_not (list_any (has_new_name pairs) (fixed_names image)) CannotRenumber free.own
 
--- so it leaves them, also in symbols that edits before it made
+-- an edit that has no other names for the symbols leaves them, also in symbols that edits before it made
 pub fixed_names_stay : (edit : Edit) (image : Image) (ys : List NamedSymbol) → IsFree edit (facts_of image) → can_renumber image ≡ false → texts_of_symbols ys ≡ texts_of_symbols image.dynamic_symbols → texts_of_symbols (edited_symbols edit ys) ≡ texts_of_symbols ys
 fixed_names_stay edit image ys free fixed same =
     names_stay edit ys (λ pairs is. ap (list_any (has_new_name pairs)) (names_behind ys image.dynamic_symbols same) ∙ no_new_name pairs image (subst (λ (e : Edit). IsFree e (facts_of image)) is free) fixed)

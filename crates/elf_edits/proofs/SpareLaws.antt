@@ -178,7 +178,7 @@ module _ (change : List SegmentHeader → List SegmentHeader) (leaves : LeavesSp
       ∙ ap (λ (n : ℕ). reclaims (list_any is_loaded (without_spare f)) (loads_end (without_spare f)) (others_end f) (filled_in_spare f) (filled_in_sections f) n) (leaves.counted f.segments) in
       same
 
-  -- so it may come before or after spare segments go
+  -- spare segments may go before or after this change
   reclaimed_left : segments_reclaimed then_facts ≡ change (segments_reclaimed f)
   unfolding segments_reclaimed
   reclaimed_left =
@@ -281,7 +281,7 @@ module _ (flags : ℕ → ℕ) where
           ∙ sym (ap (λ (b : Bool). b || list_any test ps) (isnt p is))
       by_type false is rest = ap (λ (b : Bool). test p || b) rest
 
-  -- nor is it counted among the others
+  -- a program header for the stack isn't counted among the others
   others_counted : (ps : List SegmentHeader) → count_others (with_stack_changed flags ps) ≡ count_others ps
   unfolding with_stack_changed
   others_counted [] = refl
@@ -295,7 +295,7 @@ module _ (flags : ℕ → ℕ) where
           count_first (λ q. not (q.p_type == PT_GNU_STACK)) p (with_stack_changed flags ps) ∙ ap (λ (n : ℕ). one_if (not (p.p_type == PT_GNU_STACK)) + n) rest
           ∙ sym (count_first (λ q. not (q.p_type == PT_GNU_STACK)) p ps)
 
-  -- it takes no memory where it is added
+  -- a program header for the stack takes no memory where it is added
   end_behind : (n : ℕ) (ps : List SegmentHeader) → fold max n (map (λ p. end_of (memory_part p)) (with_stack_changed flags ps)) ≡ fold max n (map (λ p. end_of (memory_part p)) ps)
   unfolding with_stack_changed
   end_behind n [] = omega arith
@@ -360,7 +360,7 @@ module _ (f : SpareFacts) where
       by_load true is = eqb-true p.p_type PT_LOAD is
       by_load false isnt = let no : true ≡ false = sym (could_be p gone) ∙ isnt_spare (fixed_end f) f.table p isnt in absurd (cc)
 
-  -- so a test that fails for loaded segments is passed by as many as before
+  -- a test that fails for loaded segments is passed by as many segments as before
   pub others_found : (test : SegmentHeader → Bool) → ((p : SegmentHeader) → p.p_type ≡ PT_LOAD → test p ≡ false) → find test (segments_reclaimed f) ≡ find test f.segments
   unfolding segments_reclaimed
   others_found test isnt = by_all (can_reclaim f)

@@ -117,7 +117,7 @@ is_replaced pairs e = list_any (λ name. is_some (value_of pairs name)) (text_if
 abbrev pub not_needed_yet : List (List ℕ) → List Entry → List (List ℕ)
 not_needed_yet names entries = filter (λ name. not (is_among (needed_names entries) name)) names
 
--- they are put before all entries
+-- the names that are not needed yet are put before all entries
 abbrev pub with_needed_added : List (List ℕ) → List Entry → List Entry
 with_needed_added names entries = map (Text DT_NEEDED) (not_needed_yet names entries) ++ entries
 

@@ -65,7 +65,7 @@ pub record ListsOfBatches : Type 0 where
 abbrev pub IsDoneAtOnce : Edit → Type 0
 IsDoneAtOnce edit = (machine : ℕ) (es : List Entry) → edited_entries machine edit (edited_entries machine edit es) ≡ edited_entries machine edit es
 
--- the same of images: a second time changes nothing, the mark too
+-- what the edit makes of an image it makes once and for all: a second time changes nothing, the mark too
 abbrev pub ChangesNothingAgain : Edit → Type 0
 ChangesNothingAgain edit = (old new : Image) → step edit old ≡ Ok new → step edit new ≡ Ok new
 

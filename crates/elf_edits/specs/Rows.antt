@@ -233,7 +233,7 @@ pub record SymbolRows : Type 0 where
   -- names by their old ones, all at once; versions stay
   pub swapped : edited_symbols swap (plain [] ∷ symbol (codes "f") own ∷ plain (codes "g") ∷ plain (codes "h") ∷ plain (codes "f") ∷ []) ≡ plain [] ∷ symbol (codes "g") own ∷ plain (codes "f") ∷ plain (codes "h") ∷ plain (codes "g") ∷ []
   pub last_pair_counts : edited_symbols (RenameDynamicSymbols ((codes "f", codes "g") ∷ (codes "f", codes "h") ∷ [])) (plain [] ∷ plain (codes "f") ∷ []) ≡ plain [] ∷ plain (codes "h") ∷ []
-  -- those without a name get one, and others lose theirs
+  -- symbols without a name get one, and others lose theirs
   pub empty_name : edited_symbols (RenameDynamicSymbols (([], codes "x") ∷ (codes "f", []) ∷ [])) (plain [] ∷ plain [] ∷ plain (codes "f") ∷ []) ≡ plain [] ∷ plain (codes "x") ∷ plain [] ∷ []
   pub first_keeps_name : edited_symbols (RenameDynamicSymbols ((codes "f", codes "g") ∷ [])) (plain (codes "f") ∷ []) ≡ plain (codes "f") ∷ []
   pub none_there : edited_symbols swap [] ≡ []

@@ -62,7 +62,7 @@ abbrev pub AreSymbolsAfter : Edit → EditedList → Option EditedList → Type 
 AreSymbolsAfter edit old None = touches_symbols edit old.symbols ≡ false
 AreSymbolsAfter edit old (Some new) = (touches_symbols edit old.symbols ≡ true) × (new ≡ record old { symbols = edited_symbols edit old.symbols })
 
--- the same of a change
+-- the symbols after a change where it wrote something; none where it did not
 abbrev pub AreSymbolsChanged : SymbolChange → EditedList → Option EditedList → Type 0
 AreSymbolsChanged change old None = list_any (is_changed change) (drop 1 old.symbols) ≡ false
 AreSymbolsChanged change old (Some new) =

@@ -16,18 +16,18 @@ use std::collections::{HashMap, HashSet};
 // Which entries an edit is about.
 #[derive(Clone, Copy)]
 pub(crate) enum EntryTest<'e, 'n> {
-    // Those that have a run path.
+    // Entries that have a run path.
     RunPath,
-    // Those that have this tag.
+    // Entries that have this tag.
     Tag(u64),
-    // Those that need one of these libraries.
+    // Entries that need one of these libraries.
     Needs(&'e HashSet<&'n [u8]>),
-    // Those that need a library for which there is another name.
+    // Entries that need a library for which there is another name.
     Renamed(&'e HashMap<&'n [u8], &'n [u8]>),
 }
 
 impl EntryTest<'_, '_> {
-    // Whether it is about an entry.
+    // Whether the test tells of an entry that the edit is about it.
     pub(crate) fn holds(&self, entry: &Dynamic<'_>) -> bool
         ensures { result ≡ test_model self.now (entry_model entry.now) }
     {
@@ -39,7 +39,7 @@ impl EntryTest<'_, '_> {
         }
     }
 
-    // Whether it is about one of some entries.
+    // Whether the test tells of one of some entries that the edit is about it.
     pub(crate) fn holds_of_any(&self, entries: &[Dynamic<'_>]) -> bool
         ensures { result ≡ list_any (test_model self.now) (map entry_model entries.now) }
     {
@@ -75,15 +75,15 @@ fn has_new_name(entry: &Dynamic<'_>, names: &HashMap<&[u8], &[u8]>) -> bool
 // What becomes of an entry.
 #[derive(Clone, Copy)]
 pub(crate) enum EntryChange<'e, 'n> {
-    // It has this text.
+    // The entry has this text.
     Text(&'e [u8]),
-    // Each of these directories is added to its text.
+    // Each of these directories is added to the entry's text.
     Directories(&'e [Vec<u8>]),
-    // It has this tag.
+    // The entry has this tag.
     Tag(u64),
-    // Its text is the one that stands for it here, if one does.
+    // The entry's text is the one that stands for it here, if one does.
     Name(&'e HashMap<&'n [u8], &'n [u8]>),
-    // These bits are set in its number.
+    // These bits are set in the entry's number.
     Bits(u64),
 }
 

@@ -49,7 +49,7 @@ pub fn libraries_are_replaced_at_once()
     ensures { LibrariesAreReplacedAtOnce }
 {}
 
-/// The same of the dynamic symbols, which twice swapped are shown as they were.
+/// Dynamic symbols are renamed all at once; twice swapped, they are shown as they were.
 #[tactic(auto, using(crate::proofs::SymbolLaws::symbols_are_renamed_at_once))]
 pub fn symbols_are_renamed_at_once()
     ensures { SymbolsAreRenamedAtOnce }

@@ -144,7 +144,8 @@ fn change_entries<'d>(
     })
 }
 
-// The same of an edit that wrote nothing where it is about no entry.
+// The list with the entries changed that an edit is about, which wrote nothing where it is about no
+// entry.
 fn change_where<'d>(
     alloc: Global,
     test: &EntryTest<'_, '_>,

@@ -16,7 +16,7 @@ use patch_bytes::ByteString;
 use std::alloc::{AllocError, Global};
 use std::collections::HashMap;
 
-// So many symbols are changed without making them ready for it.
+// How many symbols are changed one by one, before all are made ready for changes.
 const FEW: usize = 16;
 
 // What becomes of dynamic symbols.
@@ -106,7 +106,7 @@ fn clear(name: &[u8], edited: &mut EditedSymbols<'_>, i: usize)
 }
 
 impl SymbolChange<'_, '_> {
-    // Whether it is about the symbol at a position.
+    // Whether the change is about the symbol at a position.
     fn is_about(&self, symbols: &SymbolsNow<'_>, i: usize) -> bool
         requires { i < length (symbols_now symbols.now) }
         ensures { option_map (is_changed self.now) (slice_get (symbols_now symbols.now) i)
@@ -133,7 +133,7 @@ impl SymbolChange<'_, '_> {
         None
     }
 
-    // Whether it is about a symbol behind the first.
+    // Whether the change is about a symbol behind the first.
     pub(crate) fn is_about_any(&self, symbols: &SymbolsNow<'_>) -> bool
         ensures { result ≡ list_any (is_changed self.now) (drop 1 (symbols_now symbols.now)) }
     {

@@ -10,7 +10,7 @@ use Rattle.elf_edits.specs.Texts.{directories_in}
 abbrev pub pairs_of : List (List ℕ) → List (List ℕ) → List (List ℕ × List ℕ)
 pairs_of needed directories = flat_map (λ directory. flat_map (λ name. (directory, name) ∷ []) needed) (filter is_absolute directories)
 
--- those that have to be looked for, in the order of the texts
+-- the pairs of a directory and a library that have to be looked for, in the order of the texts
 abbrev pub questions_of : List (List ℕ) → List (List ℕ) → List (List ℕ × List ℕ)
 questions_of needed texts = flat_map (λ text. pairs_of needed (directories_in text)) texts
 

@@ -75,7 +75,7 @@ impl Search<'_> {
         }
     }
 
-    // Puts a directory that goes to the others, with its reason.
+    // Notes a directory that goes, with its reason.
     fn note_removal(
         &self,
         alloc: Global,

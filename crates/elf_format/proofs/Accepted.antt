@@ -85,7 +85,7 @@ parts_made o p h =
     let same : made segments sections ≡ p = same_Some (made segments sections) p last in
     (ap (λ q. q.opened) (sym same), segments_there ∙ ap (λ q. Some q.segments) same, sections_there ∙ ap (λ q. Some q.sections) same)
 
--- the same of parts that pass the rules
+-- parts that pass the rules are those of the file
 met : (file : List ℕ) (p : Parts) (o : Opened) (q q' : Parts) → opened_of file ≡ Some o → is_file_kind o ≡ true → parts_of o ≡ Some q → checked placement_rules q ≡ Ok q' → checked table_rules q ≡ Ok p
     → ArePartsOf file p × MeetsRules p
 met file p o q q' o_there kind q_there placed tabled =

@@ -34,7 +34,7 @@ unfolding segments_of
 length-segments o segments e =
     length-there (segment_header o.form) (segment_header_size o.form) o.header.e_phnum (bytes_in o.file o.header.e_phoff (o.header.e_phnum * segment_header_size o.form)) segments e
 
--- as many section headers (gABI, ELF Header, e_shnum)
+-- as many section headers as the file header says (gABI, ELF Header, e_shnum)
 pub length-sections : (o : Opened) (sections : List SectionHeader) → sections_of o ≡ Some sections → length sections ≡ o.header.e_shnum
 unfolding sections_of
 length-sections o sections e =

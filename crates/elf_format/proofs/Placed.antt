@@ -207,7 +207,7 @@ section-Keeps file segments sections fit apart_parts held s here allocated has_b
     let in_field : slice_get (field s.sh_size s.sh_offset file) a ≡ Some x = ap (λ l. slice_get l a) (sym (section_bytes-is file s has_bytes)) ∙ h in
     range-Keeps file segments fit (and_parts (addresses_apart segments) (all_apart (map file_part loads)) apart_parts).0 (file_range place) s.sh_addr some_holds a x in_field
 
--- the same, by the section's number
+-- the bytes of an allocated section with file bytes, by its number, are those at its address
 pub held_sections_are_seen : HeldSectionsAreSeen
 held_sections_are_seen file segments sections fit apart_parts held i s there allocated has_bytes =
     section-Keeps file segments sections fit apart_parts held s (IsIn-slice_get sections i s there) allocated has_bytes

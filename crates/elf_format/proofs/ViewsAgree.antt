@@ -345,7 +345,7 @@ module _ (p : Parts) (rules : MeetsRules p) (list : SectionHeader) (is_list : se
       first_by_tag-keeps (value_of_tag DT_STRSZ raw) (section_memory (file_of p) strings) (memory_at_tag (byte_at p.segments (file_of p)) (value_of_tag DT_STRTAB raw))
       (tag_keeps p rules DT_STRTAB strings (linked_known p rules list list_known.0 user) named.1 named.0)
 
-  -- and those of each section that shares them
+  -- a loader sees the texts of each section that shares those of the list
   shared_kept : (type : ℕ) (s : SectionHeader) → shares_texts p list type ≡ true → section_of_type type p.sections ≡ Some s
       → Keeps (linked_texts p s) (loaded_strings (byte_at p.segments (file_of p)) (raw_entries p))
   shared_kept type s shared e =
@@ -599,7 +599,7 @@ views_of_parts p parts rules room le =
           ∙ loader_view-parts p parts room count interpreter (interpreters_agree p rules (segment_of_type PT_INTERP p.segments) rules.interpreter) ∙ right,
     )
 
--- the same of an accepted file
+-- both views of an accepted file, with any room from its length on
 views_of_file : (file : List ℕ) (p : Parts) → accepted_parts file ≡ Ok p → (room : ℕ) → length file ≤ room
     → Both (section_view file) (loader_view_within room file (dynamic_symbol_count file))
 views_of_file file p h room le =

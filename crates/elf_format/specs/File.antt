@@ -55,7 +55,7 @@ sections_of o = do
   bytes ← bytes_in o.file o.header.e_shoff (o.header.e_shnum * section_header_size o.form)
   Some (records (section_header o.form) (section_header_size o.form) o.header.e_shnum bytes)
 
--- those section headers that lie in the file
+-- the section headers that lie in the file
 unfoldable pub sections_there : Opened → List SectionHeader
 sections_there o =
     let size = section_header_size o.form in

@@ -204,7 +204,7 @@ shown_outline image = record {
   needs = None;
 }
 
--- the same with these entries, and the tables that they name
+-- what an image shows, with these entries, and the tables that they name
 abbrev pub shown_with_entries : Image → Option (List Entry) → View
 shown_with_entries image es = record (shown_outline image) {
   entries = es;

@@ -3,17 +3,17 @@ use Rattle.std.specs.Prelude.{ℕ, List, [], ◌∷◌, Bool, true, false, Optio
 use Rattle.std.specs.List.{list_any}
 use Rattle.patch_bytes.specs.Memory.{◌>>=◌}
 
--- it is there, and passes the test
+-- a value is there, and passes the test
 abbrev pub is_some_and : {A : Type 0} → (A → Bool) → Option A → Bool
 is_some_and test None = false
 is_some_and test (Some x) = test x
 
--- it passes the test where it is there
+-- a value passes the test where it is there
 abbrev pub is_none_or : {A : Type 0} → (A → Bool) → Option A → Bool
 is_none_or test None = true
 is_none_or test (Some x) = test x
 
--- both are there, and pass a test together, or none is there
+-- two values are both there, and pass a test together, or neither is there
 abbrev pub are_both_or_neither : {A B : Type 0} → (A → B → Bool) → Option A → Option B → Bool
 are_both_or_neither test None None = true
 are_both_or_neither test None (Some y) = false
@@ -48,6 +48,6 @@ each f (x ∷ xs) = do
   ys ← each f xs
   Some (y ∷ ys)
 
--- the number is one of these
+-- the number is one of these numbers
 abbrev pub is_one_of : List ℕ → ℕ → Bool
 is_one_of xs n = list_any (λ x. x == n) xs

@@ -168,7 +168,7 @@ is_opaque_relocation p s =
     p.opened.header.e_machine == EM_MIPS
     || is_none (relocated_symbols p.sections s) && list_any (λ r. not (r.r_symbol == 0)) (relocations_of p s)
 
--- the other relocations are whole, and name symbols of their table, or symbol 0 (gABI, Relocation)
+-- relocations that aren't kept as they are: they are whole, and name symbols of their table, or symbol 0 (gABI, Relocation)
 abbrev pub relocations_fit : Parts → Bool
 relocations_fit p =
     list_all (λ s. s.sh_size % relocation_size p.opened.form s.sh_type == 0
@@ -274,7 +274,7 @@ are_dynamic_tables_right p = is_none_or (λ list. dynamic_tables_agree p list) (
 abbrev pub texts_of : Parts → Option SectionHeader → Memory
 texts_of p section = section_memory (file_of p) section
 
--- the same, as far as DT_STRSZ says where it is there
+-- the texts of a section, as far as DT_STRSZ says where it is there
 abbrev pub dynamic_texts_of : Parts → Option SectionHeader → Memory
 dynamic_texts_of p section = first_by_tag (value_of_tag DT_STRSZ (raw_entries p)) (texts_of p section)
 

@@ -25,7 +25,7 @@ fn low_by_byte(bytes: &[u8]) -> u64
     number
 }
 
-// The same, the highest first.
+// The number that eight bytes at most spell byte by byte, the highest first.
 fn high_by_byte(bytes: &[u8]) -> u64
     requires { length bytes.now ≤ 8 }
     ensures { result ≡ high_first_value bytes.now }
@@ -52,7 +52,8 @@ fn low_first(bytes: &[u8]) -> u64
     }
 }
 
-// The same, the highest first.
+// The number that eight bytes at most spell, the highest first: at once where they are a whole
+// field.
 #[inline(always)]
 fn high_first(bytes: &[u8]) -> u64
     requires { length bytes.now ≤ 8 }
@@ -110,7 +111,8 @@ pub fn read_field(form: Form, bytes: &[u8], narrow: (usize, usize), wide: (usize
     }
 }
 
-// The same for a field of four bytes, of two and of one.
+// The number in a field of four bytes that has one position in 32-bit files and another in 64-bit
+// files.
 #[inline(always)]
 fn word(form: Form, bytes: &[u8], narrow: usize, wide: usize) -> u32
     ensures { result ≡ field_of form (narrow, 4) (wide, 4) bytes.now }

@@ -19,14 +19,14 @@ impl Range {
         self.start as u128 + self.size as u128
     }
 
-    /// Whether it lies in another range, an empty one too.
+    /// Whether the range lies in another one; an empty range has to lie there too.
     pub fn lies_in(self, outer: Range) -> bool
         ensures { result ≡ lies_in self outer }
     {
         outer.start <= self.start && self.end() <= outer.end()
     }
 
-    /// Whether it shares no place with another range; an empty one shares none with any.
+    /// Whether the range shares no place with another one; an empty one shares none with any.
     pub fn is_apart(self, other: Range) -> bool
         ensures { result ≡ apart self other }
     {

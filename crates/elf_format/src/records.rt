@@ -43,7 +43,7 @@ impl SegmentHeader {
     ghost use Rattle.elf_format.specs.File.{is_loaded};
     ghost use Rattle.elf_format.specs.Places.{place_of};
 
-    /// Whether it is loaded (gABI, Program Header, `PT_LOAD`).
+    /// Whether the segment is loaded (gABI, Program Header, `PT_LOAD`).
     pub fn is_loaded(self) -> bool
         ensures { result ≡ is_loaded self }
     {
@@ -111,43 +111,44 @@ impl SectionHeader {
         }
     }
 
-    /// Whether it takes up memory when the program runs (gABI, Sections, `SHF_ALLOC`).
+    /// Whether the section takes up memory when the program runs (gABI, Sections, `SHF_ALLOC`).
     pub fn is_allocated(self) -> bool
         ensures { result ≡ is_allocated self }
     {
         self.sh_flags & SHF_ALLOC != 0
     }
 
-    /// Whether it takes up bytes of the file (gABI, Sections: `SHT_NULL` and `SHT_NOBITS` don't).
+    /// Whether the section takes up bytes of the file (gABI, Sections: `SHT_NULL` and `SHT_NOBITS`
+    /// don't).
     pub fn has_file_bytes(self) -> bool
         ensures { result ≡ has_file_bytes self }
     {
         self.sh_type != SHT_NULL && self.sh_type != SHT_NOBITS
     }
 
-    /// Whether it is allocated and has bytes, and has them in the file.
+    /// Whether the section is allocated and has bytes, and has them in the file.
     pub fn is_stored(self) -> bool
         ensures { result ≡ is_stored (place_of self) }
     {
         self.is_allocated() && self.has_file_bytes() && self.sh_size != 0
     }
 
-    /// Whether it is allocated and has zeros in place of bytes in the file, and isn't of threads (gABI, Sections,
-    /// `SHT_NOBITS` and `SHF_TLS`).
+    /// Whether the section is allocated and has zeros in place of bytes in the file, and isn't of
+    /// threads (gABI, Sections, `SHT_NOBITS` and `SHF_TLS`).
     pub fn is_uninitialized(self) -> bool
         ensures { result ≡ is_uninitialized (place_of self) }
     {
         self.sh_type == SHT_NOBITS && self.is_allocated() && self.sh_flags & SHF_TLS == 0
     }
 
-    /// Whether it is a symbol table (gABI, Sections, `SHT_SYMTAB` and `SHT_DYNSYM`).
+    /// Whether the section is a symbol table (gABI, Sections, `SHT_SYMTAB` and `SHT_DYNSYM`).
     pub fn is_symbol_table(self) -> bool
         ensures { result ≡ is_symbol_table self }
     {
         self.sh_type == SHT_SYMTAB || self.sh_type == SHT_DYNSYM
     }
 
-    /// Whether it has relocations (gABI, Sections, `SHT_REL` and `SHT_RELA`).
+    /// Whether the section has relocations (gABI, Sections, `SHT_REL` and `SHT_RELA`).
     pub fn is_relocation_section(self) -> bool
         ensures { result ≡ is_relocation_section self }
     {

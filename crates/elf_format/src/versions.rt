@@ -6,7 +6,7 @@ use std::marker::Model;
 pub struct RawDefinition {
     /// The index by which symbols name it.
     pub index: u16,
-    /// Its flags.
+    /// The version's flags.
     pub flags: u16,
     /// The offsets of its names.
     pub names: Vec<u32>,

@@ -15,7 +15,7 @@ use Rattle.elf_hashes.proofs.ListLaws.{mapped_by_all}
 pub hash-at : (hashes : List (Option ℕ)) (i : ℕ) (o : Option ℕ) → i < length hashes → get_or hashes i None ≡ o → drop i hashes ≡ o ∷ drop (i + 1) hashes
 hash-at hashes i o inside at = drop_more hashes i None inside ∙ ap (λ v. v ∷ drop (i + 1) hashes) at
 
--- its bucket, with those behind it
+-- the bucket of a symbol, with those of the symbols behind it
 bucket-at : (n : ℕ) (hashes : List (Option ℕ)) (i : ℕ) (o : Option ℕ) → i < length hashes → get_or hashes i None ≡ o
     → drop i (in_buckets n hashes) ≡ option_map (λ (h : ℕ). h % n) o ∷ drop (i + 1) (in_buckets n hashes)
 bucket-at n hashes i o inside at =

@@ -47,7 +47,7 @@ word-below form sizes k (Some hash ∷ hashes) = by_test (hash / filter_bits for
     by_test true below = or_lt (filter_bits form) (filter_word_of form sizes k hashes) (bits_of form sizes.filter_shift hash) below (bits-below form sizes.filter_shift hash)
     by_test false below = below
 
--- they fit a word of the class
+-- the words of the filter fit a word of the class
 pub word-fits : (form : Form) (sizes : GnuSizes) (k : ℕ) (hashes : List (Option ℕ)) → filter_word_of form sizes k hashes < 256 ^ word_size form.wide
 word-fits form sizes k hashes = by_wide form.wide (filter_word_of form sizes k hashes) (word-below form sizes k hashes)
   where

@@ -1,5 +1,5 @@
--- For callers: what the crates above may cite. These are laws of the words of specs/; no other module of this
--- crate's proofs is meant for them.
+-- For callers: what the crates above may cite. These are laws of the words of specs/; of the other modules GabiLaws,
+-- GnuLaws, OrderLaws and SizeLaws are each for one crate above.
 
 -- symbols as they stand, and an order of symbols each of which is changed
 pub use Rattle.elf_hashes.proofs.InOrder.{counted-once, in_order-counted, map-in_order}

@@ -12,7 +12,7 @@ use Rattle.elf_hashes.proofs.ChainSteps.{hash-at}
 
 -- ## A word
 
--- its lowest bit says whether it is the last, and the others are those of the hash
+-- the lowest bit of a word says whether it is the last, and the others are those of the hash
 abbrev pub bit-for : Bool → ℕ
 bit-for last = if last then 1 else 0
 

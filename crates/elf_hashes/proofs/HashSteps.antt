@@ -74,7 +74,7 @@ unfolding hashed_names
 hashes-none hash ys [] none = refl
 hashes-none hash ys (k ∷ order) none = absurd (omega (arith, none))
 
--- as many as symbols
+-- as many symbols in order as the order has positions
 pub length-in_order : (ys : List NamedSymbol) (order : List ℕ) → ArePlaces ys order → length (in_order ys order) ≡ length order
 length-in_order ys [] places = refl
 length-in_order ys (k ∷ order) places =
@@ -102,7 +102,7 @@ taken-more xs was now i x at before step =
     step ∙ ap (λ l. l ++ x ∷ []) before
     ∙ sym (take_more xs i x (slice_get_within xs i x at) ∙ ap (λ v. take i xs ++ v ∷ []) (get_or_from_slice_get xs i x x at))
 
--- as many as positions
+-- as many hashes as the order has positions
 pub length-made : (hash : List ℕ → ℕ) (ys : List NamedSymbol) (order : List ℕ) (hashes : List (Option ℕ)) → ArePlaces ys order
     → hashes ≡ hashes_of hash (hashed_names (in_order ys order)) → length hashes ≡ length order
 length-made hash ys order hashes places is = ap length is ∙ length-hashes hash (in_order ys order) ∙ length-in_order ys order places

@@ -182,7 +182,7 @@ found-in_bucket buckets bucket y is =
     ap (λ (t : Bool). option_map (λ (h : ℕ). h % buckets) (option_map gnu_hash (if t then Some y.name else None))) found
     ∙ ap (λ (n : ℕ). Some n) (eqb-true (gnu_hash y.name % buckets) bucket same)
 
--- those of a group that stands in no bucket
+-- symbols of a group that stands in no bucket, before symbols by buckets
 none-before : (buckets : ℕ) (test : NamedSymbol → Bool) → ((y : NamedSymbol) → test y ≡ true → bucket_of buckets y ≡ None) → (ys : List NamedSymbol) (rest : List (Option ℕ))
     → AreBucketed rest → AreBucketed (buckets_behind buckets (filter test ys) ++ rest)
 none-before buckets test none [] rest bucketed = bucketed
@@ -196,7 +196,7 @@ none-before buckets test none (y ∷ ys) rest bucketed = by_test (test y) refl (
         subst AreBucketed (sym all) (bucketed-behind (buckets_behind buckets (filter test ys) ++ rest) more)
     by_test false is more = more
 
--- those of one bucket
+-- symbols of one bucket, by rising buckets
 one-rises : (buckets bucket : ℕ) (ys : List NamedSymbol) → RiseIn bucket (bucket + 1) (buckets_behind buckets (filter (is_found_in buckets bucket) ys))
 unfolding RiseIn
 one-rises buckets bucket [] = tt
@@ -211,7 +211,7 @@ one-rises buckets bucket (y ∷ ys) = by_test (is_found_in buckets bucket y) ref
         subst (RiseIn bucket (bucket + 1)) (sym all) (omega arith, omega arith, more)
     by_test false is more = more
 
--- those of the first buckets, so many of them
+-- symbols of so many buckets, the first ones, by rising buckets
 all-rise : (buckets n : ℕ) (ys : List NamedSymbol) → RiseIn 0 n (buckets_behind buckets (flat_map (λ bucket. filter (is_found_in buckets bucket) ys) (counted n)))
 unfolding RiseIn counted
 all-rise buckets zero ys = tt

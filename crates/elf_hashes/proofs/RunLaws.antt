@@ -48,7 +48,7 @@ run_only b xs first i is_first some from_first on =
     ap (slice_get xs) (sym end)
     ∙ along b xs first (i - first) (ap (slice_get xs) same ∙ there) (λ j from less here. on j from (omega (arith, less, end)) here)
 
--- between two of a bucket stand only such
+-- between two symbols of a bucket stand only symbols of that bucket
 between : (xs : List (Option ℕ)) (b e j i : ℕ) → AreBucketed xs → slice_get xs e ≡ Some (Some b) → slice_get xs i ≡ Some (Some b) → e ≤ j → j ≤ i → slice_get xs j ≡ Some (Some b)
 between xs b e j i ordered at_e at_i from less = elim (cases_lt e j) [
   | inr past ↦ (let same : j ≡ e = omega (arith, past, from) in ap (slice_get xs) same ∙ at_e)

@@ -17,7 +17,7 @@ pub record IsSeenAlike (y z : NamedSymbol) : Type 0 where
   pub bound : y.st_info ≡ z.st_info
   pub defined : (y.st_shndx == 0) ≡ (z.st_shndx == 0)
 
--- they see the same of two lists, symbol by symbol
+-- look-ups and the order by buckets see the same of two lists, symbol by symbol
 abbrev pub AreSeenAlike : List NamedSymbol → List NamedSymbol → Type 0
 AreSeenAlike ys zs = (i : ℕ) (y z : NamedSymbol) → slice_get ys i ≡ Some y → slice_get zs i ≡ Some z → IsSeenAlike y z
 
@@ -67,7 +67,7 @@ places-alike test same i (y ∷ ys) (z ∷ zs) long alike =
     ap (λ (t : Bool). if t then i ∷ more else more) (same y z (alike 0 y z refl refl))
     ∙ ap (λ l. if test z then i ∷ l else l) (places-alike test same (i + 1) ys zs (omega (arith, long)) (behind-alike y z ys zs alike))
 
--- they have the same names in hash tables
+-- lists of which look-ups see the same have the same names in hash tables
 pub hashed_names-alike : (ys zs : List NamedSymbol) → length ys ≡ length zs → AreSeenAlike ys zs → hashed_names ys ≡ hashed_names zs
 unfolding hashed_names
 hashed_names-alike [] [] long alike = refl
@@ -76,7 +76,7 @@ hashed_names-alike (y ∷ ys) [] long alike = absurd (omega (arith, long))
 hashed_names-alike (y ∷ ys) (z ∷ zs) long alike =
     ap (λ l. None ∷ l) (names-alike ys zs (omega (arith, long)) (behind-alike y z ys zs alike))
 
--- they stand at the same places by buckets
+-- lists of which look-ups see the same have their symbols at the same places by buckets
 pub places_by_bucket-alike : (buckets : ℕ) (ys zs : List NamedSymbol) → length ys ≡ length zs → AreSeenAlike ys zs → places_by_bucket buckets ys ≡ places_by_bucket buckets zs
 unfolding places_by_bucket
 places_by_bucket-alike buckets [] [] long alike = refl

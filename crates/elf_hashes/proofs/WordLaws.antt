@@ -38,7 +38,7 @@ number_there order n (w ∷ ws) back (suc k) x at fits =
     ∙ number_at-append_right order n n (n * k) (bytes_of order n w) (fields order (as_wide n ws) ++ back) (length-bytes_of order n w)
     ∙ number_there order n ws back k x at fits
 
--- it ends where they end
+-- the number at a position ends within all numbers
 ends_within : (n : ℕ) (ws : List ℕ) (k x : ℕ) → slice_get ws k ≡ Some x → n * k + n ≤ n * length ws
 ends_within n [] k x at = absurd (none-some x at)
 ends_within n (w ∷ ws) zero x at = omega arith
@@ -59,7 +59,7 @@ pub record StandIn (order : ByteOrder2) (n at : ℕ) (ws table : List ℕ) : Typ
   pub long : length front ≡ at
   pub whole : table ≡ front ++ (fields order (as_wide n ws) ++ back)
 
--- each of them is read in a memory that keeps the table
+-- each number of a table is read in a memory that keeps the table
 pub word_held : (order : ByteOrder2) (n at : ℕ) (ws table : List ℕ) (m : Memory) (k x : ℕ) → StandIn order n at ws table → Keeps (memory_of table) m
     → slice_get ws k ≡ Some x → x < 256 ^ n → number_in order n m (at + n * k) ≡ Some x
 word_held order n at ws table m k x stand held there fits =

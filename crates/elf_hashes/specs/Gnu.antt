@@ -64,7 +64,7 @@ gnu_words buckets (Some hash ∷ hashes) = word_of buckets hash hashes ∷ gnu_w
 
 -- ## The table
 
--- its bytes: header, filter, the first symbol of each bucket, and the words of the symbols
+-- the bytes of a GNU hash table: header, filter, the first symbol of each bucket, and the words of the symbols
 abbrev pub gnu_table : Form → GnuSizes → List (Option ℕ) → List ℕ
 gnu_table form sizes hashes =
     fields form.order (words (header_words (header_of sizes hashes)))

@@ -30,7 +30,8 @@ places_by_bucket buckets (first ∷ rest) =
     0 ∷ (places_where is_local 1 rest ++ places_where is_sought 1 rest
     ++ flat_map (λ bucket. places_where (is_found_in buckets bucket) 1 rest) (counted buckets))
 
--- These positions are those of that order, each symbol's once; and in that order symbols stand by rising buckets.
+-- The positions by buckets are those of the symbols ordered by buckets, each symbol's once; and in that order symbols stand by rising
+-- buckets.
 pub record OrdersByBucket : Type 0 where
   pub ordered : (buckets : ℕ) (ys : List NamedSymbol) → in_order ys (places_by_bucket buckets ys) ≡ by_bucket buckets ys
   pub are_places : (buckets : ℕ) (ys : List NamedSymbol) → ArePlaces ys (places_by_bucket buckets ys)

@@ -15,9 +15,9 @@ use std::alloc::{AllocError, Global};
 // The hash that a table goes by.
 #[derive(Clone, Copy)]
 pub enum Hashing {
-    // That of the gABI.
+    // The hash of the gABI.
     Gabi,
-    // That of GNU.
+    // The hash of GNU.
     Gnu,
 }
 

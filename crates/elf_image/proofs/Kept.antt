@@ -16,7 +16,7 @@ use Rattle.elf_image.specs.Edited.{AreEntriesOf, AreSegments, IsEdited, IsInterp
 
 -- ## What is there leans on nothing that went
 
--- the same sections and symbols, with an interpreter where there was one and there is its program header
+-- an image with the same sections and symbols is complete, with an interpreter where there was one and there is its program header
 complete_with : (read image : Image) (changed : Bool) (header : Header) (segments : List SegmentHeader) (entries : Option (List Entry)) (interpreter : Option (List ℕ)) (size : Option ℕ)
     → is_some interpreter ≡ is_some image.interpreter → is_some (segment_of_type PT_INTERP segments) ≡ is_some (segment_of_type PT_INTERP image.segments) → IsComplete read image
     → IsComplete read (record image { changed = changed; header = header; segments = segments; entries = entries; interpreter = interpreter; page_size = size })
@@ -37,7 +37,7 @@ complete_with read image changed header segments entries interpreter size same_i
 
 -- ## Parts of an image, one at a time
 
--- another dynamic list, that is one of what was read where the one before is
+-- an image with another dynamic list, that is one of what was read where the one before is
 pub with_entries : (image : Image) (new : Option (List Entry)) → IsEdited image → ((read : Option (List Entry)) → AreEntriesOf read image.entries → AreEntriesOf read new)
     → IsEdited (record image { changed = true; entries = new })
 with_entries image new h step = record {
@@ -87,7 +87,7 @@ interpreter_set None None bytes there no_nul h = absurd (true≢false (sym there
 interpreter_set None (Some now) bytes there no_nul h = absurd h
 interpreter_set (Some read) now bytes there no_nul h = inr no_nul
 
--- another interpreter
+-- an image with another interpreter
 pub with_interpreter : (image : Image) (bytes : List ℕ) → IsEdited image → IsSome image.interpreter → IsTrue (not (holds_nul (all_but_last bytes)))
     → IsEdited (record image { changed = true; interpreter = Some bytes })
 with_interpreter image bytes h there no_nul = record {
@@ -109,7 +109,7 @@ with_interpreter image bytes h there no_nul = record {
   };
 }
 
--- the same sections and symbols, with other records of needed versions
+-- an image with the same sections and symbols is complete with other records of needed versions
 pub needs_complete : (read image : Image) (needs : List VersionNeeds) → IsComplete read image
     → IsComplete read (record image { changed = true; needs = needs })
 needs_complete read image needs h = record {
@@ -127,7 +127,7 @@ needs_complete read image needs h = record {
   interpreter_section = h.interpreter_section;
 }
 
--- another ABI
+-- an image with another ABI
 pub with_os_abi : (image : Image) (byte : ℕ) → IsEdited image → IsEdited (record image { changed = true; header = record image.header { os_abi = byte } })
 with_os_abi image byte h = record {
   read = h.read;

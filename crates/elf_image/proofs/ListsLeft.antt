@@ -16,7 +16,7 @@ contains_cons y xs x has = (suc has.0, omega (arith, has.1), has.2)
 pub contains_first : {A : Type 0} (x : A) (xs : List A) → Contains (x ∷ xs) x
 contains_first x xs = (0, omega arith, refl)
 
--- it is the first, or one of the others
+-- what a list contains is its first element, or one of the others
 pub contains_cases : {A : Type 0} (y : A) (xs : List A) (x : A) → Contains (y ∷ xs) x → (y ≡ x) ⊎ Contains xs x
 contains_cases y xs x (zero, less, is) = inl is
 contains_cases y xs x (suc i, less, is) = inr (i, omega (arith, less), is)

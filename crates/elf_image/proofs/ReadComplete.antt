@@ -210,12 +210,12 @@ module _ (p : Parts) (file : List ℕ) (parts : ArePartsOf file p) (rules : Meet
   within : (i : ℕ) → i < length (kept_sections image) → i < length image.sections
   within i less = omega (arith, less, length-kept image long)
 
-  -- it is that of a header
+  -- a section that is there is that of a header, at its place
   header_at : (i : ℕ) (d : KeptSection) → i < length image.sections
       → (s : SectionHeader) × (slice_get p.sections i ≡ Some s) × IsSectionOf p s (get_or image.sections i d.section)
   header_at i d less = holds.sections.each i (get_or image.sections i d.section) (slice_get-get_or image.sections i d.section less)
 
-  -- so each that is there
+  -- each section that is there is that of a header
   IsKeptOf : KeptSection → Type 0
   IsKeptOf k = (s : SectionHeader) × (slice_get p.sections k.number ≡ Some s) × IsSectionOf p s k.section
 
@@ -279,7 +279,7 @@ module _ (p : Parts) (file : List ℕ) (parts : ArePartsOf file p) (rules : Meet
 
   -- ## Symbols
 
-  -- so many are in a table as its header says
+  -- as many symbols are in a table as its section's header says
   counted_symbols : (type : ℕ) → (not (type == 0) && not (type == 8)) ≡ true → (s : SectionHeader) → section_of_type type p.sections ≡ Some s
       → length (symbols_of p s) ≡ s.sh_size / symbol_size p.opened.form
   counted_symbols type filled s is =

@@ -44,7 +44,7 @@ unnamed_from at [] ss = refl
 unnamed_from at (n ∷ ns) [] = refl
 unnamed_from at (n ∷ ns) (s ∷ ss) = ap (λ l. (n, nameless s) ∷ l) (unnamed_from (at + 1) ns ss)
 
--- those with numbers that don't go
+-- the pairs of numbers and sections with numbers that don't go
 pub pairs_left : (keep : ℕ → Bool) (ns : List ℕ) (ss : List ImageSection) → length ns ≡ length ss
     → pairs (filter keep ns) (items_where_true (map keep ns) ss) ≡ filter (λ x. keep x.0) (pairs ns ss)
 pairs_left keep [] [] long = refl
@@ -239,7 +239,7 @@ module _ (read image : Image) (counts : read.section_numbers ≡ counted (length
       } in
       (k, find_first passes_test (kept_sections image) has.0 k is, same)
 
-  -- and none passes where none did at read
+  -- no section passes where none did at read
   pub none_now : find passes_test (kept_sections read) ≡ None → find passes_test (kept_sections image) ≡ None
   none_now none = by_found (find passes_test (kept_sections image)) refl
     where

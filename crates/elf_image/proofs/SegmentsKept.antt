@@ -191,7 +191,7 @@ type_flagged type flags (p ∷ ps) = by_stack (p.p_type == PT_GNU_STACK) (type_f
     by_stack true more = there_by (p.p_type == type) (record p { p_flags = flags }) p (segment_of_type type ps) (segment_of_type type ps) refl
     by_stack false more = there_by (p.p_type == type) p p (segment_of_type type (with_stack_flags flags ps)) (segment_of_type type ps) more
 
--- and behind an added program header for the stack
+-- program headers of the interpreter stay where one for the stack is added
 pub type_added : (flags : ℕ) (ps : List SegmentHeader) → is_some (segment_of_type PT_INTERP (with_stack_added flags ps)) ≡ is_some (segment_of_type PT_INTERP ps)
 type_added flags [] = refl
 type_added flags (p ∷ ps) = there_by (p.p_type == PT_INTERP) p p (segment_of_type PT_INTERP (with_stack_added flags ps)) (segment_of_type PT_INTERP ps) (type_added flags ps)

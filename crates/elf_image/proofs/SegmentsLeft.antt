@@ -99,18 +99,18 @@ segments_without image gone table size read h =
 abbrev pub is_interpreter : SegmentHeader → Bool
 is_interpreter p = p.p_type == PT_INTERP
 
--- whether it is deserted is told by the interpreter's section
+-- whether the interpreter's program header is deserted is told by the interpreter's section
 interpreter_deserted : (image : Image) (gone : List ℕ) (p : SegmentHeader) → is_interpreter p ≡ true → is_deserted image gone p ≡ does_interpreter_go gone image
 interpreter_deserted image gone p is =
     ap (λ (b : Bool). if b then does_interpreter_go gone image else not (is_one_of (PT_LOAD ∷ PT_DYNAMIC ∷ PT_GNU_STACK ∷ []) p.p_type)
     && list_any (λ s. begins_in p s.section) (going gone image) && not (list_any (λ s. begins_in p s.section) (staying gone image))) is
 
--- it stays with the section
+-- the interpreter's program header stays with the section
 pub interpreter_stays : (image : Image) (gone : List ℕ) → does_interpreter_go gone image ≡ false → segment_of_type PT_INTERP (segments_left gone image) ≡ segment_of_type PT_INTERP image.segments
 interpreter_stays image gone stays =
     find_left (λ p. not (is_deserted image gone p)) is_interpreter image.segments (λ p has is. ap not (interpreter_deserted image gone p is ∙ stays))
 
--- and goes with it
+-- the interpreter's program header goes with the section
 pub interpreter_gone : (image : Image) (gone : List ℕ) → does_interpreter_go gone image ≡ true → segment_of_type PT_INTERP (segments_left gone image) ≡ None
 interpreter_gone image gone goes = by_found (segment_of_type PT_INTERP (segments_left gone image)) refl
   where

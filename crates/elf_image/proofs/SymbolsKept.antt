@@ -206,7 +206,7 @@ with_dynamic_symbol_named image i name whole renumbers h =
     (All-changed_at (λ y. has_section image y ≡ true) (with_name name) (λ y there. there) i image.dynamic_symbols h.is_edit.complete.dynamic_sections)
     (λ _. renumbers)
 
--- its version is cleared
+-- the version of the symbol for a loader at a position is cleared
 pub with_version_cleared : (image : Image) (i : ℕ) → IsEdited image → IsEdited (record image { changed = true; dynamic_symbols = changed_at i with_global_version image.dynamic_symbols })
 with_version_cleared image i h =
     with_symbols image (record { read = image.dynamic_symbols; numbers = image.dynamic_symbol_numbers; symbols = changed_at i with_global_version image.dynamic_symbols }) h
@@ -369,7 +369,7 @@ none_left numbers left now (y ∷ new) long same there none =
     let empty : length now ≡ 0 = ap length none in
     absurd (omega (arith, has.1, long, empty))
 
--- the same of the static symbols
+-- the static symbols that an edit gives in place of those that are there
 pub static_put_is_edited : (image : Image) (edited : EditedList) → IsEdited image → IsStaticPutFor image edited → AreEditedSymbols edited → IsEdited (with_static_symbols edited image)
 static_put_is_edited image edited h put are =
     let picked : ArePicked IsSameSymbol h.read.symbols edited.numbers edited.symbols = static_picked image.source h.read edited h.is_read (put.read h.read h.is_read) are in

@@ -79,7 +79,7 @@ module _ (table end : ℕ) where
     | inr gone ↦ went_count f other old olds (p ∷ ps) gone.0 (count_unclaimed f other olds (p ∷ ps) gone.1)
   ]
 
-  -- and so is whether there is one
+  -- whether one of the program headers passes a test stays
   pub any_unclaimed : (f : SegmentHeader → Bool) → ((p : SegmentHeader) → p.p_type ≡ PT_LOAD → f p ≡ false) → (olds ps : List SegmentHeader)
       → AreUnclaimed table end olds ps → list_any f ps ≡ list_any f olds
   any_unclaimed f other [] [] h = refl
@@ -122,7 +122,7 @@ ends_aligned n (p ∷ ps) = by_load (is_loaded p) (ends_aligned n ps)
     by_load true same = ap (λ (ns : List ℕ). end_of (memory_part p) ∷ ns) same
     by_load false same = same
 
--- another alignment
+-- the loaded segments with another alignment
 pub end_aligned : (n : ℕ) (ps : List SegmentHeader) → loads_end (with_load_align n ps) ≡ loads_end ps
 end_aligned n ps = ap (λ (ns : List ℕ). fold max 0 ns) (ends_aligned n ps)
 

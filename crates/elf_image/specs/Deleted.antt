@@ -21,7 +21,7 @@ is_left gone number = not (is_one_of gone number)
 abbrev pub numbers_left : List ℕ → List ℕ → List ℕ
 numbers_left gone numbers = filter (is_left gone) numbers
 
--- those of some parts of a file, each with its number at read, that don't go
+-- those of some parts of a file, each with its number at read, of which the number doesn't go
 abbrev pub parts_left : {A : Type 0} → List ℕ → List ℕ → List A → List A
 parts_left gone numbers parts = items_where_true (map (is_left gone) numbers) parts
 

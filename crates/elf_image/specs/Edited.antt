@@ -73,7 +73,7 @@ pub record IsReclaimed (table end : ℕ) (old : SegmentHeader) : Type 0 where
   pub no_header : old.p_offset ≢ 0
   pub no_table : has_place table old ≡ false
 
--- those that were read, in their order, of which such ones may have gone
+-- the loaded segments that were read, in their order, without some that an edit took away
 abbrev pub AreUnclaimed : ℕ → ℕ → List SegmentHeader → List SegmentHeader → Type 0
 AreUnclaimed table end [] [] = Unit {0}
 AreUnclaimed table end [] (p ∷ ps) = ⊥
@@ -91,11 +91,11 @@ kept_segment page_size flags old = record old {
   p_align = if old.p_type == PT_LOAD then unwrap_or page_size old.p_align else old.p_align;
 }
 
--- but for those, neither what is loaded nor the program headers of the dynamic list and of the stack go
+-- a program header may go with sections: it is for nothing that is loaded, nor for the dynamic list or the stack
 abbrev pub CanGo : SegmentHeader → Type 0
 CanGo old = (old.p_type ≢ PT_LOAD) × (old.p_type ≢ PT_DYNAMIC) × (old.p_type ≢ PT_GNU_STACK)
 
--- those that were read, in their order: some have gone, the others are as they are kept
+-- the program headers that were read, in their order: some have gone, the others are as they are kept
 abbrev pub AreKept : Option ℕ → List SegmentHeader → List SegmentHeader → Type 0
 AreKept page_size [] [] = Unit {0}
 AreKept page_size [] (p ∷ ps) = ⊥

@@ -3,5 +3,5 @@
 pub use Rattle.elf_image_parts.specs.PartModels.{entry_model, section_model, segment_model, text_model}
 -- the versions of a file
 pub use Rattle.elf_image_versions.specs.VersionsModel.{definition_model, name_model, needs_model}
--- and its symbols
+-- the symbols of a file
 pub use Rattle.elf_image_symbols.specs.SymbolModel.{symbol_model}

@@ -36,7 +36,7 @@ named_in p = do
 abbrev pub named_model : Named → NamedParts
 named_model n = record { sections = map section_model n.sections.items; symbols = n.lists.symbols; dynamic_symbols = n.lists.dynamic_symbols }
 
--- its dynamic list and versions
+-- the dynamic list and the versions of an image
 pub record ListedParts : Type 0 where
   pub entries : Option (List Entry)
   pub definitions : List VersionDefinition
@@ -74,7 +74,7 @@ image_with p n l = record {
   moves_dynamic = false;
 }
 
--- the same for parts as they are kept
+-- the image that has these parts of a file, as they are kept
 abbrev pub image_built : Parts → Named → Listed → Image
 image_built p n l = image_with p (named_model n) (listed_model l)
 

@@ -20,6 +20,6 @@ LendsStackFlags s r = LendsIf (the_row (record { mir = named 1; lft = [] })) u32
 abbrev pub LendsAddedFlags : MutBor Image → Result (MutBor ℕ) AllocError → Fml
 LendsAddedFlags s r = LendsIfOk (the_row (record { mir = named 1; lft = [] })) u32 s r (λ flags. with_segments (with_stack_added flags s.now.segments) s.now) s.now
 
--- the same, where it is there
+-- the program header for the stack, where it is there, has the flags that are written last
 abbrev pub LendsFlagsOfStack : MutBor Image → MutBor ℕ → Fml
 LendsFlagsOfStack s r = Lends (the_row (record { mir = named 1; lft = [] })) u32 s r (λ flags. with_segments (with_stack_flags flags s.now.segments) s.now)

@@ -17,11 +17,11 @@ are_relocations kind = elim kind [ kinds.Relocation ↦ true | _ ↦ false ]
 abbrev pub is_against : Option ℕ → ImageSection → Bool
 is_against table s = are_relocations s.kind && is_some_and (λ n. n == s.sh_link) table
 
--- and one of them names the symbol with a number (gABI, Relocation, r_info)
+-- the section's relocations are against a table of symbols, and one of them names the symbol with a number (gABI, Relocation, r_info)
 abbrev pub names_symbol : Form → Option ℕ → ℕ → ImageSection → Bool
 names_symbol form table number s = is_against table s && list_any (λ x. x.r_symbol == number) (relocations_in form s.sh_type s.content)
 
--- one of these sections names a symbol with one of some numbers; symbol 0 is no symbol (gABI, Symbol Table, STN_UNDEF)
+-- one of some sections names a symbol with one of some numbers; symbol 0 is no symbol (gABI, Symbol Table, STN_UNDEF)
 abbrev pub is_symbol_used : Form → Option ℕ → List ℕ → List KeptSection → Bool
 is_symbol_used form table numbers sections =
     list_any (λ s. list_any (λ number. not (number == 0) && names_symbol form table number s.section) numbers) sections

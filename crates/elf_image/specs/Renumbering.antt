@@ -60,7 +60,7 @@ is_opaque kinds.GnuVerneed = false
 abbrev pub is_opaque_user : Option ℕ → ImageSection → Bool
 is_opaque_user table s = is_opaque s.kind && not (s.sh_type == SHT_NULL) && is_some_and (λ n. n == s.sh_link) table
 
--- one of these sections does
+-- one of some sections is kept as it is and links to the one with that number
 abbrev pub has_opaque_user : Option ℕ → List KeptSection → Bool
 has_opaque_user table sections = list_any (λ s. is_opaque_user table s.section) sections
 

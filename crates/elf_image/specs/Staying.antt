@@ -9,7 +9,7 @@ use Rattle.elf_image.specs.Kept.{KeptSection, kept_of_type, kept_sections}
 abbrev pub goes : List ℕ → KeptSection → Bool
 goes gone s = is_one_of gone s.number
 
--- it has none of them
+-- the section has none of the numbers
 abbrev pub stays : List ℕ → KeptSection → Bool
 stays gone s = not (is_one_of gone s.number)
 

@@ -29,7 +29,7 @@ pub record IsPutFor (image : Image) (edited : EditedList) : Type 0 where
   pub relocated : AreRelocated image (table_number SHT_DYNSYM image) edited.numbers
   pub names : OfRead image (λ read. are_names_changed read (with_dynamic_symbols edited image) ≡ true → can_renumber image ≡ true)
 
--- The same of the static symbols, which other tables don't name.
+-- An edit of the static symbols that an image has, as of dynamic symbols; but other tables don't name static ones.
 pub record IsStaticPutFor (image : Image) (edited : EditedList) : Type 0 where
   pub read : OfRead image (λ read. edited.read ≡ read.symbols)
   pub there : All (Contains image.symbol_numbers) edited.numbers

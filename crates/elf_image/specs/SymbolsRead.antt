@@ -14,7 +14,7 @@ lists_read p = do
   dynamic_symbols ← dynamic_symbols_read p (section_of_type SHT_DYNSYM p.sections)
   Some (record { symbols = symbols; dynamic_symbols = dynamic_symbols })
 
--- these are they
+-- these are the lists of symbols of the file that has these parts
 abbrev pub AreSymbolsRead : Parts → SymbolLists → Type 0
 AreSymbolsRead p lists = lists_read p ≡ Some lists
 
@@ -33,7 +33,7 @@ pub record HasDynamicSymbolsOf (read image : Image) : Type 0 where
   pub symbols : image.dynamic_symbols ≡ read.dynamic_symbols
   pub numbers : image.dynamic_symbol_numbers ≡ read.dynamic_symbol_numbers
 
--- the same of the symbols for a link editor
+-- an image has the symbols for a link editor of another one
 pub record HasStaticSymbolsOf (read image : Image) : Type 0 where
   pub symbols : image.symbols ≡ read.symbols
   pub numbers : image.symbol_numbers ≡ read.symbol_numbers

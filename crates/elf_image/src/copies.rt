@@ -14,7 +14,8 @@ use patch_bytes::ByteString;
 use std::alloc::{AllocError, Global};
 
 impl<'data> Builder<'data> {
-    /// The same image: what is borrowed is lent again, what is owned copied. Error: `AllocError`.
+    /// A copy of the image: what is borrowed is lent again, what is owned copied. Error:
+    /// `AllocError`.
     pub fn try_clone(&self, alloc: Global) -> Result<Builder<'data>, AllocError>
         ensures { IfOk result (λ copy. copy ≡ self.now) }
     {
@@ -60,7 +61,7 @@ struct Tables {
     section_numbers: Vec<usize>,
 }
 
-// The same sections, dynamic list, versions and interpreter.
+// Copies of the sections, the dynamic list, the versions and the interpreter of an image.
 fn copied_texts<'data>(
     alloc: Global,
     sections: &[Section<'data>],
@@ -84,7 +85,7 @@ fn copied_texts<'data>(
     })
 }
 
-// The same program headers and numbers of sections.
+// Copies of program headers and of numbers of sections.
 fn copied_tables(
     alloc: Global,
     segments: &[segment::Segment],
@@ -101,7 +102,7 @@ fn copied_tables(
     })
 }
 
-// The same dynamic list and versions.
+// Copies of a dynamic list and of versions.
 fn copied_listed<'data>(
     alloc: Global,
     dynamic: &Option<Vec<Dynamic<'data>>>,
@@ -118,7 +119,7 @@ fn copied_listed<'data>(
     Ok(Listed { dynamic, versions })
 }
 
-// The same interpreter.
+// A copy of an interpreter.
 fn copied_interpreter<'data>(
     alloc: Global,
     interpreter: &Option<ByteString<'data>>,
@@ -131,7 +132,7 @@ fn copied_interpreter<'data>(
     }
 }
 
-// The same sections.
+// Copies of sections.
 fn copied_sections<'data>(
     alloc: Global,
     sections: &[Section<'data>],
@@ -160,7 +161,7 @@ fn copied_sections<'data>(
     Ok(made)
 }
 
-// The same entries.
+// Copies of entries.
 fn copied_entries<'data>(
     alloc: Global,
     entries: &[Dynamic<'data>],

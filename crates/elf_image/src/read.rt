@@ -143,7 +143,7 @@ pub(crate) struct Gathered<'data> {
     section_numbers: Vec<usize>,
 }
 
-// These parts together.
+// The image that has these parts.
 fn gather<'data>(
     parts: &Headers<'data>,
     segments: Vec<Segment<'data>>,

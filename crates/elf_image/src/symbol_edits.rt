@@ -67,7 +67,7 @@ impl<'data> Builder<'data> {
         } }
     {
         self.lists.symbols.delete(i);
-        // they are some of the symbols of their list, edited
+        // the symbols that are there are some of those that were read, edited
         let _read = self.lists.symbols.read();
         self.changed = true;
     }
@@ -88,7 +88,7 @@ impl<'data> Builder<'data> {
         } }
     {
         self.lists.dynamic_symbols.delete(i);
-        // they are some of the symbols of their list, edited
+        // the symbols that are there are some of those that were read, edited
         let _read = self.lists.dynamic_symbols.read();
         self.changed = true;
     }
@@ -108,7 +108,7 @@ impl<'data> Builder<'data> {
         requires { IsStaticPutFor self.old edited }
         ensures { self.new ≡ with_static_symbols edited.entry self.old }
     {
-        // they are some of the symbols of their list, edited
+        // the new symbols are some of those that were read, edited
         let _read = edited.read();
         self.lists.symbols = edited;
         self.changed = true;
@@ -130,7 +130,7 @@ impl<'data> Builder<'data> {
         requires { IsPutFor self.old edited }
         ensures { self.new ≡ with_dynamic_symbols edited.entry self.old }
     {
-        // they are some of the symbols of their list, edited
+        // the new symbols are some of those that were read, edited
         let _read = edited.read();
         self.lists.dynamic_symbols = edited;
         self.changed = true;
@@ -152,7 +152,8 @@ impl<'data> Builder<'data> {
         self.lists.dynamic_symbols.is_as_read()
     }
 
-    /// The same of the symbols for a link editor.
+    /// Whether the symbols for a link editor are those that were read, in their order. Takes no
+    /// memory, and time by how many were edited.
     pub fn keeps_static_symbols(&self) -> bool
         ensures { OfRead self.now (λ read. IsTrue result ↔ HasStaticSymbolsOf read self.now) }
     {

@@ -27,7 +27,7 @@ unfoldable pub first_told : {A B : Type 0} → (ℕ → A → Option B) → ℕ 
 first_told told n [] = None
 first_told told n (x ∷ xs) = first_there (told n x) (first_told told (n + 1) xs)
 
--- the same of the records of one size that lie whole in bytes, each by its bytes
+-- what is told of the first record of which something is told; records of one size lie whole in bytes, each told by its bytes
 abbrev pub first_record : (ℕ → List ℕ → Option Flaw) → ℕ → List ℕ → Option Flaw
 first_record told size bytes = first_told told 0 (records (λ r. r) size (length bytes / size) bytes)
 
@@ -137,7 +137,7 @@ names_told there form bytes = first_record (name_told there form) (symbol_size f
 abbrev pub place_told : (ℕ → Bool) → List ℕ → Option Flaw
 place_told there places = find (λ place. not (there place)) places >>= λ place. Some (flaws.NoRecordText place)
 
--- the same of the names of defined versions, and of libraries with the versions that are needed of them
+-- the first place without a text of the names of defined versions, and of libraries with the versions that are needed of them
 abbrev pub definitions_told : (ℕ → Bool) → List DefinitionNumbers → Option Flaw
 definitions_told there definitions = place_told there (flat_map (λ d. d.names) definitions)
 
@@ -196,7 +196,7 @@ abbrev pub version_told : Form → List ℕ → ℕ → List ℕ → Option Flaw
 version_told form known n r =
     flaw_unless (nat_lt (version_id form r).index VER_NDX_FIRST || is_one_of known (version_id form r).index) (flaws.UnknownVersion n (version_id form r).index)
 
--- the same of all symbols, where no more versions are known than are looked through for each
+-- the first symbol of a version that is neither defined nor needed, where no more versions are known than are looked through for each
 abbrev pub indices_told : Form → List ℕ → List ℕ → Option Flaw
 indices_told form known bytes = if nat_le (length known) MOST_VERSIONS then first_record (version_told form known) 2 bytes else None
 

@@ -29,7 +29,7 @@ pub enum Detail {
         order: u8,
         version: u8,
     },
-    /// Neither a program nor a shared library (`e_type`).
+    /// The file is neither a program nor a shared library (`e_type`).
     FileType {
         e_type: u16,
     },

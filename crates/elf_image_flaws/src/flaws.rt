@@ -5,21 +5,21 @@ ghost use Rattle.elf_image_flaws.specs.Flaws.{flaw_unless as unless_by};
 /// What of a section contradicts a read rule. Symbols, versions and relocations have their numbers in the section.
 #[derive(Clone, Copy)]
 pub enum Flaw {
-    /// It is the second section of a type that may come once.
+    /// The section is the second one of a type that may come once.
     Repeated { sh_type: u32 },
-    /// It links to a section that isn't there (gABI, Sections, `sh_link`).
+    /// The section links to a section that isn't there (gABI, Sections, `sh_link`).
     NoLink { link: u32 },
-    /// It links to a section of another type than the one that is wanted.
+    /// The section links to a section of another type than the one that is wanted.
     WrongLink { link: u32, wanted: u32 },
-    /// Its size isn't that of whole entries.
+    /// The section's size isn't that of whole entries.
     Partial { size: u64, unit: u64 },
     /// A symbol of a section that isn't there (gABI, Symbol Table, `st_shndx`).
     NoSymbolSection { symbol: usize, section: u16 },
     /// A relocation that names a symbol which isn't there (gABI, Relocation).
     NoRelocationSymbol { relocation: usize, symbol: u64 },
-    /// It names a section that isn't there (gABI, Sections, `sh_info`).
+    /// The section names a section that isn't there (gABI, Sections, `sh_info`).
     NoInfoSection { section: u32 },
-    /// Its name is no text of the section names (gABI, Sections, `sh_name`).
+    /// The section's name is no text of the section names (gABI, Sections, `sh_name`).
     NoName { place: u32 },
     /// A symbol whose name is no text of its string table (gABI, Symbol Table, `st_name`).
     NoSymbolName { symbol: usize, place: u32 },
@@ -27,11 +27,12 @@ pub enum Flaw {
     NoRecordText { place: u32 },
     /// Not all version records that it counts are there (GNU symbol versioning).
     PartialRecords { count: u32 },
-    /// It has another number of versions than there are dynamic symbols (GNU symbol versioning, `.gnu.version`).
+    /// The section has another number of versions than there are dynamic symbols (GNU symbol
+    /// versioning, `.gnu.version`).
     OtherCount { versions: u64, symbols: u64 },
     /// A symbol of a version that is neither defined nor needed.
     UnknownVersion { symbol: usize, index: u16 },
-    /// It links to the dynamic strings, and is of a type that may not.
+    /// The section links to the dynamic strings, and is of a type that may not.
     ForeignStrings { link: u32 },
 }
 

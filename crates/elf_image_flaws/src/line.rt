@@ -282,7 +282,7 @@ fn first_number(flaw: Flaw) -> Part {
     }
 }
 
-// The same of a type, a size or a place of a text.
+// What is wrong, as a number in hex: a type, a size or a place of a text.
 fn hex_number(flaw: Flaw) -> Part {
     match flaw {
         Flaw::Repeated { sh_type } => Part::Hex(sh_type as u64),
@@ -293,7 +293,7 @@ fn hex_number(flaw: Flaw) -> Part {
     }
 }
 
-// What it is held against: the size of an entry, or the number of dynamic symbols.
+// What a wrong number is held against: the size of an entry, or the number of dynamic symbols.
 fn second_number(flaw: Flaw) -> Part {
     match flaw {
         Flaw::Partial { unit, .. } => Part::Hex(unit),

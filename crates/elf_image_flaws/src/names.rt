@@ -70,7 +70,7 @@ fn no_text(end: usize, places: &[u32]) -> Option<u32>
     None
 }
 
-// The same as a flaw.
+// The first of some places where no text is, as a flaw.
 fn place_told(end: usize, places: &[u32]) -> Option<Flaw>
     ensures { result ≡ place_by (λ place. nat_lt place end) places.now }
 {

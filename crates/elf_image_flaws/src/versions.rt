@@ -78,7 +78,7 @@ fn versions_told(
     indices_told(parts.form, known, section_bytes(parts.file, section))
 }
 
-// The same of any section.
+// What of the versions in any section contradicts the rule; nothing in a section without versions.
 fn versions_flaw(parts: &Headers<'_>, known: &[u16], section: SectionHeader) -> Option<Flaw>
     ensures { result ≡ versions_by (parts_model parts.now) known.now section }
 {

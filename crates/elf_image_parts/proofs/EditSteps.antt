@@ -80,7 +80,7 @@ module _ {A : Type 0} (view : A → SegmentHeader) (zs : List A) (i : ℕ) (z : 
           let first : is_stack (view a) ≡ false = before 0 (omega arith) in
           rw first (first_at rest k d (omega arith) here (λ j below. before (suc j) (omega arith)))
 
--- it stands in the list
+-- the program header for the stack stands in the list
 pub place_within : {A : Type 0} → (view : A → SegmentHeader) (zs : List A) (i : ℕ) → position (λ a. is_stack (view a)) zs ≡ Some i → i < length zs
 place_within view [] i found = absurd (none-some i found)
 place_within view (z ∷ zs) i found = (position-Some (λ a. is_stack (view a)) (z ∷ zs) i z found).0
@@ -98,7 +98,7 @@ none_seen {A} view zs h = none_from zs 0 (sym (position_from-zero (λ a. is_stac
     none_from [] i e = refl
     none_from (a ∷ rest) i e = none_by a rest i (is_stack (view a)) (none_from rest) e
 
--- then there is nothing to change
+-- where there is no program header for the stack, there is nothing to change
 pub none_flagged : (flags : ℕ) (ps : List SegmentHeader) → segment_of_type PT_GNU_STACK ps ≡ None → with_stack_flags flags ps ≡ ps
 unfolding with_stack_flags flagged
 none_flagged flags [] h = refl
@@ -120,7 +120,7 @@ flags_pushed f g (p ∷ ps) h = by_type p ps (is_stack p) (flags_pushed f g ps) 
     by_type q qs true more e = absurd (none-some q (sym e))
     by_type q qs false more e = ap (λ rest. q ∷ rest) (more e)
 
--- it is the first one
+-- the program header for the stack that is added is the first one
 pub pushed_found : (f : ℕ) (ps : List SegmentHeader) → segment_of_type PT_GNU_STACK ps ≡ None → segment_of_type PT_GNU_STACK (with_stack_added f ps) ≡ Some (added_stack f)
 pushed_found f [] h = refl
 pushed_found f (p ∷ ps) h = by_type p ps (is_stack p) (pushed_found f ps) h
@@ -130,7 +130,7 @@ pushed_found f (p ∷ ps) h = by_type p ps (is_stack p) (pushed_found f ps) h
     by_type q qs true more e = absurd (none-some q (sym e))
     by_type q qs false more e = more e
 
--- it stands behind the others
+-- the program header for the stack that is added stands behind the others
 pub pushed_place : (f : ℕ) (ps : List SegmentHeader) → segment_of_type PT_GNU_STACK ps ≡ None → position is_stack (with_stack_added f ps) ≡ Some (length ps)
 pushed_place f ps h = position_from-zero is_stack (with_stack_added f ps) ∙ place_from ps 0 h ∙ ap Some (omega arith)
   where

@@ -148,7 +148,7 @@ others_from f =
         let could : Bool = could_be_spare (fixed_end f) f.table p in
         ap (λ (b : Bool). is_loaded p && not (could && b)) (le-leb 0 p.p_vaddr (omega arith)) ∙ ap (λ (b : Bool). is_loaded p && not b) (and_true could)
 
--- whether they can be taken away is told so
+-- whether spare segments can be taken away is told by from where on they are spare
 pub told_from : (f : SpareFacts) → can_reclaim_from (spare_from f) f ≡ can_reclaim f
 unfolding can_reclaim
 told_from f =

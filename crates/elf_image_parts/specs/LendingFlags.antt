@@ -8,6 +8,6 @@ use Rattle.elf_image_parts.specs.contracts.segment.Segment.{the_row}
 abbrev pub with_flags : Segment → ℕ → Segment
 with_flags p flags = record p { numbers = record p.numbers { p_flags = flags } }
 
--- it has the flags that are written last
+-- a program header has the flags that are written last
 abbrev pub LendsFlags : MutBor Segment → MutBor ℕ → Fml
 LendsFlags s r = Lends the_row u32 s r (with_flags s.now)

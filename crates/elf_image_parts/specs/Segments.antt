@@ -24,7 +24,7 @@ with_stack_flags flags (p ∷ ps) = if p.p_type == PT_GNU_STACK then record p { 
 abbrev pub added_stack : ℕ → SegmentHeader
 added_stack flags = record { p_type = PT_GNU_STACK; p_flags = flags; p_offset = 0; p_vaddr = 0; p_paddr = 0; p_filesz = 0; p_memsz = 0; p_align = STACK_ALIGN }
 
--- it is put last
+-- the program header for a stack is put last
 abbrev pub with_stack_added : ℕ → List SegmentHeader → List SegmentHeader
 with_stack_added flags segments = segments ++ added_stack flags ∷ []
 

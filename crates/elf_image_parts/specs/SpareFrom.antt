@@ -48,7 +48,7 @@ is_spare_from from p = could_be_spare from.fixed from.table p && nat_le from.oth
 abbrev pub left_from : SpareFrom → List SegmentHeader → List SegmentHeader
 left_from from segments = filter (λ p. not (is_spare_from from p)) segments
 
--- it is loaded, and not spare
+-- the segment is loaded, and not spare
 abbrev pub stays_loaded : SpareFrom → SegmentHeader → Bool
 stays_loaded from p = is_loaded p && not (is_spare_from from p)
 
@@ -62,7 +62,7 @@ filled_if_behind end s = if is_set SHF_ALLOC s.sh_flags && nat_le end s.sh_addr 
 
 -- ## What is left
 
--- whether those that are spare from there on can be taken away, told in one pass over each list
+-- whether the segments that are spare from somewhere on can be taken away, told in one pass over each list
 abbrev pub can_reclaim_from : SpareFrom → SpareFacts → Bool
 can_reclaim_from from f =
     list_any (stays_loaded from) f.segments && nat_le (end_after 0 (filter (stays_loaded from) f.segments)) from.others

@@ -71,7 +71,8 @@ impl<'data> Dynamic<'data> {
     ghost use Rattle.std.specs.Prelude.{IfOk};
     ghost use Rattle.elf_image_parts.specs.PartModels.{entry_model};
 
-    /// The same entry: a borrowed text is lent again, an owned one copied. Error: `AllocError`.
+    /// A copy of the entry: a borrowed text is lent again, an owned one copied. Error:
+    /// `AllocError`.
     pub fn try_clone(&self, alloc: Global) -> Result<Dynamic<'data>, AllocError>
         ensures { IfOk result (λ copy. entry_model copy ≡ entry_model self.now) }
     {

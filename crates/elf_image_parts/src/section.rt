@@ -4,11 +4,11 @@ use elf_format::section_data::SectionData;
 /// A section (gABI, Sections). Offsets and sizes are in bytes.
 #[derive(Debug, Drop)]
 pub struct Section<'data> {
-    /// Its name, a text of the section of names.
+    /// The section's name, a text of the section of names.
     pub name: ByteString<'data>,
     /// What its bytes are.
     pub kind: SectionData,
-    /// What it is for, as `SHT_DYNSYM`.
+    /// What the section is for, as `SHT_DYNSYM`.
     pub sh_type: u32,
     /// `SHF_ALLOC` for a section that takes memory, and other flags.
     pub sh_flags: u64,

@@ -37,7 +37,7 @@ impl Segment {
         self.numbers.p_type
     }
 
-    /// Whether it may be read (4), written (2) and run (1).
+    /// Whether the segment may be read (4), written (2) and run (1).
     pub fn p_flags(&self) -> u32
         ensures { result ≡ (segment_model self.now).p_flags }
     {

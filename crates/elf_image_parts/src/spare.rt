@@ -155,7 +155,7 @@ fn is_interpreter(p: Option<SegmentHeader>, section: &Section<'_>) -> bool
     }
 }
 
-// Whether that is the number.
+// Whether there is a number, and it is this one.
 fn is_number(strings: Option<usize>, number: usize) -> bool
     ensures { result ≡ is_some_and (λ n. n == number) strings }
 {

@@ -83,7 +83,7 @@ parts_fault p =
 
 -- ## Its header and its header tables
 
--- whether it is of a kind that is read, and the parts
+-- the first broken rule, by whether the file is of a kind that is read, and by its parts
 abbrev first_behind : Bool → Option Parts → Option Rule
 first_behind false p = Some FileKind
 first_behind true None = Some HeaderTables

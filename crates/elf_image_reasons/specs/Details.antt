@@ -48,7 +48,7 @@ table_detail o =
     (past_end pieces.SegmentTable o.header.e_phoff (o.header.e_phnum * segment_header_size o.form) (length o.file))
     (past_end pieces.SectionTable o.header.e_shoff (o.header.e_shnum * section_header_size o.form) (length o.file))
 
--- the same of a file with a file header
+-- the details of a file with a file header: of its kind, and of its header tables
 abbrev pub kind_of_file : List ℕ → Option Detail
 kind_of_file file = opened_of file >>= kind_detail
 
@@ -84,7 +84,8 @@ unfoldable pub wrong_section : Rule → ℕ → List SegmentHeader → List Sect
 wrong_section rule length segments sections =
     position (is_wrong_section rule length segments) sections >>= λ i. slice_get sections i >>= λ s. section_told rule length i s
 
--- the same of a program header: one that is loaded, with bytes past the end, or with more bytes in the file than in memory
+-- a program header that contradicts a rule by itself: one that is loaded, with bytes past the end, or with more bytes in the file than in
+-- memory
 abbrev pub is_wrong_segment : Rule → ℕ → SegmentHeader → Bool
 is_wrong_segment rules.RangesInFile length p = is_loaded p && not (ends_by length (file_part p))
 is_wrong_segment rules.FileParts length p = is_loaded p && not (nat_le p.p_filesz p.p_memsz)
@@ -169,7 +170,7 @@ told_unless right tag value = if right then None else Some (details.Tag tag valu
 abbrev pub wrong_tag : List EntryNumbers → ℕ → Option SectionHeader → (ℕ → SectionHeader → Bool) → Option Detail
 wrong_tag raw tag section test = value_of_tag tag raw >>= λ value. told_unless (is_some_and (λ s. test value s) section) tag value
 
--- the same where the value is to be the address of an allocated section
+-- a tag that is there, where its value isn't the address of its allocated section
 abbrev pub wrong_address : List EntryNumbers → ℕ → Option SectionHeader → Option Detail
 wrong_address raw tag section = wrong_tag raw tag section (λ value s. is_allocated s && s.sh_addr == value)
 

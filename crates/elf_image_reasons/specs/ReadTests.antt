@@ -72,7 +72,7 @@ table_tests =
 abbrev pub part_tests : List (Test Parts)
 part_tests = placement_tests ++ table_tests
 
--- the same test of a file that has parts
+-- a test of parts, as a test of the file that has them
 abbrev pub of_file : Test Parts → Test (List ℕ)
 of_file t = test t.rule (λ file. is_some_and t.holds (parts_there file))
 

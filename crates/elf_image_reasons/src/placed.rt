@@ -100,7 +100,7 @@ fn first_wrong_section(
         .position(|s| is_wrong_section(rule, length, segments, *s))
 }
 
-// The same as a detail.
+// The first section that contradicts a rule by itself, as a detail.
 #[tactic(auto, unfolding(crate::specs::Details::wrong_section))]
 pub(crate) fn wrong_section(
     rule: Rule,
@@ -155,7 +155,7 @@ fn first_wrong_segment(rule: Rule, length: usize, segments: &[SegmentHeader]) ->
         .position(|p| is_wrong_segment(rule, length, *p))
 }
 
-// The same as a detail.
+// The first program header that contradicts a rule by itself, as a detail.
 #[tactic(auto, unfolding(crate::specs::Details::wrong_segment))]
 pub(crate) fn wrong_segment(rule: Rule, length: usize, segments: &[SegmentHeader]) -> Option<Detail>
     ensures { result ≡ segment_by rule length segments.now }

@@ -48,7 +48,7 @@ fn first_repeated(raw: &[EntryNumbers]) -> Option<u64>
     .find(|tag| is_repeated(raw, *tag))
 }
 
-// The same as a detail.
+// The first table tag that comes more than once, as a detail.
 fn repeated_tag(raw: &[EntryNumbers]) -> Option<Detail>
     ensures { result ≡ repeated_by raw.now }
 {

@@ -240,7 +240,7 @@ module _ {A : Type 0} (test : A → Bool) (decode : List ℕ → A) where
     pub good : list_all test (records decode size count bytes) ≡ true
     pub all : (count == length bytes / size) ≡ list_all test (records decode size (length bytes / size) bytes)
 
-  -- so many have passed, and the rest is behind them
+  -- so many records have passed, and the rest is behind them
   pub record Counting (size : ℕ) (bytes rest : List ℕ) (count : ℕ) : Type 0 where
     pub behind : rest ≡ drop (count * size) bytes
     pub left : count + length rest / size ≡ length bytes / size

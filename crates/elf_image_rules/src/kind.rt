@@ -22,7 +22,8 @@ pub(crate) struct Run {
     pub count: usize,
 }
 
-// Whether it is a program or a shared library, with section headers, and with tables that are read.
+// Whether the file is a program or a shared library, with section headers, and with tables that are
+// read.
 pub(crate) fn is_file_kind(
     alloc: Global,
     file: &[u8],
@@ -37,7 +38,7 @@ pub(crate) fn is_file_kind(
     no_extended_numbers(alloc, file, form, header)
 }
 
-// The same, as far as the file header says it.
+// Whether the file is of a kind that is read, as far as the file header says it.
 fn is_header_kind(form: Form, header: FileHeader) -> bool
     ensures { result ≡ (is_one_of (ET_EXEC ∷ ET_DYN ∷ []) header.e_type
         && not (header.e_shoff == 0) && not (header.e_shnum == 0)
@@ -52,8 +53,8 @@ fn is_header_kind(form: Form, header: FileHeader) -> bool
         && header.e_shstrndx < header.e_shnum
 }
 
-// Whether it is a program or a shared library, with section headers, and has no more headers than plain
-// numbering has.
+// Whether the file is a program or a shared library, with section headers, and has no more headers
+// than plain numbering has.
 fn has_plain_counts(header: FileHeader) -> bool
     ensures { result ≡ (is_one_of (ET_EXEC ∷ ET_DYN ∷ []) header.e_type
         && not (header.e_shoff == 0) && not (header.e_shnum == 0)
@@ -98,7 +99,7 @@ fn no_extended_numbers(
     Ok(are_numbers_plain(file, form, &tables))
 }
 
-// Those section headers that lie in the file.
+// The section headers that lie in the file.
 #[tactic(auto, unfolding(elf_format::specs::File::sections_there))]
 fn sections_there(
     alloc: Global,

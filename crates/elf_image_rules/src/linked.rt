@@ -30,14 +30,14 @@ pub fn are_tables_linked(parts: &Headers<'_>, checked: &[Checked]) -> bool
     are_symbols_right(parts) && relocations_fit(parts, checked) && infos_are_sections(parts)
 }
 
-// The same, as far as headers and symbols say it.
+// Whether what comes once does, and tables are linked rightly, as far as headers and symbols say it.
 fn are_symbols_right(parts: &Headers<'_>) -> bool
     ensures { result ≡ symbols_right (parts_model parts.now) }
 {
     are_headers_linked(parts.form, &parts.segments, &parts.sections) && symbols_have_sections(parts)
 }
 
-// The same, as far as headers alone say it.
+// Whether what comes once does, and tables are linked rightly, as far as headers alone say it.
 fn are_headers_linked(form: Form, segments: &[SegmentHeader], sections: &[SectionHeader]) -> bool
     ensures { result ≡ headers_linked form segments.now sections.now }
 {
@@ -92,7 +92,8 @@ fn comes_once_in_sections(sections: &[SectionHeader], kind: u32) -> bool
     sections.iter().filter(|s| s.sh_type == kind).count() <= 1
 }
 
-// Whether tables with texts link to string tables, and those about the dynamic symbols to these.
+// Whether tables with texts link to string tables, and tables about the dynamic symbols to the
+// dynamic symbols.
 fn are_linked(sections: &[SectionHeader]) -> bool
     ensures { result ≡ all_linked sections.now }
 {
@@ -109,7 +110,7 @@ fn are_texts_linked(sections: &[SectionHeader]) -> bool
         .all(|s| links_to(SHT_STRTAB, sections, *s))
 }
 
-// Whether tables about the dynamic symbols link to these.
+// Whether tables about the dynamic symbols link to the dynamic symbols.
 fn are_symbols_linked(sections: &[SectionHeader]) -> bool
     ensures { result ≡ all_users_linked symbol_users SHT_DYNSYM sections.now }
 {
@@ -251,7 +252,7 @@ pub struct Relocated {
 pub struct Checked {
     /// The section, with how many symbols there are.
     pub of: Relocated,
-    /// Whether they do.
+    /// Whether the relocations name symbols that they may.
     pub fits: bool,
 }
 

@@ -16,7 +16,7 @@ use Rattle.elf_image_symbols.proofs.RisingLaws.{rising_at, rising_long, rising_o
 
 -- ## A change is found
 
--- those up to a position have lower numbers than a symbol
+-- the changes up to a position are of lower numbers than a symbol
 abbrev pub AreLower : List Change → ℕ → ℕ → Type 0
 AreLower cs n k = (j : ℕ) (d : Change) → j < k → number_of (get_or cs j d) < n
 
@@ -166,11 +166,11 @@ module _ (high : ℕ) (cs : List Change) (rising : AreRising 0 high (map number_
       let long = rising_long 0 high (map number_of (insert cs k c)) more (omega arith) in
       omega (arith, long, length-map (insert cs k c) number_of, length-insert cs k c gap.within)
 
-  -- and so do those that are there
+  -- there are no more changes than numbers below the bound
   pub changes_long : length cs ≤ high
   changes_long = let long = rising_long 0 high (map number_of cs) rising (omega arith) in omega (arith, long, length-map cs number_of)
 
-  -- each of them is found
+  -- each change is found
   pub change_of-each : (k : ℕ) (d : Change) → k < length cs → change_of cs (number_of (get_or cs k d)) ≡ Some (get_or cs k d)
   change_of-each k d less =
       change_of-place cs (number_of (get_or cs k d)) k d less

@@ -62,7 +62,7 @@ module _ (s : Inside) (ok : AreInOrder s) where
   pub all_there : length (numbers_of s) ≡ length s.table → numbers_of s ≡ counted (length s.table)
   all_there long = rising_whole (length s.table) (numbers_of s) numbers_rise long
 
-  -- the same of what it shows
+  -- what is known of the list that the symbols show
   module _ (e : EditedList) (seen : edited_list s ≡ e) where
     pub length-symbols : length e.symbols ≡ length (numbers_of s)
     length-symbols = sym (ap (λ (l : EditedList). length l.symbols) seen) ∙ length-map (numbers_of s) (symbol_now s.table s.changes.items)
@@ -96,7 +96,7 @@ module _ (s : Inside) (ok : AreInOrder s) where
         (map-but_one old now h 0 (length s.table) (numbers_of s) i numbers_rise (slice_get_within (numbers_of s) i n there)
         (λ m other. others m (λ (same : m ≡ n). other (same ∙ sym is))) (subst (λ (k : ℕ). now k ≡ h (old k)) (sym is) here)))
 
-    -- that of a change of its change
+    -- what an edit of one symbol's change makes of the list
     pub edited_by : (f : Change → Change) (h : NamedSymbol → NamedSymbol) → ((c : Change) → number_of (f c) ≡ number_of c) → ((c : Change) (y : NamedSymbol) → changed_by (f c) y ≡ h (changed_by c y))
         → (i n k : ℕ) (touched new : List Change) → slice_get e.numbers i ≡ Some n → IsPlaceOf touched n k → ((m : ℕ) → symbol_now s.table touched m ≡ symbol_now s.table s.changes.items m)
         → new ≡ changed_at k f touched
@@ -114,7 +114,7 @@ module _ (s : Inside) (ok : AreInOrder s) where
         ap (λ (ns : List ℕ). list_of s.table ns (map now ns)) is ∙ ap (list_of s.table (remove (numbers_of s) i)) (map-remove now (numbers_of s) i)
         ∙ ap (λ (l : EditedList). record l { numbers = remove l.numbers i; symbols = remove l.symbols i }) seen
 
-    -- and where all of some numbers go
+    -- what is left where all symbols of some numbers go
     pub deleted_all : (gone new : List ℕ) → new ≡ filter (stays gone) (numbers_of s)
         → list_of s.table new (map (symbol_now s.table s.changes.items) new) ≡ without_numbers gone e
     deleted_all gone new is =
@@ -138,7 +138,7 @@ module _ (s : Inside) (ok : AreInOrder s) where
     numbers_whole long =
         sym (ap (λ (l : EditedList). l.numbers) seen) ∙ all_there (ap (λ (l : EditedList). length l.numbers) seen ∙ long) ∙ ap (λ (l : EditedList). counted (length l.read)) seen
 
-    -- and only there
+    -- as many symbols are there where all are there
     pub whole_long : e.numbers ≡ counted (length e.read) → length e.numbers ≡ length s.table
     whole_long whole =
         ap (λ (l : List ℕ). length l) whole ∙ length-counted (length e.read) ∙ sym (ap (λ (l : EditedList). length l.read) seen)

@@ -34,12 +34,12 @@ front_text-byte (suc b) xs other = of_text (suc b ∷ xs) ∙ with_byte (suc b) 
 -- ## Where a text stands
 
 module _ (xs name : List ℕ) (stands : text_at (length xs) (memory_of xs) 0 ≡ Some name) where
-  -- it is the one at the front
+  -- the text that stands is the one at the front
   pub front_text-stands : front_text xs ≡ name
   unfolding front_text
   front_text-stands = ap (λ (o : Option (List ℕ)). unwrap_or o xs) stands
 
-  -- it has no NUL
+  -- the text at the front has no NUL
   pub front_text-again : front_text name ≡ name
   front_text-again =
       of_text name ∙ ap (λ (o : Option (List ℕ)). unwrap_or o name)

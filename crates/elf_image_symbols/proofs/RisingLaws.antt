@@ -45,7 +45,7 @@ rising_below low high (n ∷ ns) (suc i) rising less =
 
 -- ## Numbers from 0 on
 
--- as many as fit are all of them
+-- as many rising numbers as fit are all of them
 pub rising_whole : (count : ℕ) (ns : List ℕ) → AreRising 0 count ns → length ns ≡ count → ns ≡ counted count
 rising_whole count ns rising long =
     ext_get_or 0 ns (counted count) (long ∙ sym (length-counted count))

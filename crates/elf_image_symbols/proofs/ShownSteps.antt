@@ -152,7 +152,7 @@ unfolding table_symbols
 shown_where_named form room texts bytes versions =
     some_made (names_of room texts (symbols_in form bytes)) (λ names. named_symbols (symbols_in form bytes) names (versions_in form versions (length (symbols_in form bytes))))
 
--- they are the same, however far past the end of the bytes a text may be looked for
+-- the symbols that a table shows are the same, however far past the end of the bytes a text may be looked for
 pub shown_same : (form : Form) (room : ℕ) (xs bytes : List ℕ) (versions : Option (List ℕ)) → length xs ≤ room
     → table_symbols form room (memory_of xs) bytes versions ≡ table_symbols form (length xs) (memory_of xs) bytes versions
 unfolding table_symbols

@@ -115,7 +115,7 @@ module _ (read : List NamedSymbol) (cs : List Change) (are : AreChanges read cs)
         ∙ sym (now-none read cs m (none_past m past))
   ]
 
-  -- they are changes of these symbols
+  -- a change tells the name of its symbol
   name_told : (m : ℕ) → HasName read (change_at read cs m)
   name_told m = by_change (change_of cs m) refl
     where

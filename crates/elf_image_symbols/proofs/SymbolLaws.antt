@@ -131,7 +131,7 @@ module _ {A : Type 0} (part : NamedSymbol → A) (read : List NamedSymbol) (now 
       let there : m < length read = omega (arith, less, long) in
       shown_at m (part no_symbol) there ∙ each m there ∙ sym (read_part_at m (part no_symbol) there))
 
-  -- and only there
+  -- where all have what was read, each has
   pub each_from_all : map part (map now (counted (length read))) ≡ map part read → (m : ℕ) → m < length read → part (now m) ≡ part (read_at read m)
   each_from_all all m less = sym (shown_at m (part no_symbol) less) ∙ ap (λ (l : List A). get_or l m (part no_symbol)) all ∙ read_part_at m (part no_symbol) less
 

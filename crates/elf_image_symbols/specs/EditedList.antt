@@ -50,7 +50,7 @@ changed_at (suc i) f (x ∷ xs) = x ∷ changed_at i f xs
 abbrev pub stays : List ℕ → ℕ → Bool
 stays gone number = not (is_one_of gone number)
 
--- those with these numbers at read are gone
+-- the list without the symbols that had these numbers at read
 abbrev pub without_numbers : List ℕ → EditedList → EditedList
 without_numbers gone e = record e { numbers = filter (stays gone) e.numbers; symbols = items_where_true (map (stays gone) e.numbers) e.symbols }
 

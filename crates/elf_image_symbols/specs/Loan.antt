@@ -7,6 +7,6 @@ use Rattle.elf_image_symbols.specs.declared.symbols_now.SymbolsNow.{SymbolsNow}
 abbrev pub symbols_now : SymbolsNow → List NamedSymbol
 symbols_now s = s.edited.now.symbols
 
--- their numbers at read
+-- the numbers at read of the symbols that are there
 abbrev pub numbers_now : SymbolsNow → List ℕ
 numbers_now s = s.edited.now.numbers

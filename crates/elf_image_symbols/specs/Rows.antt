@@ -39,7 +39,7 @@ edited = record {
   symbols = changed_at 1 with_global_version (changed_at 3 (with_name (121 ∷ [])) (changed_at 1 (with_name (120 ∷ [])) read));
 }
 
--- the same as changes
+-- the changes that clear the version of b, renamed to x, and rename d to y
 abbrev pub changes : List Change
 changes =
     record { number = 1; name = owned_string (120 ∷ []); is_cleared = true }

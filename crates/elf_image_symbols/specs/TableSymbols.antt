@@ -14,7 +14,7 @@ use Rattle.elf_format.specs.Views.{NamedSymbol, named_symbols, names_of}
 abbrev pub kept_as : SymbolNumbers → Option VersionId → List ℕ → NamedSymbol
 kept_as y version name = record { name = name; st_info = y.st_info; st_other = y.st_other; st_shndx = y.st_shndx; st_value = y.st_value; st_size = y.st_size; version = version }
 
--- the same, its name read from the texts
+-- a symbol with its version and its name, which is read from the texts
 unfoldable pub named_symbol : ℕ → Memory → SymbolNumbers → Option VersionId → Option NamedSymbol
 named_symbol room texts y version = do
   name ← text_at room texts y.st_name
@@ -40,7 +40,7 @@ table_symbols form room texts bytes versions = do
   names ← names_of room texts (symbols_in form bytes)
   Some (named_symbols (symbols_in form bytes) names (versions_in form versions (length (symbols_in form bytes))))
 
--- the same, `count` symbols from a position on, whose records are the first of the bytes
+-- `count` symbols of a table with names and versions, from a position on; their records are the first of the bytes
 unfoldable pub symbols_from : Form → ℕ → Memory → Option (List ℕ) → ℕ → ℕ → List ℕ → Option (List NamedSymbol)
 symbols_from form room texts versions zero i bytes = Some []
 symbols_from form room texts versions (suc count) i bytes = do

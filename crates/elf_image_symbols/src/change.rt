@@ -13,9 +13,9 @@ use std::alloc::{AllocError, Global};
 pub struct Change<'data> {
     // The number of the symbol at read.
     pub number: usize,
-    // Its name, which may be the one that was read.
+    // The symbol's name, which may be the one that was read.
     pub name: ByteString<'data>,
-    // Whether it has the global version in place of the one that was read.
+    // Whether the symbol has the global version in place of the one that was read.
     pub is_cleared: bool,
 }
 
@@ -93,7 +93,7 @@ impl<'data> Change<'data> {
         self.name.as_slice() == table.name(self.number)
     }
 
-    // The same change.
+    // A copy of the change.
     pub(crate) fn try_clone(&self, alloc: Global) -> Result<Change<'data>, AllocError>
         ensures { IfOk result (λ copy. copy ≡ self.now) }
     {

@@ -129,7 +129,7 @@ pub(crate) fn keep_names(changes: &[Change<'_>], table: &Symbols<'_>) -> bool
     true
 }
 
-// The same changes, with room for so many.
+// Copies of changes, with room for so many.
 pub(crate) fn copy_changes<'data>(
     alloc: Global,
     changes: &[Change<'data>],

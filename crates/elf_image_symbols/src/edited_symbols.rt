@@ -58,7 +58,7 @@ impl<'data> EditedSymbols<'data> {
         })
     }
 
-    /// The same symbols with the same edits. Error: `AllocError`.
+    /// A copy of the symbols with their edits. Error: `AllocError`.
     pub fn try_clone(&self, alloc: Global) -> Result<EditedSymbols<'data>, AllocError>
         ensures { IfOk result (λ copy. copy ≡ self.now) }
     {
@@ -73,10 +73,11 @@ impl<'data> EditedSymbols<'data> {
         })
     }
 
-    /// The same symbols with the same edits, made ready for edits of many of them. An edit of a symbol that has none yet
-    /// moves what is told of those behind it; in the copy none moves anything, and each takes the time of a search. To
-    /// make it takes one pass over all symbols that were read: use it before many edits, where some symbols are edited
-    /// already or they don't come in rising order. Error: `AllocError`.
+    /// A copy of the symbols with their edits, made ready for edits of many of them. An edit of a
+    /// symbol that has none yet moves what is told of those behind it; in the copy none moves
+    /// anything, and each takes the time of a search. To make it takes one pass over all symbols
+    /// that were read: use it before many edits, where some symbols are edited already or they
+    /// don't come in rising order. Error: `AllocError`.
     pub fn spread(&self, alloc: Global) -> Result<EditedSymbols<'data>, AllocError>
         ensures { IfOk result (λ copy. copy ≡ self.now) }
     {

@@ -9,14 +9,14 @@ use std::alloc::{AllocError, Global};
 /// The symbols for a link editor and those for a loader, as they were read.
 #[derive(Debug, Drop)]
 pub struct SymbolLists<'data> {
-    /// Those for a link editor.
+    /// The symbols for a link editor.
     pub symbols: Symbols<'data>,
-    /// Those for a loader.
+    /// The symbols for a loader.
     pub dynamic_symbols: Symbols<'data>,
 }
 
 impl<'data> SymbolLists<'data> {
-    /// The same lists. Takes no memory.
+    /// The lists, lent once more. Takes no memory.
     pub fn same(&self) -> SymbolLists<'data>
         ensures { result ≡ self.now }
     {
@@ -27,12 +27,12 @@ impl<'data> SymbolLists<'data> {
     }
 }
 
-/// Both lists with what edits made of them.
+/// The symbols for a link editor and those for a loader, with what edits made of them.
 #[derive(Debug, Drop)]
 pub struct EditedLists<'data> {
-    /// Those for a link editor.
+    /// The symbols for a link editor.
     pub symbols: EditedSymbols<'data>,
-    /// Those for a loader.
+    /// The symbols for a loader.
     pub dynamic_symbols: EditedSymbols<'data>,
 }
 
@@ -49,7 +49,7 @@ impl<'data> EditedLists<'data> {
         })
     }
 
-    /// The same lists with the same edits. Error: `AllocError`.
+    /// A copy of the lists with their edits. Error: `AllocError`.
     pub fn try_clone(&self, alloc: Global) -> Result<EditedLists<'data>, AllocError>
         ensures { IfOk result (λ copy. copy ≡ self.now) }
     {

@@ -78,7 +78,7 @@ pub(crate) fn list_others(numbers: &mut Vec<usize>, are_all: bool, count: usize,
     }
 }
 
-// The same numbers, with room for so many.
+// A copy of numbers, with room for so many.
 pub(crate) fn copy_numbers(
     alloc: Global,
     numbers: &[usize],

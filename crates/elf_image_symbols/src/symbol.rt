@@ -3,7 +3,7 @@ use elf_format::version_id::VersionId;
 /// A symbol (gABI, Symbol Table).
 #[derive(Clone, Copy, Debug)]
 pub struct Symbol<'data> {
-    /// Its name, empty for none.
+    /// The symbol's name, empty for none.
     pub name: &'data [u8],
     /// Binding in the upper four bits, type in the lower.
     pub st_info: u8,

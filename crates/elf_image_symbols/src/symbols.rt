@@ -20,7 +20,7 @@ pub struct Symbols<'data> {
     form: Form,
     // The string table with their names.
     texts: &'data [u8],
-    // Their records, one behind the other.
+    // The records of the symbols, one behind the other.
     bytes: &'data [u8],
     // The bytes of their versions, where there are versions.
     versions: Option<&'data [u8]>,
@@ -105,7 +105,7 @@ impl<'data> Symbols<'data> {
         }
     }
 
-    /// The same symbols. Takes no memory.
+    /// The symbols, lent once more. Takes no memory.
     pub fn same(&self) -> Symbols<'data>
         ensures { result ≡ self.now }
     {

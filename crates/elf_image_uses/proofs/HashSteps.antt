@@ -68,7 +68,7 @@ module _ (form : Form) (s : ImageSection) where
 
 -- ## The GNU table
 
--- its four numbers
+-- the four numbers of a GNU table
 abbrev pub header_at : Form → List ℕ → GnuHeader
 header_at form bytes = record {
   buckets = number_at form.order 4 0 bytes;

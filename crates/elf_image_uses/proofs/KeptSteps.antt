@@ -18,7 +18,7 @@ module _ (image : Image) (edited : IsEdited image) where
   pub kept_long : length (kept_sections image) ≡ length image.sections
   kept_long = length-kept image (as_many image edited)
 
-  -- as many sections are lent
+  -- as many sections are lent as the image has
   pub lent_long : (xs : List Section) → map section_model xs ≡ image.sections → length xs ≡ length (kept_sections image)
   lent_long xs are = sym (length-map xs section_model) ∙ ap length are ∙ sym kept_long
 

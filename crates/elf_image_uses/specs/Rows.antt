@@ -72,18 +72,18 @@ long_word n = low_word n ++ low_word 0
 abbrev pub high_word : ℕ → List ℕ
 high_word n = 0 ∷ 0 ∷ 0 ∷ n ∷ []
 
--- so many buckets and chains, and behind the two numbers so many words
+-- a gABI hash table of so many buckets and chains, and behind the two numbers so many words
 abbrev pub gabi : ℕ → ℕ → List ℕ → ImageSection
 gabi buckets chains behind = section SHT_HASH kinds.Hash 1 (low_word buckets ++ low_word chains ++ behind)
 
--- the same with entries of 8 bytes, as files for Alpha and S/390 have them
+-- a gABI hash table with entries of 8 bytes, as files for Alpha and S/390 have it
 abbrev pub gabi_long : ImageSection
 gabi_long = record (section SHT_HASH kinds.Hash 1 (long_word 1 ++ long_word 2 ++ long_word 1 ++ long_word 0 ++ long_word 0)) { sh_entsize = 8 }
 
 abbrev pub gnu_of : List ℕ → ImageSection
 gnu_of content = section SHT_GNU_HASH kinds.GnuHash 1 content
 
--- so many buckets, words of the filter and bits of the shift, and so many bytes behind the four numbers
+-- a GNU hash table of so many buckets, words of the filter and bits of the shift, and so many bytes behind the four numbers
 abbrev pub gnu : ℕ → ℕ → ℕ → List ℕ → ImageSection
 gnu buckets filter_words filter_shift behind = gnu_of (low_word buckets ++ low_word 1 ++ low_word filter_words ++ low_word filter_shift ++ behind)
 
@@ -228,7 +228,7 @@ pub record AlongRows : Type 0 where
   pub with_their_table : symbols_along (placed (defined_in 0 ∷ defined_in 4 ∷ defined_in 2 ∷ [])) (1 ∷ []) ≡ 0 ∷ 1 ∷ 2 ∷ []
   -- one that begins there stays
   pub held : is_deserted (placed []) (2 ∷ []) (over PT_TLS 16) ≡ false
-  -- its end is no part of its memory
+  -- the end of a program header is no part of its memory
   pub deserted : is_deserted (placed []) (2 ∷ []) (over PT_TLS 8) ≡ true
   pub of_both : is_deserted (placed []) (2 ∷ 4 ∷ []) (over PT_TLS 16) ≡ true
   pub empty : is_deserted (placed []) (2 ∷ 4 ∷ []) (over PT_TLS 0) ≡ false

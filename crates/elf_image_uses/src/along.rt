@@ -119,7 +119,7 @@ fn begins(
     Ok(made)
 }
 
-// The same in rising order.
+// Where the sections that go, or those that stay, begin in memory, in rising order.
 fn sorted_begins(
     alloc: Global,
     image: &Builder<'_>,
@@ -167,7 +167,7 @@ fn is_deserted_by(going: &[u64], staying: &[u64], interpreter: bool, p: SegmentH
     !is_lasting_type(p.p_type) && is_some_within(going, p) && !is_some_within(staying, p)
 }
 
-// The same of each of some program headers.
+// Whether each of some program headers is deserted, by where sections begin that go and that stay.
 fn deserted_of(
     alloc: Global,
     segments: &[Segment<'_>],
@@ -205,7 +205,7 @@ pub fn deserted_segments(
     deserted_of(alloc, image.segments(), &going, &staying, interpreter)
 }
 
-// Those of some program headers that aren't deserted.
+// The program headers that aren't deserted.
 fn left_of<'data>(
     alloc: Global,
     segments: &[Segment<'data>],

@@ -72,7 +72,7 @@ fn are_sizes_right(buckets: u32, filter_words: u32, filter_shift: u32) -> bool
     buckets != 0 && filter_words.is_power_of_two() && filter_shift <= 31
 }
 
-// Whether both are so.
+// Whether the front of a GNU table has right sizes, and the section has room for what they tell.
 fn is_gnu_front_whole(
     form: Form,
     size: usize,

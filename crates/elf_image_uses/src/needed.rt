@@ -57,7 +57,8 @@ fn goes_and_lasts(
     contains(gone, number) && lasts(names, strings, number, kind)
 }
 
-// Whether one of the sections that go lasts, by those numbers.
+// Whether one of the sections that go lasts, by the numbers of the sections of names and of the
+// dynamic strings.
 fn some_last(image: &Builder<'_>, gone: &[usize], names: usize, strings: Option<usize>) -> bool
     requires { IsNonDecreasing gone.now }
     ensures { result

@@ -37,7 +37,7 @@ fn names_one_of(form: Form, kind: u32, bytes: &[u8], numbers: &[usize]) -> bool
     symbol != 0 && contains(numbers, symbol as usize)
 }
 
-// Whether one of the relocations in bytes does.
+// Whether one of the relocations in bytes names one of some symbols, which isn't symbol 0.
 fn some_name_one_of(form: Form, kind: u32, content: &[u8], numbers: &[usize]) -> bool
     requires { IsNonDecreasing numbers.now }
     ensures { result ≡ list_any (is_one_named numbers.now) (relocations_in form kind content.now) }

@@ -75,7 +75,7 @@ pub record AreMarked (known : List ℕ) (places : List Bool) : Type 0 where
   pub long : length places ≡ 2 ^ 16
   pub marks : (n : ℕ) → n < 2 ^ 16 → slice_index_or places n false ≡ is_one_of known n
 
--- as many places as that, none marked
+-- so many places, none of them marked
 pub record AreUnmarked (room : ℕ) (places : List Bool) : Type 0 where
   pub long : length places ≡ room
   pub unmarked : (n : ℕ) → slice_index_or places n false ≡ false

@@ -29,7 +29,7 @@ pub struct VersionNeed<'data> {
 pub struct VersionNeedName<'data> {
     /// The number by which symbols name it (`vna_other`).
     pub index: u16,
-    /// Its name.
+    /// The version's name.
     pub name: ByteString<'data>,
     /// 2 where the file can do without it (`vna_flags`).
     pub flags: u16,
@@ -45,7 +45,8 @@ pub struct Versions<'data> {
 }
 
 impl<'data> Versions<'data> {
-    /// The same versions: borrowed texts are lent again, owned ones copied. Error: `AllocError`.
+    /// A copy of the versions: borrowed texts are lent again, owned ones copied. Error:
+    /// `AllocError`.
     pub fn try_clone(&self, alloc: Global) -> Result<Versions<'data>, AllocError>
         ensures { IfOk result (λ copy. AreSameVersions self.now copy) }
     {
@@ -55,7 +56,7 @@ impl<'data> Versions<'data> {
     }
 }
 
-// The same texts.
+// Copies of texts.
 fn copied_texts<'data>(
     alloc: Global,
     texts: &[ByteString<'data>],
@@ -70,7 +71,7 @@ fn copied_texts<'data>(
     Ok(made)
 }
 
-// The same defined versions.
+// Copies of defined versions.
 fn copied_definitions<'data>(
     alloc: Global,
     definitions: &[VersionDef<'data>],
@@ -90,7 +91,7 @@ fn copied_definitions<'data>(
     Ok(made)
 }
 
-// The same needed version.
+// A copy of a needed version.
 fn copied_name<'data>(
     alloc: Global,
     version: &VersionNeedName<'data>,
@@ -105,7 +106,7 @@ fn copied_name<'data>(
     })
 }
 
-// The same versions of one library.
+// Copies of the needed versions of one library.
 fn copied_names<'data>(
     alloc: Global,
     versions: &[VersionNeedName<'data>],
@@ -120,7 +121,7 @@ fn copied_names<'data>(
     Ok(made)
 }
 
-// The versions needed of one library, the same.
+// A copy of the versions needed of one library.
 fn copied_need<'data>(
     alloc: Global,
     need: &VersionNeed<'data>,
@@ -132,7 +133,7 @@ fn copied_need<'data>(
     Ok(VersionNeed { file, versions })
 }
 
-// The same needed versions, library by library.
+// Copies of needed versions, library by library.
 fn copied_needs<'data>(
     alloc: Global,
     needs: &[VersionNeed<'data>],

@@ -9,7 +9,7 @@ use Rattle.elf_image.specs.ImageModel.{segment_model}
 use Rattle.elf_layout.specs.Slots.{value_where}
 
 module _ {X : Type 0} (test : X → Bool) (value : X → ℕ) where
-  -- the greatest of a number and the others
+  -- the greatest of a number and the values of the elements that pass
   abbrev pub greatest_of : ℕ → List X → ℕ
   greatest_of n xs = greatest n (map value (filter test xs))
 

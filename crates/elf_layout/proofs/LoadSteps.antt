@@ -54,7 +54,7 @@ slots_of load = load.slots
 abbrev pub end_in_file : AddedLoad → ℕ
 end_in_file load = end_of (file_part load.header)
 
--- those behind a place
+-- the segments of the sets of flags, behind a place
 abbrev pub loads_behind : Resized → List ℕ → At → List ℕ → List AddedLoad
 loads_behind r moved at sets = loads_from r.image.moves_dynamic (load_alignment r.read r.image) at.offset at.address sets (sections_at r moved)
 

@@ -29,7 +29,7 @@ before a b (inr (same, less)) =
     or_right (nat_lt a.offset b.offset) (a.offset == b.offset && nat_lt a.position b.position)
     (and_from (a.offset == b.offset) (nat_lt a.position b.position) (eq-eqb a.offset b.offset same) (lt-ltb a.position b.position less))
 
--- one of them is earlier, or they stand at one place
+-- one of two reaches is earlier, or both stand at one place
 compared : (a b : Reach) → IsEarlier a b ⊎ (IsEarlier b a ⊎ ((a.offset ≡ b.offset) × (a.position ≡ b.position)))
 unfolding IsEarlier
 compared a b = elim (cases_order a.offset b.offset) [

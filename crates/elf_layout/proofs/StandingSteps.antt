@@ -149,7 +149,7 @@ module _ (s : SizedSection) (ss : List SizedSection) (end : ℕ) where
   own_unloaded q are true = rw (eq-eqb s.kept.position q are.0) refl
   own_unloaded q are false = sym (ap (option_map offset_of) (none_earlier q (q + 1) end ss are.1 (omega arith)))
 
-  -- and passed over at another
+  -- a section that isn't loaded is passed over at another position
   other_unloaded : (p : ℕ) → s.kept.position ≢ p → (b : Bool)
       → find (at_unloaded p) (unloaded_from (cond b (next_multiple_of end (alignment_of s) + s.size) end) (filter is_unloaded ss))
       ≡ find (at_unloaded p) (unloaded_from end (cond b (s ∷ filter is_unloaded ss) (filter is_unloaded ss)))

@@ -53,7 +53,7 @@ end_over part all i past so_far = ap (λ (l : List SegmentHeader). is_some (load
 
 -- ## Sections that aren't loaded
 
--- those before a place are placed
+-- the sections before a place are placed
 pub record ArePlacedUnloaded (start : ℕ) (all : List SizedSection) (made : List (Option ℕ)) (end i : ℕ) : Type 0 where
   pub offsets : made ++ unloaded_offsets end (drop i all) ≡ unloaded_offsets start all
   pub ends : unloaded_end end (drop i all) ≡ unloaded_end start all
@@ -112,7 +112,7 @@ unloaded_all start all made end i past placed =
 
 -- ## The place of each section
 
--- those before a place are placed
+-- the sections before a place are placed
 abbrev pub ArePlacedAll : (SizedSection → Place) → List SizedSection → List Place → ℕ → Type 0
 ArePlacedAll by all made i = made ++ map by (drop i all) ≡ map by all
 

@@ -81,7 +81,7 @@ joins_more n k tree x two long within is = record { joins = λ j h. by_place j (
         subst (λ i. get_or (tree ++ x ∷ []) (n + i) None ≡ joined (get_or (tree ++ x ∷ []) (2 * i) None) (get_or (tree ++ x ∷ []) (2 * i + 1) None)) same
         (last ∙ is ∙ both k (omega (arith, long, within)))
 
--- those in front alone
+-- the entries in front alone tell what those up to a place join to
 pub over_take : (n : ℕ) (xs : List (Option Reach)) (low high : ℕ) → high ≤ n → over xs low high ≡ over (take n xs) low high
 unfolding over
 over_take zero xs low high h = over_none xs low high (omega (arith, h)) ∙ sym (over_none (take 0 xs) low high (omega (arith, h)))
@@ -93,7 +93,7 @@ over_take (suc n) (x ∷ xs) (suc low) (suc high) h = over_take n xs low high (o
 
 -- ## Those that begin in a range
 
--- they are those from one place on up to another
+-- the sections that begin in a range are those from one place on up to another
 record AreBetween (part : Range) (xs : List Begin) (low high : ℕ) : Type 0 where
   inside : (i : ℕ) (d : Begin) → low ≤ i → i < high → i < length xs → is_in part (get_or xs i d).start ≡ true
   before : (i : ℕ) (d : Begin) → i < low → i < length xs → is_in part (get_or xs i d).start ≡ false
@@ -158,7 +158,7 @@ module _ (all : List Place) (part : Range) where
 
 -- ## A tree that is made
 
--- so many entries stand behind those of the sections
+-- so many entries of a tree stand behind those of the sections
 pub record IsTreeUpTo (all : List Place) (begins : List Begin) (k : ℕ) (tree : List (Option Reach)) : Type 0 where
   pub long : length tree ≡ length begins + k
   pub front : take (length begins) tree ≡ map (reach_of_begin all) begins

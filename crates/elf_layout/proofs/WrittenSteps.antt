@@ -62,7 +62,7 @@ span-over (t ∷ ts) = ap (λ o. option_to_list (option_map target_of_span o)) (
 abbrev span_at : List Place → Option Span → ℕ → Option Span
 span_at all span position = elim (slice_get all position) [ Some t ↦ span_with span t | None ↦ span ]
 
--- the same, if it is one that moves, or one that stays
+-- the place of one more section, if it is one that moves, or one that stays
 chosen_step : List Place → List Bool → Bool → Option Span → ℕ → Option Span
 chosen_step all marks moving span position = if is_chosen moving marks position then span_at all span position else span
 
@@ -107,7 +107,7 @@ places_or_none all moves (s ∷ ns) within =
 
 module _ (r : Resized) (moved : List ℕ) (marks : List Bool) (are : AreSized r) (h : AreMarks r moved marks) (all : List Place) (long : length all ≡ length r.image.sections)
     (begins : Begins) (begin : AreBegins r marks begins) where
-  -- those that move, or those that stay
+  -- the sections that move, or those that stay
   abbrev chosen : Bool → KeptSection → Bool
   chosen moving s = if moving then is_moved moved s else not (is_moved moved s)
 

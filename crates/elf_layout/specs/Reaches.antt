@@ -27,7 +27,7 @@ joined (Some a) (Some b) = let r : Reach = first_of a b in Some (record { offset
 abbrev pub joined_all : List (Option Reach) → Option Reach
 joined_all xs = fold joined None xs
 
--- those from one place on up to another
+-- what several reaches give together: those from one place on up to another
 unfoldable pub over : List (Option Reach) → ℕ → ℕ → Option Reach
 over [] low high = None
 over (x ∷ xs) zero zero = None
@@ -47,7 +47,7 @@ reach_at all position = elim (slice_get all position) [ Some t ↦ Some (reach_o
 abbrev pub reach_of_begin : List Place → Begin → Option Reach
 reach_of_begin all b = reach_at all b.position
 
--- the same, if it begins in a range
+-- where the section at a position comes to stand, if it begins in a range
 abbrev pub reach_in : List Place → Range → Begin → Option Reach
 reach_in all part b = if is_in part b.start then reach_at all b.position else None
 

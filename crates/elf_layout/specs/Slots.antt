@@ -94,6 +94,6 @@ start_of_load align end memory = next_multiple_of memory align + end % align
 abbrev pub load_here : Resized → List ℕ → ℕ → ℕ → ℕ → ℕ → AddedLoad
 load_here r moved align end memory flags = load_at align flags end (start_of_load align end memory) (with_flags r flags moved)
 
--- its address or its end in the file is past 64 bits
+-- the added segment's address or its end in the file is past 64 bits
 abbrev pub IsFar : AddedLoad → Type 0
 IsFar load = (2 ^ 64 ≤ load.header.p_vaddr) ⊎ (2 ^ 64 ≤ end_of (file_part load.header))

@@ -36,7 +36,7 @@ pub record Span : Type 0 where
   pub first : Place
   pub end : ℕ
 
--- the same where they come to stand
+-- the first of several places and the end of the last, by a reach of them
 abbrev pub span_of : List Place → Option Reach → Option Span
 span_of all None = None
 span_of all (Some r) = option_map (λ (t : Place). let span : Span = record { first = t; end = r.end } in span) (slice_get all r.position)
@@ -55,7 +55,7 @@ pub record Begins : Type 0 where
   pub staying : List Begin
   pub moving : List Begin
 
--- the same of an image with sections that are marked, in any order
+-- where sections with bytes of an image begin, by marks: those that stay and those that move, in any order
 pub record AreBegins (r : Resized) (marks : List Bool) (begins : Begins) : Type 0 where
   pub staying : IsPermutation (chosen_begins false marks (indexed_sections r.image)) begins.staying
   pub moving : IsPermutation (chosen_begins true marks (indexed_sections r.image)) begins.moving
@@ -63,7 +63,7 @@ pub record AreBegins (r : Resized) (marks : List Bool) (begins : Begins) : Type 
 abbrev pub begins_model : Notes → Begins
 begins_model n = record { staying = n.staying.begins.items; moving = n.moving.begins.items }
 
--- the same with where they come to stand
+-- notes of sections that stay and of those that move know where these come to stand
 pub record AreNotes (all : List Place) (notes : Notes) : Type 0 where
   pub staying : AreJoined all notes.staying
   pub moving : AreJoined all notes.moving
@@ -99,7 +99,7 @@ is_physical_well form p address = fits_word (physical_for form p address)
 abbrev pub is_anchored_well : Form → SegmentHeader → Target → Bool
 is_anchored_well form p t = is_physical_well form p (address_for p t) && fits_word t.part.size
 
--- the same of a target that was found
+-- a program header's numbers at a target that was found fit
 unfoldable pub is_well_at : Form → SegmentHeader → TargetAt → Bool
 is_well_at form p t = is_anchored_well form p (target_model t)
 
@@ -114,7 +114,7 @@ abbrev pub headings_at : Form → SegmentHeader → SegmentHeader → List Targe
 headings_at form p alone [] = alone ∷ []
 headings_at form p alone (t ∷ ts) = map (anchored_to form p) (t ∷ ts)
 
--- the same at targets that were found
+-- what becomes of a program header at targets that were found, where there are any
 abbrev pub headings_found : Form → SegmentHeader → SegmentHeader → List TargetAt → List SegmentHeader
 headings_found form p alone [] = alone ∷ []
 headings_found form p alone (t ∷ ts) = map (header_at form p) (t ∷ ts)

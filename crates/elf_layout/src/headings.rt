@@ -81,7 +81,7 @@ fn physical_number(form: Form, p: SegmentHeader, address: u64) -> u128
     }
 }
 
-// The same; none where it doesn't fit.
+// The physical address that goes with an address; none where it doesn't fit.
 #[tactic(auto, unfolding(crate::specs::Targets::is_physical_well))]
 fn physical_at(form: Form, p: SegmentHeader, address: u64) -> Option<u64>
     ensures { MatchOption result (is_physical_well form p address ≡ false)

@@ -146,7 +146,7 @@ pub(crate) fn plan_of(alloc: Global, r: &Resizing<'_, '_>) -> Result<Plan, Layou
     plan_after(alloc, r, &anchors, &rounds)
 }
 
-// The same, for the image that was read from the same bytes and the edited one.
+// The plan of an edited image with new sizes, with the image that was read from the same bytes.
 pub(crate) fn plan_from<'data>(
     alloc: Global,
     read: &Builder<'data>,

@@ -125,7 +125,7 @@ pub(crate) fn reach_over(places: &[SectionPlace], reaches: &Reaches, part: Range
     reach_between(&reaches.tree, reaches.begins.len(), low, high)
 }
 
-// Those sections with bytes that move, or those that stay.
+// The sections with bytes that move, or those that stay.
 pub(crate) fn reaches_of(
     alloc: Global,
     r: &Resizing<'_, '_>,

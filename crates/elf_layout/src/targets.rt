@@ -31,9 +31,9 @@ pub(crate) struct Targets {
 // Where sections with bytes begin and where they come to stand.
 #[derive(Drop)]
 pub(crate) struct Notes {
-    // Those that stay.
+    // The sections that stay.
     pub(crate) staying: Reaches,
-    // Those that move.
+    // The sections that move.
     pub(crate) moving: Reaches,
 }
 

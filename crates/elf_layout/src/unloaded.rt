@@ -26,7 +26,8 @@ struct UnloadedPlace {
     end: u64,
 }
 
-// Whether a section has bytes in the file, and takes no memory. The reserved one without bytes is none of these.
+// Whether a section has bytes in the file, and takes no memory. The reserved section without bytes
+// is none such.
 fn is_unloaded(section: SectionNumbers) -> bool
     ensures { (s : SizedSection) → section ≡ numbers_of s → result ≡ is_unloaded_section s }
 {

@@ -17,7 +17,7 @@ use Rattle.elf_layout_moves.proofs.SameMarks.{same_marks}
 
 -- ## Blocks of which none is kept out
 
--- it isn't taken out as a displaced one, and marks the start of a loaded segment only where there is one
+-- a block isn't taken out as a displaced one, and marks the start of a loaded segment only where there is one
 abbrev IsIn : Bool → Block → Type 0
 IsIn loaded b = (moves_as_displaced loaded b ≡ false) × (b.is_load_start ≡ true → loaded ≡ true)
 

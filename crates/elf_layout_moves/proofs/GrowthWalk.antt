@@ -123,7 +123,7 @@ module _ (p : Block → Bool) where
       ap (λ (t : Bool). list_any p (marked_of (last ∷ b ∷ bs) (all_marks (if t then past_mover behind else on)))) is
       ∙ own_mark last b (marked_of bs behind.1) behind.0
 
-  -- it stays so far
+  -- the next block stays so far
   some_on : (last b : Block) (bs : List Block) → does_later_move last b ≡ false → is_some_marked last (b ∷ bs) ≡ ((p last && does_earlier_move last b) || is_some_marked b bs)
   unfolding marks_behind
   some_on last b bs isnt =
@@ -136,7 +136,7 @@ module _ (p : Block → Bool) where
 
   module _ (short long : Block) (start : long.start ≡ short.start) (some : 0 < short.size) (grows : short.size ≤ long.size) (earlier : is_earlier short long ≡ true)
       (short_fixed : short.priority ≡ 0) (long_fixed : long.priority ≡ 0) (short_fails : p short ≡ false) (long_fails : p long ≡ false) where
-    -- it starts where the short one ends or behind, and before the long one does
+    -- a block starts where the short one ends or behind, and before the long one does
     abbrev pub is_between : Block → Bool
     is_between b = nat_le (short.start + short.size) b.start && nat_lt b.start (long.start + long.size)
 

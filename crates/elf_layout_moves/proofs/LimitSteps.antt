@@ -121,7 +121,7 @@ block_limited count from moved bs b p limit limits own past is are =
           ∙ sym (ap (λ (t : Bool). nat_le (limit_at limits position) end || t) (reached ∙ ap (λ (t : Bool). t && nat_lt b.start end) (ne_eqb p position (λ same. apart (sym same)))) ∙ or_false (nat_le (limit_at limits position) end))
     ])
 
--- the same for lists and limits that are seen otherwise
+-- limits of a list stay limits where the list and they are seen otherwise
 pub as_seen : (count from : ℕ) (moved : List ℕ) (bs all : List Block) (limits after : List ℕ) → all ≡ bs → after ≡ limits → AreLimitsOf count from moved bs limits → AreLimitsOf count from moved all after
 as_seen count from moved bs all limits after same also are =
     subst (λ (l : List Block). AreLimitsOf count from moved l after) (sym same) (subst (λ (l : List ℕ). AreLimitsOf count from moved bs l) (sym also) are)

@@ -152,7 +152,7 @@ same_apart blocks found moved same apart =
     let tests : is_one_of found ≡ is_one_of moved = fun_ext same in
     ap (λ (f : ℕ → Bool). not (some_two (λ a b. overlaps a b && not (is_some_and f a.section) && not (is_some_and f b.section)) blocks)) tests ∙ apart
 
--- these are the sections whose blocks move
+-- sections among which the same positions are, are those whose blocks move
 pub same_moving : (blocks : List Block) (found moved : List ℕ) → ((p : ℕ) → is_one_of found p ≡ is_one_of moved p) → moved ≡ moving_sections blocks → are_moving blocks found ≡ true
 same_moving blocks found moved same is =
     let alike : (p : ℕ) → is_one_of found p ≡ is_one_of (moving_sections blocks) p = λ p. same p ∙ ap (λ (l : List ℕ). is_one_of l p) is in

@@ -73,7 +73,7 @@ is_its_block position x owned = rw owned (eq-eqb position position refl)
 
 module _ (blocks : List Block) (ranges : List Ranged) (marks : List Bool) (ordered : AreOrdered blocks) (clear : AreClear blocks) (are : AreRanges blocks ranges)
     (many : length marks ≡ length ranges) (free : HasStuck ranges → ⊥) (apart : StayApart ranges marks) (causes : MoveForCause ranges marks) where
-  -- those that the walk marks move
+  -- the blocks that the walk marks move
   pub marked_move : AreMovers blocks (marked_of blocks marks)
   marked_move = record {
     there = λ k x at. let (j, is, marked) = marked_from blocks marks k x at in (j, slice_get_within blocks j x is, get_or_from_slice_get blocks j x x is);
@@ -306,7 +306,7 @@ module _ (blocks sorted : List Block) (loaded : Bool) (told : loaded ≡ has_loa
 
 -- ## Tests of all displaced blocks
 
--- one of them can't move: it is stuck
+-- a displaced block can't move: it is stuck
 pub fixed_stuck : (blocks : List Block) (loaded : Bool) → loaded ≡ has_load blocks → All IsWhole blocks
     → list_any (λ b. b.priority == 0) (filter (λ b. moves_as_displaced loaded b) blocks) ≡ true → is_stuck blocks ≡ true
 fixed_stuck blocks loaded told wholes some =
@@ -345,7 +345,7 @@ all_behind : (test : ℕ → Bool) (o : Option ℕ) (ys : List ℕ) → ((p : �
 all_behind test None ys first h = h
 all_behind test (Some y) ys first h = and_from (test y) (list_all test ys) (first y refl) h
 
--- and passes what that of each block passes
+-- the position of each block's section passes what that of each block passes
 pub all_told : (test : ℕ → Bool) (xs : List Block) → ((k : ℕ) (x : Block) (position : ℕ) → slice_get xs k ≡ Some x → x.section ≡ Some position → test position ≡ true)
     → list_all test (filter_map (λ b. b.section) xs) ≡ true
 all_told test [] each = refl
@@ -354,7 +354,7 @@ all_told test (y ∷ xs) each =
     (all_told test xs (λ k x position at owned. each (suc k) x position at owned))
 
 module _ (blocks movers : List Block) (wholes : All IsWhole blocks) (move : AreMovers blocks movers) where
-  -- each of these sections has a cause
+  -- each section of a block that moves has a cause
   pub sections_have_causes : have_causes blocks (filter_map (λ b. b.section) movers) ≡ true
   sections_have_causes = all_told (has_cause blocks) movers move.causes
 

@@ -88,7 +88,7 @@ any_key image position (p ∷ moved) =
     ap (λ (q : ℕ). q == position || list_any (λ (k : Three). k.2 == position) (map (old_key image) moved)) (own_position (slice_get image.sections p) p)
     ∙ ap (λ (b : Bool). p == position || b) (any_key image position moved)
 
--- those that are left are those that were given
+-- the positions that are left are those that were given
 pub same_positions : (image : Image) (moved : List ℕ) (sorted : List Three) (position : ℕ) → IsPermutation (map (old_key image) moved) sorted
     → is_one_of (map (λ (k : Three). k.2) (dedup are_same sorted)) position ≡ is_one_of moved position
 same_positions image moved sorted position same =

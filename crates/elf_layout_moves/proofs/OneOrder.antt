@@ -50,7 +50,7 @@ starts_no_later a b h = elim (comes_means a.start a.size b.start b.size (nat_le 
   | inr same ↦ omega (arith, same.0)
 ]
 
--- and where they start together it is no smaller
+-- the later one of two that start together is no smaller
 pub sizes_no_less : (a b : Block) → is_earlier a b ≡ true → a.start ≡ b.start → a.size ≤ b.size
 sizes_no_less a b h start = elim (comes_means a.start a.size b.start b.size (nat_le (rank a) (rank b)) h) [
   | inl less ↦ absurd (omega (arith, less, start))

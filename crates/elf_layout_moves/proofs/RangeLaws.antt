@@ -37,7 +37,7 @@ overlaps_here x y earlier past =
     and_from (is_earlier x y) (nat_lt y.start (x.start + x.size) || is_kept_out x y) earlier
     (or_left (nat_lt y.start (x.start + x.size)) (is_kept_out x y) (lt-ltb y.start (x.start + x.size) past))
 
--- and only there, whichever of them comes first, where none is kept out
+-- of two blocks that overlap the earlier one ends past the start of the later one, where none is kept out
 past_from_overlaps : (x y : Block) → is_kept_out x y ≡ false → overlaps x y ≡ true → y.start < x.start + x.size
 past_from_overlaps x y clear over =
     elim (or_cases (nat_lt y.start (x.start + x.size)) (is_kept_out x y) (and_parts (is_earlier x y) (nat_lt y.start (x.start + x.size) || is_kept_out x y) over).1) [
@@ -134,7 +134,7 @@ module _ (blocks : List Block) (ranges : List Ranged) (ordered : AreOrdered bloc
         later_priority = ib.priority;
       }
 
-  -- and the other way round
+  -- ranges of blocks that overlap do
   overlapping : (i j : ℕ) (x y : Block) → i < j → slice_get blocks i ≡ Some x → slice_get blocks j ≡ Some y → y.start < x.start + x.size
       → Overlapping ranges i j x y
   overlapping i j x y less at_i at_j past =
@@ -178,7 +178,7 @@ module _ (blocks : List Block) (ranges : List Ranged) (ordered : AreOrdered bloc
             omega (arith, within, beyond, ia.start, ib.start)))
       ]
 
-  -- so the marks of ranges are those of their blocks
+  -- the marks of ranges are those of their blocks
   pub range_marks : ranged.marks_of ranges ≡ marks earlier_moves later_moves blocks
   range_marks = same_marks ranged.earlier_moves ranged.later_moves earlier_moves later_moves ranges blocks are.as_many (λ i j a b x y less at_a at_b at_x at_y.
       let over = same_overlap i j x y a b less at_x at_y at_a at_b in
@@ -202,7 +202,7 @@ module _ (blocks : List Block) (ranges : List Ranged) (ordered : AreOrdered bloc
       (and_from (overlaps o.earlier o.later) (o.earlier.priority == 0) o.over (eq-eqb o.earlier.priority 0 (omega (arith, stuck.earlier_stays, o.earlier_priority))))
       (eq-eqb o.later.priority 0 (omega (arith, stuck.later_stays, o.later_priority))))
 
-  -- and so is the fault
+  -- the fault of ranges is that of their blocks
   pub stuck_fault : (fault : LayoutFault) → HasStuckFault ranges fault → IsStuckFault blocks fault
   stuck_fault faults.Overlap stuck = stuck_there stuck
   stuck_fault faults.NumberTooLarge never = never

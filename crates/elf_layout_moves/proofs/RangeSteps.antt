@@ -24,7 +24,7 @@ distances_rise blocks address ordered i j d up within = elim (cases_eq i j) [
   | inr other ↦ omega (arith, starts_later blocks i j (get_or blocks i d) (get_or blocks j d) ordered (omega arith) (slice_get-get_or blocks i d (omega arith)) (slice_get-get_or blocks j d within))
 ]
 
--- whether it starts less than so far behind an address
+-- a block starts less than so far behind an address
 abbrev pub starts_within : ℕ → ℕ → Block → Bool
 starts_within address size b = nat_lt (b.start - address) size
 

@@ -75,7 +75,7 @@ put_any test k (c ∷ cs) = by_order (by_three k c) refl (put_any test k cs)
 -- ## Sections before a place that pass a test
 
 module _ (r : Resized) (numbered : AreNumbered r.image) (sized : length r.sizes ≡ length r.image.sections) (test : ℕ → Bool) where
-  -- the keys of those
+  -- the keys of the sections before a place that pass
   keys_below : ℕ → List Three
   keys_below zero = []
   keys_below (suc n) = if test n then put_key (old_key r.image n) (keys_below n) else keys_below n
@@ -132,7 +132,7 @@ module _ (r : Resized) (numbered : AreNumbered r.image) (sized : length r.sizes 
   among zero q = sym (ap (λ (b : Bool). b && test q) (le-ltb q zero (omega arith)))
   among (suc n) q = one_among n q (nat_lt q n && test q) (among n q) (test n) ∙ one_place n q (cases_order q n)
 
-  -- Those that pass, in the order in which they stood.
+  -- The positions of the sections that pass, in the order in which they stood.
   pub some_in_order : (also : List ℕ) × (are_in_old_order (sections_at r also) ≡ true) × ((q : ℕ) → is_one_of also q ≡ (nat_lt q (length r.image.sections) && test q))
   some_in_order =
       let n : ℕ = length r.image.sections in (

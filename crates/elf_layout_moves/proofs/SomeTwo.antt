@@ -17,7 +17,7 @@ module _ (test : Block → Block → Bool) where
   abbrev either : Block → Block → Bool
   either b c = test b c || test c b
 
-  -- it fails of the first and each other block
+  -- a test that fails of each two blocks fails of the first and each other one
   none_with_first : (b : Block) (bs : List Block) → AtAnyTwo Fails (b ∷ bs) → list_any (either b) bs ≡ false
   none_with_first b bs all = list_any_none (either b) bs (λ k d within.
       or_from (test b (get_or bs k d)) (test (get_or bs k d) b) (all zero (suc k) d (omega arith) (omega arith) (omega arith)) (all (suc k) zero d (omega arith) (omega arith) (omega arith)))
@@ -36,7 +36,7 @@ module _ (test : Block → Block → Bool) where
     | inr isnt ↦ isnt
   ]
 
-  -- the same of the first and the others, by the places
+  -- a test that fails of the first and each other block, and of each two others, fails of each two
   at_places : (b : Block) (bs : List Block) → list_any (either b) bs ≡ false → AtAnyTwo Fails bs → AtAnyTwo Fails (b ∷ bs)
   at_places b bs none rest zero zero d apart p q = absurd (apart refl)
   at_places b bs none rest zero (suc n) d apart p q =
@@ -52,7 +52,7 @@ module _ (test : Block → Block → Bool) where
       let parts = or_parts (list_any (either b) bs) (some_two test bs) none in
       at_places b bs parts.0 (fails_of_two bs parts.1)
 
-  -- it holds of two blocks at different places
+  -- a test that holds of two blocks at different places holds of some two
   pub holds_of_two : (bs : List Block) (m n : ℕ) (a b : Block) → m ≢ n → slice_get bs m ≡ Some a → slice_get bs n ≡ Some b → test a b ≡ true
       → some_two test bs ≡ true
   holds_of_two bs m n a b apart at_m at_n is = elim (cases_Bool (some_two test bs)) [

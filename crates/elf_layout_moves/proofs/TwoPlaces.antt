@@ -60,7 +60,7 @@ module _ {X : Type 0} where
       (subst (λ (y : X). R (get_or xs a.0 d) y) (sym b.1.is)
       (all a.0 b.0 d (stood_apart xs i j m n a.0 b.0 d apart a.1 b.1) a.1.within b.1.within))
 
-  -- it holds in any order of the list
+  -- what holds at any two places holds in any order of the list
   pub at_any_two-IsPermutation : (R : X → X → Type 0) (xs ys : List X) → IsPermutation xs ys → AtAnyTwo R xs → AtAnyTwo R ys
   at_any_two-IsPermutation R xs ys same all =
       IsPermutation-keeps xs (AtAnyTwo R) all (λ l i j p q h. swapped_too R l i j p q h) ys same

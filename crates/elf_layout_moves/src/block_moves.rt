@@ -43,7 +43,7 @@ fn displaced_blocks(
         .collect(alloc)
 }
 
-// The other blocks, of which none is kept out by another one.
+// The blocks that aren't displaced, of which none is kept out by another one.
 fn inside_blocks(
     alloc: Global,
     blocks: &[MemoryBlock],
@@ -130,7 +130,7 @@ fn marks(alloc: Global, ranges: &[Block]) -> Result<Vec<bool>, LayoutFault>
     Ok(marks)
 }
 
-// Those that are marked.
+// The blocks that are marked.
 fn marked_blocks(
     alloc: Global,
     blocks: &[MemoryBlock],
@@ -162,7 +162,7 @@ fn walk_in_order(alloc: Global, sorted: &[MemoryBlock]) -> Result<Vec<MemoryBloc
     Ok(found)
 }
 
-// The same in their order.
+// The blocks that move, in their order, of blocks of which none is kept out by another one.
 fn others_in_order(
     alloc: Global,
     blocks: &[MemoryBlock],

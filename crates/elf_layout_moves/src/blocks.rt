@@ -27,7 +27,7 @@ use std::marker::Model;
 /// A range of memory that something takes, with how readily it moves and which section's it is.
 #[derive(Clone, Copy)]
 pub struct MemoryBlock {
-    /// Its first address.
+    /// The first address of the block.
     pub start: u128,
     /// How many bytes it takes.
     pub size: u128,
@@ -37,7 +37,7 @@ pub struct MemoryBlock {
     pub section: Option<usize>,
     /// Whether what it is to hold can't stand where it stood: it was empty, or its loaded segment went.
     pub is_displaced: bool,
-    /// Whether it marks the start of a loaded segment.
+    /// Whether the block marks the start of a loaded segment.
     pub is_load_start: bool,
 }
 
@@ -198,7 +198,8 @@ pub fn table_end_from(r: &Resizing<'_, '_>, start: Option<u128>, added: usize) -
     }
 }
 
-/// The same, with a look at all segments.
+/// Where the program header table ends in memory with so many entries more than the image has
+/// segments, with a look at all segments.
 pub fn table_end(r: &Resizing<'_, '_>, added: usize) -> u128
     ensures value { result ≡ end_with r.now added }
     ensures near { result < 2 ^ 80 }
@@ -234,7 +235,8 @@ fn push_edges(made: &mut Vec<MemoryBlock>, p: &Segment<'_>) -> Result<(), AllocE
     Ok(())
 }
 
-// The same of each loaded segment.
+// Puts the start of each loaded segment behind other blocks, and where its file part and its memory
+// end.
 fn push_all_edges(made: &mut Vec<MemoryBlock>, segments: &[Segment<'_>]) -> Result<(), AllocError>
     ensures { OnOk result (made.new.items ≡ made.old.items
         ++ flat_map edge_blocks (loads_of (map segment_model segments.now))) }

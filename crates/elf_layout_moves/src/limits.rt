@@ -17,7 +17,7 @@ pub const NEVER: u128 = u128::MAX;
 pub struct Limits {
     /// For each section the least end of the table with which it moves: an address.
     pub limits: Vec<u128>,
-    /// They tell of longer tables that end before this address.
+    /// The limits tell of longer tables that end before this address.
     pub bound: u128,
 }
 

@@ -31,7 +31,7 @@ pub fn find_move_sections(
     find_moved_from(alloc, &read, image, sizes, added)
 }
 
-// The same, for a caller that has the image as its source was read.
+// The positions of the sections that move, for a caller that has the image as its source was read.
 fn find_moved_from<'data>(
     alloc: Global,
     read: &Builder<'data>,
@@ -52,7 +52,8 @@ fn find_moved_from<'data>(
     find_moved(alloc, &r, added)
 }
 
-/// The same, for an image with its new sizes. Errors: `Overlap` where two blocks overlap of which none can move; `Memory`.
+/// The positions of the sections that move, for an image with its new sizes. Errors: `Overlap`
+/// where two blocks overlap of which none can move; `Memory`.
 pub fn find_moved(
     alloc: Global,
     r: &Resizing<'_, '_>,

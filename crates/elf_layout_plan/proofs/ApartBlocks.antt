@@ -54,7 +54,7 @@ none_two test (b ∷ bs) h =
       none_two test bs behind,
     )
 
--- neither of them moves, and they overlap
+-- two blocks overlap, and neither moves
 abbrev pub stay_over : List ℕ → Block → Block → Bool
 stay_over moved a b = overlaps a b && not (is_block_of_some moved a) && not (is_block_of_some moved b)
 

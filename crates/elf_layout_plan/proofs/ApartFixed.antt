@@ -117,7 +117,7 @@ module _ (r : Resized) (sized : sized_sections r ≡ map (sized_of r) (kept_sect
           let at_i : slice_get (kept_sections r.image) i ≡ Some t.kept = subst (λ (n : ℕ). slice_get (kept_sections r.image) n ≡ Some t.kept) index at_k in
           ap (priority_of r) (same_Some t.kept s (sym at_i ∙ at)) ∙ fixed
 
-  -- so it never moves
+  -- a section that can't move never moves
   pub fixed_isnt_moved : (looked : ℕ) (moved : List ℕ) → do_move r looked moved ≡ true → (i : ℕ) (s : KeptSection) → slice_get (kept_sections r.image) i ≡ Some s → priority_of r s ≡ 0
       → is_one_of moved s.position ≡ true → ⊥
   fixed_isnt_moved looked moved move i s at fixed among =

@@ -256,7 +256,7 @@ module _ (r : Resized) (facts : AreFacts r) (moved : List ℕ) where
           let (i, at, _) = find-at (λ q. lies_in (table_at_read r) (file_part q)) (loads_of r.read.segments) p was in
           some_entries r.read.segments (segment_header_size r.read.form) i p (entry-positive r.read.form) at
 
-      -- its segment is left
+      -- the segment that had the table is left
       table_left : loaded_over (table_at_read r) facts.left ≡ table_load r
       table_left =
           find_left r.read.header.e_phoff (loads_end r.image.segments) (λ q. lies_in (table_at_read r) (file_part q))
@@ -344,7 +344,7 @@ module _ (r : Resized) (facts : AreFacts r) (moved : List ℕ) where
         by_load None e (Some q) f = absurd (none-some q (sym (none_behind e) ∙ f))
         by_load (Some p) e (Some q) f = (table_found p e q f, tt)
 
-    -- both headers, in the order of their blocks
+    -- both headers of a file, in the order of their blocks
     pub headers_under : Each (IsUnder (file_header_blocks r)) (addresses_of (range 0 (file_header_size r.image.form)) plan_segments) × Each (IsUnder (table_blocks r looked)) (addresses_of plan_table plan_segments)
     headers_under =
         let P : Form → Type 0 = λ form. Each (IsUnder (file_header_blocks r)) (addresses_of (range 0 (file_header_size form)) plan_segments) in

@@ -1,4 +1,4 @@
--- The loaded segments that are left of those that were read: what holds of all those, and which tests find the same.
+-- The loaded segments that are left of those that were read: what holds of all that were read, and which tests find the same.
 use Rattle.std.proofs.Common.{◌≡◌, ℕ, Bool, true, false, cond, ◌||◌, List, [], ◌∷◌, refl, sym, ap, ◌∙◌, subst, inl, inr, Option, Some}
 use Rattle.std.specs.Prelude.{find, if◌then◌else◌}
 use Rattle.std.specs.List.{list_any}
@@ -83,7 +83,7 @@ module _ (table end : ℕ) where
     any_behind p ps qs e true = ap (λ (c : Bool). test p || c) e
     any_behind p ps qs e false = e
 
-    -- and some pass where some passed
+    -- some of the loaded segments that are left pass where some passed
     pub any_left : (olds ps : List SegmentHeader) → AreUnclaimed table end olds ps → list_any test (loads_of ps) ≡ list_any test (loads_of olds)
     any_left [] [] h = refl
     any_left [] (p ∷ ps) h = absurd h

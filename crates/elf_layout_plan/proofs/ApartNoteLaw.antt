@@ -45,7 +45,7 @@ module _ (r : Resized) (facts : AreFacts r) (moved : List ℕ) where
     pub loaded : is_loaded_section k.section ≡ true
     pub filled : has_bytes k.section ≡ true
 
-  -- its place in the plan
+  -- the place of a kept section in the plan
   abbrev pub planned : KeptSection → Place
   planned k = place_in r moved (sized_of r k)
 
@@ -310,7 +310,7 @@ module _ (r : Resized) (facts : AreFacts r) (moved : List ℕ) where
     unfolding AreApart
     sharers_apart = pairs-filter AreApart (shares_bytes p) (kept_sections r.read) facts.read_apart
 
-    -- another note in its bytes meets the first
+    -- another note in the bytes of the program header meets the first
     meet : (x : KeptSection) → is_note_in p x ≡ true → shares_bytes p x ≡ true → AreApart x old ⊎ AreApart old x → ⊥
     unfolding AreApart old
     meet x within shares either =

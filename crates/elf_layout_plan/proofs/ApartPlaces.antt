@@ -13,7 +13,7 @@ use Rattle.elf_layout_plan.proofs.ApartLists.{any-at, each-at, find-at, find-mis
 use Rattle.elf_layout_plan.proofs.ApartSections.{IsSlot, all_slots, moved_has_slot, sized_of, slots_move}
 
 module _ (r : Resized) (moved : List ℕ) (t : SizedSection) where
-  -- its place by its slot, if it has one
+  -- a section's place by its slot, if it has one
   unfoldable pub unloaded_place : Option UnloadedSlot → Place
   unloaded_place o = elim o [ Some slot ↦ stands_at t slot.offset t.kept.section.sh_addr | None ↦ stays_at r moved t ]
 

@@ -187,7 +187,7 @@ module _ (image read : Image) (edit : IsEditOf read image) (p : Parts) (rules : 
       pairs-less (λ s t. is_stored s ≡ true → is_stored t ≡ true → Apart s t) (places_of p.sections) pairs i j (place_of h) (place_of l) less (at-map place_of p.sections i h at_h)
       (at-map place_of p.sections j l at_l)
 
-  -- nor do two that stand at the places of these
+  -- places share no byte where places that equal them share none
   places_apart : (s t a b : Place) → s ≡ a → t ≡ b → (is_stored a ≡ true → is_stored b ≡ true → apart (file_range a) (file_range b) ≡ true)
       → is_stored s ≡ true → is_stored t ≡ true → apart (file_range s) (file_range t) ≡ true
   places_apart s t a b is_a is_b here =

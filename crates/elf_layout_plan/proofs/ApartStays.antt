@@ -86,7 +86,7 @@ module _ (r : Resized) (facts : AreFacts r) where
         each-more (λ b. Each (Neither (stay_over moved) b) (map (section_block r) taking)) (λ b. Each (λ t. Neither (stay_over moved) b (section_block r t)) taking)
         (λ b h. each-unmap (Neither (stay_over moved) b) (section_block r) taking h) front (pairs-cross (Neither (stay_over moved)) front (map (section_block r) taking) blocks_stay)
 
-    -- that of edges
+    -- edges and a section that stays don't overlap
     edges_clear : (k : ℕ) (t : SizedSection) → slice_get taking k ≡ Some t → is_one_of moved t.kept.position ≡ false
         → Each (λ p. Each (λ b. b.section ≡ None → Neither overlaps b (section_block r t)) (edge_blocks p)) (loads_of r.image.segments)
     edges_clear k t at stays =
@@ -97,7 +97,7 @@ module _ (r : Resized) (facts : AreFacts r) where
         (ap (λ (o : Option ℕ). is_some_and (is_one_of moved) o) none) stays) edges
         (each-back (λ b. Each (λ u. Neither (stay_over moved) b (section_block r u)) taking) (header_blocks r looked) edges block_clear))
 
-    -- it holds nothing, or ends where memory ended
+    -- a section holds nothing, or ends where memory ended
     abbrev pub IsLow : SizedSection → Type 0
     IsLow t = (t.size ≡ 0) ⊎ (t.kept.section.sh_addr + t.size ≤ memory_end r)
 
@@ -187,7 +187,7 @@ module _ (r : Resized) (facts : AreFacts r) where
           let low : p.p_vaddr + p.p_filesz ≤ memory_end r = each-at (λ p. p.p_vaddr + p.p_filesz ≤ memory_end r) (loads_of r.image.segments) loads_file_end j p at_p in
           inr (omega (arith, begins, ends, distance, low))
 
-      -- it is no displaced one: those move
+      -- a section that stays is no displaced one: those move
       isnt_displaced : is_displaced r t ≡ true → ⊥
       isnt_displaced displaced =
           let something = each-at (λ k. is_loaded_section k.section ≡ true → list_any is_loaded facts.left ≡ true) (kept_sections r.image) facts.something i t.kept at_kept occupies in

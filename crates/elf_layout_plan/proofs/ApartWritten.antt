@@ -108,7 +108,7 @@ module _ (r : Resized) (moved : List ℕ) where
       by_test true = refl
       by_test false = refl
 
--- those that are added stand behind them, if any is loaded
+-- the segments that are added stand behind the loaded ones, if there are any
 pub loads_behind : (adds ps : List SegmentHeader) → Each (λ p. is_loaded p ≡ true) adds
     → (loads_of (behind_last_load adds ps) ≡ loads_of ps ++ adds) ⊎ (loads_of (behind_last_load adds ps) ≡ loads_of ps)
 unfolding behind_last_load

@@ -6,7 +6,7 @@ pub use Rattle.elf_layout_plan.proofs.ApartBlocks
 pub use Rattle.elf_layout_plan.proofs.ApartFacts
 -- sections that can't move stay where they are
 pub use Rattle.elf_layout_plan.proofs.ApartFixed
--- the loaded segments that are left of those that were read: what holds of all those, and which tests find the same
+-- the loaded segments that are left of those that were read: what holds of all that were read, and which tests find the same
 pub use Rattle.elf_layout_plan.proofs.ApartLeft
 -- facts of each element of a list, and of each two of its elements
 pub use Rattle.elf_layout_plan.proofs.ApartLists

@@ -77,7 +77,7 @@ pub stays_apart : (read image : Image) → is_some_and lists_needs image.entries
 unfolding written_needs
 stays_apart read image apart = ap (λ (b : Bool). if b then staying_needs read image else image.needs) apart
 
--- and where the dynamic symbols are those that were read
+-- all needed versions stay where the dynamic symbols are those that were read
 pub stays_same : (read image : Image) → image.dynamic_symbols ≡ read.dynamic_symbols → written_needs read image ≡ image.needs
 unfolding written_needs
 stays_same read image same = either (is_some_and lists_needs image.entries)

@@ -11,7 +11,7 @@ use Rattle.elf_layout_plan.proofs.PlacedLists.{Has, Pairs, any-from, append-left
 
 -- ## Two blocks
 
--- neither overlaps the other
+-- of two blocks neither overlaps the other
 pub record KeepApart (a b : Block) : Type 0 where
   pub one : overlaps a b ≡ false
   pub other : overlaps b a ≡ false

@@ -37,7 +37,7 @@ sized_ordered (k ∷ ks) (n ∷ ns) h =
     (λ s here. pairs-first (λ x y. x.position < y.position) k ks h s.kept (sized_kept ks ns s here))
     (sized_ordered ks ns (pairs-rest (λ x y. x.position < y.position) k ks h))
 
--- they stand in the order of their positions
+-- the sections stand in the order of their positions
 pub ordered : (r : Resized) → Pairs IsBefore (sized_sections r)
 ordered r = sized_ordered (kept_sections r.image) r.sizes (kept_ordered 0 r.image.section_numbers r.image.sections)
 

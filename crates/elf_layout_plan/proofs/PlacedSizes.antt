@@ -26,7 +26,7 @@ use Rattle.elf_format.proofs.ForCallers.Lengths.{counted_at}
 
 -- ## The interpreter's section
 
--- it is one with bytes
+-- the interpreter's section is one with bytes
 is_there : (o : Option ℕ) (k : KeptSection) → is_numbered o k ≡ true → o ≡ Some k.number
 is_there None k h = absurd (false≢true h)
 is_there (Some n) k h = ap (λ (m : ℕ). Some m) (eqb-true n k.number h)

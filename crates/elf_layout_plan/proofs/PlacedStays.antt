@@ -145,7 +145,7 @@ module _ (r : Resized) (moved : List ℕ) (looked : ℕ) (reads : ReadsPlaced r)
   pub kept_in : (s : SizedSection) → StaysStored r moved s → IsKeptIn r s.kept.section.sh_offset s.size s.kept.section.sh_addr
   kept_in s is = (both_before s is).0
 
-  -- and behind the file header
+  -- a section that stays is behind the file header
   pub behind_header : (s : SizedSection) → StaysStored r moved s → file_header_size r.image.form ≤ s.kept.section.sh_offset
   behind_header s is = (both_before s is).1
 
@@ -225,7 +225,7 @@ module _ (r : Resized) (moved : List ℕ) (looked : ℕ) (reads : ReadsPlaced r)
         distance = omega (arith, offset, address, begins);
       }
 
-  -- it is in a loaded segment, and shares no byte with a section that stays
+  -- the program header table is in a loaded segment, and shares no byte with a section that stays
   pub table_kept_in : (q : SegmentHeader) → table_load r ≡ Some q
       → IsKeptIn r r.read.header.e_phoff (table_size_with r looked) (q.p_vaddr + r.read.header.e_phoff - q.p_offset)
   table_kept_in q h = table_room q h

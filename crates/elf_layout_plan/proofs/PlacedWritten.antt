@@ -60,7 +60,7 @@ module _ (r : Resized) (moved : List ℕ) where
   ]
   written_by p (t ∷ ts) q h = let made = map-at (anchored_to r.image.form p) (t ∷ ts) q h in ap (λ (x : SegmentHeader). x.p_type) (sym made.made)
 
-  -- it keeps its type
+  -- a program header that is written keeps its type
   same_type : (p q : SegmentHeader) → Has q (written_from r moved p) → q.p_type ≡ p.p_type
   same_type p q h = written_by p (targets_of r moved p) q h
 

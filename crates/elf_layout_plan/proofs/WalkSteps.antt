@@ -67,7 +67,7 @@ later_tests a b m =
 -- The walk has come to a block: what it knows of those before, of which one was the last that stays.
 pub record IsWalked (blocks : List Block) (moves : List Bool) (last next : ℕ) : Type 0 where
   pub before : last < next
-  -- the others are not marked yet
+  -- the blocks behind aren't marked yet
   pub ahead : (k : ℕ) → next ≤ k → k < length blocks → slice_get moves k ≡ Some false
   pub last_stays : last < length blocks → slice_get moves last ≡ Some false
   -- each other one that stays ends before the last one starts

@@ -13,7 +13,7 @@ use Rattle.elf_layout_plan.specs.Memory.{Resized}
 
 -- What a program header goes by.
 pub data Anchor : Type 0 where
-  -- it keeps its range
+  -- the program header keeps its range
   Itself : Anchor
   -- the program header table (gABI, Program Header, PT_PHDR)
   HeaderTable : Anchor
@@ -56,7 +56,7 @@ section_or_table None = HeaderTable
 abbrev pub shares_bytes : SegmentHeader → KeptSection → Bool
 shares_bytes p s = has_bytes s.section && not (apart (file_range (place_at_read s.section)) (file_part p))
 
--- it is a loaded note section that the program header has all of
+-- the section is a loaded note section that the program header has all of
 abbrev pub is_note_in : SegmentHeader → KeptSection → Bool
 is_note_in p s = s.section.sh_type == SHT_NOTE && is_loaded_section s.section && lies_in (file_range (place_at_read s.section)) (file_part p)
 
@@ -70,7 +70,7 @@ is_over_notes read p =
     is_one_of (PT_NOTE ∷ PT_GNU_PROPERTY ∷ []) p.p_type
     && nat_le 2 (length (sharers read p)) && list_all (is_note_in p) (sharers read p)
 
--- those of them that are still there
+-- the sections that shared bytes with a program header at read, and are still there
 abbrev pub notes_under : Image → Image → SegmentHeader → List KeptSection
 notes_under read image p = filter (λ s. is_one_of (map (λ n. n.number) (sharers read p)) s.number) (kept_sections image)
 

@@ -12,9 +12,9 @@ pub record Block : Type 0 where
   pub priority : ℕ
   -- the position of the section whose it is
   pub section : Option ℕ
-  -- what it is to hold can't stand where it stood: it was empty, or lost the loaded segment that it stood in
+  -- what the block is to hold can't stand where it stood: it was empty, or lost the loaded segment that it stood in
   pub is_displaced : Bool
-  -- it marks the start of a loaded segment
+  -- the block marks the start of a loaded segment
   pub is_load_start : Bool
 
 -- what is no section comes before all sections, and these come by their positions
@@ -39,15 +39,15 @@ is_kept_out a b = a.is_displaced && b.is_load_start || a.is_load_start && b.is_d
 abbrev pub overlaps : Block → Block → Bool
 overlaps earlier later = is_earlier earlier later && (nat_lt later.start (earlier.start + earlier.size) || is_kept_out earlier later)
 
--- they overlap, and neither can move
+-- two blocks overlap, and neither can move
 abbrev pub is_stuck_pair : Block → Block → Bool
 is_stuck_pair earlier later = overlaps earlier later && earlier.priority == 0 && later.priority == 0
 
--- they overlap, and the earlier one moves: it can, and no less readily than the later one
+-- two blocks overlap, and the earlier one moves: it can, and no less readily than the later one
 abbrev pub earlier_moves : Block → Block → Bool
 earlier_moves earlier later = overlaps earlier later && nat_lt 0 earlier.priority && nat_le later.priority earlier.priority
 
--- they overlap, and the later one moves, more readily than the earlier one
+-- two blocks overlap, and the later one moves, more readily than the earlier one
 abbrev pub later_moves : Block → Block → Bool
 later_moves earlier later = overlaps earlier later && nat_lt earlier.priority later.priority
 

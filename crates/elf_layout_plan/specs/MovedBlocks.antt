@@ -11,7 +11,7 @@ end_of b = b.start + b.size
 abbrev pub Overlap : Block → Block → Type 0
 Overlap earlier later = later.start < end_of earlier
 
--- it doesn't: they may touch
+-- the earlier of two blocks ends before the start of the later one: they may touch
 abbrev pub IsApart : Block → Block → Type 0
 IsApart earlier later = end_of earlier ≤ later.start
 

@@ -63,7 +63,7 @@ each_once (n ∷ ns) = n ∷ filter (λ m. not (m == n)) (each_once ns)
 abbrev pub added_flags : Resized → List ℕ → List ℕ
 added_flags r moved = each_once (map (λ s. flags_for r.image.moves_dynamic s.kept.section) (sections_at r moved))
 
--- one program header for each of these, and one for each that is split
+-- one program header for each set of flags that is added, and one for each program header that is split
 unfoldable pub headers_needed : Resized → List ℕ → ℕ
 headers_needed r moved = length (added_flags r moved) + count_by (is_split r moved) r.image.segments
 

@@ -70,7 +70,7 @@ moved_plan size names e_shoff = record {
   looked = 1;
 }
 
--- its strings were empty and stood at the end of the file part
+-- a small library whose strings were empty and stood at the end of the file part
 abbrev pub small_empty : Image
 small_empty = image_of_parts 608 352 3 (small_load ∷ small_list ∷ [])
     (null_section ∷ section (codes ".dynstr") kinds.Strings 3 2 320 0 0 1 ∷ small_dynamic ∷ names_section 320 28 ∷ [])

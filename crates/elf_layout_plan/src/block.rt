@@ -1,7 +1,7 @@
 /// A range of memory that something takes, and how readily that moves.
 #[derive(Clone, Copy, Debug, PartialEq, Eq)]
 pub struct Block {
-    /// Its first address.
+    /// The first address of the block.
     pub start: u64,
     /// How many bytes it takes. It may end past the last address of 64 bits.
     pub size: u64,

@@ -5,7 +5,7 @@ use std::marker::Model;
 /// addresses and sizes are in bytes.
 #[derive(Clone, Copy, Debug)]
 pub struct SectionPlace {
-    /// What it is for, as `SHT_DYNSYM`.
+    /// What the section is for, as `SHT_DYNSYM`.
     pub sh_type: u32,
     /// `SHF_ALLOC` for a section that takes memory, and other flags.
     pub sh_flags: u64,

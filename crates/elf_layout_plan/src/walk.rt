@@ -11,13 +11,13 @@ use std::sync::ledger::Ledger;
 // What becomes of two blocks, the earlier one and the later one.
 #[derive(Clone, Copy, PartialEq, Eq)]
 enum Meeting {
-    // They don't overlap.
+    // The two blocks don't overlap.
     Apart,
-    // They overlap, and the earlier one moves.
+    // The two blocks overlap, and the earlier one moves.
     Earlier,
-    // They overlap, and the later one moves.
+    // The two blocks overlap, and the later one moves.
     Later,
-    // They overlap, and neither can move.
+    // The two blocks overlap, and neither can move.
     Stuck,
 }
 

@@ -82,7 +82,7 @@ nearer_end r looked needed round more = nearer r looked needed round.moved round
 
 -- ## What a forecast says of a round
 
--- what it says is what the sections that move need
+-- what a forecast says is what the sections that move need
 pub round_of : (r : Resized) (f : Forecast) (looked end needed : ℕ) → IsForecast r f → Covers r f.from f.bound looked → end ≡ end_with r looked → needed ≡ needed_at f end → IsRound r looked needed
 round_of r f looked end needed is covers at says =
     let (moved, move, chosen) = is.lists looked covers in

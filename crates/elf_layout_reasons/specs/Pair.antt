@@ -7,7 +7,7 @@ use Rattle.elf_layout_plan.specs.Rounds.{leads_to}
 use Rattle.elf_layout_reasons.specs.declared.stuck.StuckPair.{StuckPair}
 use Rattle.elf_layout_reasons.specs.Stuck.{first_pair}
 
--- They are the first two of the blocks with so many program headers more.
+-- Two blocks are the first two of the blocks with so many program headers more that overlap and never move.
 pub record IsFirstPair (r : Resized) (looked : ℕ) (pair : StuckPair) : Type 0 where
   pub counted : pair.looked ≡ looked
   pub first : first_pair (blocks_with r looked) ≡ Some (pair.earlier, pair.later)

@@ -27,7 +27,7 @@ pub struct StuckPair {
     pub looked: usize,
     /// The one that starts first.
     pub earlier: MemoryBlock,
-    /// The other one.
+    /// The block that starts later.
     pub later: MemoryBlock,
 }
 

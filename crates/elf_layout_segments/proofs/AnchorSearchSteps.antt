@@ -202,7 +202,7 @@ read_source-is r h edited =
     let same : r.read ≡ edited.read = h.read ∙ ap (λ f. elim f as (λ _. Image) [ Ok read ↦ read | Err _ ↦ r.image ]) edited.is_read in
     record { edited = edited; same = same; numbers = subst (λ (image : Image). image.section_numbers ≡ counted (length image.sections)) (sym same) holds.section_numbers }
 
--- the same of what is seen of an image with sizes
+-- what is seen of an image with sizes, and of the image as it was read
 pub again-seen : (x r : Resized) → x ≡ r → IsResized x → IsEdited x.image → IsReadAgain r
 again-seen x r e h edited = let P : Resized → Type 0 = IsReadAgain in subst P e (read_source-is x h edited)
 

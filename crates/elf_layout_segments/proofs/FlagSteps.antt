@@ -48,7 +48,7 @@ without_other n f apart (x ∷ xs) = elim (cases_eq x n) [
     zero_more : (k : ℕ) → 0 + k ≡ k
     zero_more k = omega arith
 
--- and that one never
+-- without a number, that number is there never
 without_it : (n : ℕ) (ns : List ℕ) → count_of n (filter (λ m. not (m == n)) ns) ≡ 0
 without_it n [] = refl
 without_it n (x ∷ xs) = elim (cases_eq x n) [

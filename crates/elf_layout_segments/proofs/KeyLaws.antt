@@ -23,7 +23,7 @@ use Rattle.elf_layout_moves.proofs.ForCallers.{by_three_total, cmp_equal, cmp_le
 abbrev matches : Range → Key → Bool
 matches part key = key.0 == part.start && key.1 == part.size
 
--- it stands before all keys of the range
+-- a key stands before all keys of the range
 abbrev pub is_before : Range → Key → Bool
 is_before part key = nat_lt key.0 part.start || key.0 == part.start && nat_lt key.1 part.size
 
@@ -141,7 +141,7 @@ module _ (loaded : Bool) (part : Range) where
       by_tests true false m rest e = (λ g. absurd (true≢false (sym g ∙ m)), rest e)
       by_tests false b m rest e = rest e
 
-  -- its key is among them, and is one of the range
+  -- the key of the range's first section is among the keys, and is one of the range
   has_first : (xs : List SectionAt) (s : SectionAt) → find just xs ≡ Some s → Contains (keys_at loaded xs) (key_of s) × (matches part (key_of s) ≡ true)
   has_first [] s e = absurd (none_some s e)
     where

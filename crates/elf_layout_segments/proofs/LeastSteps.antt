@@ -163,7 +163,7 @@ least_over numbers row width from until a b long short first last = record {
       ∙ sym (ap (λ (n : ℕ). reaches end (numbers_at numbers from n)) whole ∙ reaches_split numbers from front width end ∙ ap (λ (n : ℕ). x || reaches end (numbers_at numbers n width)) place);
 }
 
--- and is put in its place
+-- the least of a stretch is put in its place
 pub answer_put : (numbers : List ℕ) (asked : List Stretch) (width place : ℕ) (answers : List ℕ) (s : Stretch) (least : ℕ) → slice_get asked place ≡ Some s → IsLeast (numbers_at numbers s.from (s.until - s.from)) least
     → AreAnswered numbers asked width place answers → AreAnswered numbers asked width (place + 1) (set answers place least)
 answer_put numbers asked width place answers s least here is are = record {

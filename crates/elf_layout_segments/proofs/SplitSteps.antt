@@ -46,7 +46,7 @@ sized-is r h is =
     let numbered = is.edited.is_edit.sections.numbered in
     record { numbered = numbered; sized = ap length h.sizes ∙ length-map (kept_sections r.image) _ ∙ length-kept r.image numbered; notes = λ p over. notes_begin r p is over }
 
--- the same of what is seen of an image with sizes
+-- what is seen of an image with sizes has its sections with their sizes
 pub seen-sized : (x r : Resized) → x ≡ r → IsResized x → IsEdited x.image → AreSized r
 seen-sized x r e h edited = let P : Resized → Type 0 = AreSized in subst P e (sized-is x h (again-seen x x refl h edited))
 
@@ -247,7 +247,7 @@ any_stay-is r moved marks are h (s ∷ ns) all =
 
 -- ## Splits
 
--- one of those sections begins in a range that move, or of those that stay
+-- one of the sections that move begins in a range, or of those that stay
 pub some_started : (moving : Bool) (marks : List Bool) (sections : List SectionAt) (part : Range) (starts : List ℕ) → IsPermutation (chosen_starts moving marks sections) starts
     → list_any (is_in part) starts ≡ list_any (is_chosen moving marks) (positions_in sections part)
 some_started moving marks sections part starts same =

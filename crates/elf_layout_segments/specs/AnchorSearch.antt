@@ -22,7 +22,7 @@ pub record SearchedLists : Type 0 where
   pub interpreter : Option ℕ
   pub moves_dynamic : Bool
 
--- the same of an image
+-- what is looked at of an image to find an anchor
 abbrev pub searched_lists : Resized → SearchedLists
 searched_lists r = record {
   read = indexed_sections r.read;

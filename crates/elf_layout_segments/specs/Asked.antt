@@ -9,6 +9,6 @@ use Rattle.elf_layout_segments.specs.InOrder.{is_in}
 abbrev pub below : Rising → ℕ → ℕ
 below numbers n = count_by (λ x. nat_lt x n) numbers.numbers.items
 
--- one of them lies in a range
+-- one of the numbers lies in a range
 abbrev pub is_some_in : Rising → Range → Bool
 is_some_in numbers part = list_any (is_in part) numbers.numbers.items

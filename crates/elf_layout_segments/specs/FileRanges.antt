@@ -33,6 +33,7 @@ is_clear ranges place = below ranges.starts place == below ranges.ends (place + 
 unfoldable pub are_all_notes_by : FileRanges → Range → Bool
 are_all_notes_by ranges part = is_clear ranges part.start && is_clear ranges (end_of part) && not (is_some_in ranges.others part)
 
--- and two or more do: those that begin before its end, but for those that end by its start
+-- two or more sections share bytes with a range, all loaded notes in it: those that begin before its end, but for those that end by its
+-- start
 unfoldable pub is_over_counts : FileRanges → Range → Bool
 is_over_counts ranges part = nat_le 2 (below ranges.starts (end_of part) - below ranges.ends (part.start + 1)) && are_all_notes_by ranges part

@@ -20,11 +20,11 @@ abbrev pub limited_at : List ℕ → List SectionAt → List Limited
 limited_at limits sections =
     map (λ (s : SectionAt). let b : Limited = record { start = s.sh_offset; limit = limit_at limits s.position } in b) (filter has_bytes_at sections)
 
--- one of them begins in a range, and moves with a table that ends there
+-- one of the sections begins in a range, and moves with a table that ends there
 abbrev pub does_one_move : List ℕ → List SectionAt → Range → ℕ → Bool
 does_one_move limits sections part end = list_any (λ s. begins_in part s && nat_le (limit_at limits s.position) end) sections
 
--- one of them begins in a range, and stays
+-- one of the sections begins in a range, and stays
 abbrev pub does_one_stay : List ℕ → List SectionAt → Range → ℕ → Bool
 does_one_stay limits sections part end = list_any (λ s. begins_in part s && nat_lt end (limit_at limits s.position)) sections
 
@@ -64,7 +64,7 @@ does_flagged_move leave limits sections end flags = list_any (λ position. needs
 pub record IsFlagsLimit (leave : Bool) (limits : List ℕ) (sections : List ImageSection) (flags least : ℕ) : Type 0 where
   pub tells : (end : ℕ) → end < NEVER → nat_le least end ≡ does_flagged_move leave limits sections end flags
 
--- the same of each set of flags
+-- the least limit of sections that need the flags, for each set of flags
 pub record AreFlagsLimits (leave : Bool) (limits : List ℕ) (sections : List ImageSection) (found : List ℕ) : Type 0 where
   pub tells : (end : ℕ) → end < NEVER → count_up_to found end ≡ count_by (does_flagged_move leave limits sections end) (4 ∷ 5 ∷ 6 ∷ 7 ∷ [])
 

@@ -50,11 +50,11 @@ shares_bytes_at p s = has_bytes_at s && not (apart (file_range (place_at s)) (fi
 abbrev pub is_loaded_note_at : SectionAt → Bool
 is_loaded_note_at s = s.sh_type == SHT_NOTE && occupies_memory (place_at s)
 
--- it is a loaded note section that the program header has all of
+-- the section is a loaded note section that the program header has all of
 abbrev pub is_note_at : SegmentHeader → SectionAt → Bool
 is_note_at p s = is_loaded_note_at s && lies_in (file_range (place_at s)) (file_part p)
 
--- it has bytes in the file, and the first of them lies in the range
+-- the section has bytes in the file, and the first of them lies in the range
 abbrev pub begins_in : Range → SectionAt → Bool
 begins_in part s = has_bytes_at s && is_in part s.sh_offset
 

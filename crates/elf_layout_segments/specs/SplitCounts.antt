@@ -25,7 +25,7 @@ use Rattle.elf_layout_segments.specs.Sections.{has_bytes_at}
 abbrev pub is_marked : List Bool → ℕ → Bool
 is_marked marks position = slice_index_or marks position false
 
--- it moves, or it stays
+-- the section at a position moves, or it stays
 abbrev pub is_chosen : Bool → List Bool → ℕ → Bool
 is_chosen moving marks position = if moving then is_marked marks position else not (is_marked marks position)
 
@@ -39,12 +39,12 @@ do_any_stay marks positions = list_any (λ position. not (is_marked marks positi
 abbrev pub chosen_starts : Bool → List Bool → List SectionAt → List ℕ
 chosen_starts moving marks sections = map (λ (s : SectionAt). s.sh_offset) (filter (λ s. has_bytes_at s && is_chosen moving marks s.position) sections)
 
--- the same with their positions
+-- where sections with bytes begin in the file, those that move or those that stay, with their positions
 abbrev pub chosen_begins : Bool → List Bool → List SectionAt → List Begin
 chosen_begins moving marks sections =
     map (λ (s : SectionAt). let b : Begin = record { start = s.sh_offset; position = s.position } in b) (filter (λ s. has_bytes_at s && is_chosen moving marks s.position) sections)
 
--- both of them, in order
+-- where the sections with bytes that move begin, and those that stay, in order
 pub record AreStarts (sections : List SectionAt) (marks : List Bool) (starts : Starts) : Type 0 where
   pub moving : AreInOrder (chosen_starts true marks sections) starts.moving.numbers.items
   pub staying : AreInOrder (chosen_starts false marks sections) starts.staying.numbers.items
@@ -72,7 +72,7 @@ with_flags leave sections flags position = elim (slice_get sections position) [ 
 abbrev pub keeps_section : ImageSection → ℕ → SegmentHeader → Bool
 keeps_section s size p = is_loaded_section s && s.sh_offset == p.p_offset && s.sh_addr == p.p_vaddr && size == p.p_filesz
 
--- the same for the section at a position
+-- a program header has the range of the section at a position with its new size
 unfoldable pub keeps_section_at : Resized → SegmentHeader → ℕ → Bool
 keeps_section_at r p position = elim (slice_get r.image.sections position) [
   | Some s ↦ elim (slice_get r.sizes position) [ Some size ↦ keeps_section s size p | None ↦ false ]

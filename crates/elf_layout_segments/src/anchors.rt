@@ -15,7 +15,7 @@ use std::alloc::{AllocError, Global};
 /// What a program header goes by; sections are told by their positions.
 #[derive(Drop)]
 pub enum AnchorAt {
-    /// It keeps its range.
+    /// The program header keeps its range.
     Itself,
     /// The program header table.
     HeaderTable,

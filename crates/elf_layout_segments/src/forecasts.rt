@@ -38,7 +38,7 @@ struct Limited {
 pub struct Forecast {
     // The number of program headers more that it was made with.
     pub(crate) from: usize,
-    // It tells of greater numbers with which the table ends before this address.
+    // The forecast tells of greater numbers with which the table ends before this address.
     pub(crate) bound: u128,
     // From where on sections move that need a set of flags.
     pub(crate) flags: Rising,
@@ -77,7 +77,7 @@ fn stretch_in(begins: &[Limited], part: Range) -> Stretch
     }
 }
 
-// The same for each program header that goes by notes.
+// The places of the sections that begin in the range, for each program header that goes by notes.
 fn stretches_of(
     alloc: Global,
     begins: &[Limited],
@@ -96,14 +96,14 @@ fn stretches_of(
     Ok(made)
 }
 
-// Their limits.
+// The limits of sections.
 fn limits_of(alloc: Global, begins: &[Limited]) -> Result<Vec<u128>, AllocError>
     ensures { IfOk result (λ made. made.items ≡ map (λ (b : Begun). b.limit) begins.now) }
 {
     begins.iter().map(|b| b.limit).collect(alloc)
 }
 
-// Their limits counted from NEVER down.
+// The limits of sections, counted from NEVER down.
 fn mirrored_limits_of(alloc: Global, begins: &[Limited]) -> Result<Vec<u128>, AllocError>
     ensures { IfOk result (λ made. made.items ≡ map (λ (b : Begun). never - b.limit) begins.now) }
 {
@@ -138,7 +138,7 @@ fn flags_limit(leave: bool, sections: &[Section<'_>], limits: &[u128], flags: u3
     least
 }
 
-// The same of each set of flags.
+// The least limit of a section that needs the flags, for each set of flags.
 fn flags_limits(
     alloc: Global,
     leave: bool,
@@ -167,7 +167,8 @@ struct SplitLimits {
     joins: Vec<u128>,
 }
 
-// The same of sections in the order of their first bytes.
+// From where on program headers are split, and from where on no longer, by sections in the order of
+// their first bytes.
 fn split_limits_in(
     alloc: Global,
     begins: &[Limited],
@@ -186,7 +187,7 @@ fn split_limits_in(
     Ok(SplitLimits { splits, joins })
 }
 
-// The same of an image's sections.
+// From where on program headers are split, and from where on no longer, by an image's sections.
 fn split_limits(
     alloc: Global,
     sections: &[SectionAt],
@@ -245,7 +246,8 @@ fn count_up_to(numbers: &Rising, end: u128) -> u128
 }
 
 impl Forecast {
-    // Whether it tells of a number of program headers more with which the table ends at an address.
+    // Whether the forecast tells of a number of program headers more with which the table ends at
+    // an address.
     pub(crate) fn covers(&self, added: usize, end: u128) -> bool
         ensures { (r : Resized) → end ≡ end_with r added → IsTrue result
             → Covers r self.now.from self.now.bound added }

@@ -22,7 +22,7 @@ fn keys_at(alloc: Global, sections: &[SectionAt], loaded: bool) -> Result<Vec<Ke
         .collect(alloc)
 }
 
-// The same in order.
+// The keys of sections with bytes, of those that are loaded or of all, in order.
 pub(crate) fn keys_of(
     alloc: Global,
     sections: &[SectionAt],

@@ -31,7 +31,7 @@ impl Rising {
         self.numbers.partition_point(|x| *x < n)
     }
 
-    /// Whether one of them lies in a range.
+    /// Whether one of the numbers lies in a range.
     pub fn is_some_in(&self, part: Range) -> bool
         ensures { result ≡ list_any (is_in part) self.now.numbers.items }
     {

@@ -32,14 +32,14 @@ impl SectionAt {
     ghost use Rattle.elf_format.specs.Places.{file_range, occupies_memory};
     ghost use Rattle.elf_layout_segments.specs.Sections.{has_bytes_at, is_loaded_note_at, is_wanted, place_at};
 
-    // Whether it takes memory.
+    // Whether the section takes memory.
     pub(crate) fn is_loaded(self) -> bool
         ensures { result ≡ occupies_memory (place_at self) }
     {
         self.sh_flags & SHF_ALLOC != 0
     }
 
-    // Whether it has bytes in the file.
+    // Whether the section has bytes in the file.
     pub(crate) fn has_bytes(self) -> bool
         ensures { result ≡ has_bytes_at self }
     {
@@ -56,14 +56,14 @@ impl SectionAt {
         }
     }
 
-    // Whether it is a loaded note section.
+    // Whether the section is a loaded note section.
     pub(crate) fn is_loaded_note(self) -> bool
         ensures { result ≡ is_loaded_note_at self }
     {
         self.sh_type == SHT_NOTE && self.is_loaded()
     }
 
-    // Whether it is of the kind that is wanted.
+    // Whether the section is of the kind that is wanted.
     fn is_wanted(self, wanted: Wanted) -> bool
         ensures { result ≡ is_wanted wanted self }
     {

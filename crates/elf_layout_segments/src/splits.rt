@@ -87,7 +87,7 @@ fn add_flags(
     Ok(())
 }
 
-// The same for a section of an image.
+// Puts the flags that the section of an image at a position needs behind others.
 fn add_flags_at(
     flags: &mut Vec<u32>,
     r: &Resizing<'_, '_>,
@@ -139,7 +139,7 @@ fn keeps_section(section: &Section<'_>, size: u64, p: SegmentHeader) -> bool
         && size == p.p_filesz
 }
 
-// The same for the section at a position.
+// Whether a program header has the range of the section at a position with its new size.
 #[tactic(auto, unfolding(crate::specs::SplitCounts::keeps_section_at))]
 fn keeps_section_at(r: &Resizing<'_, '_>, p: SegmentHeader, position: usize) -> bool
     ensures { result ≡ keeps_place r.now p position }

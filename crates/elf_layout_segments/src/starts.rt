@@ -14,9 +14,9 @@ use std::alloc::{AllocError, Global};
 /// Where sections with bytes begin in the file: offsets.
 #[derive(Drop)]
 pub struct Starts {
-    /// Those that move.
+    /// The sections that move.
     pub moving: Rising,
-    /// Those that stay.
+    /// The sections that stay.
     pub staying: Rising,
 }
 
@@ -96,7 +96,7 @@ fn chosen_starts(
         .collect(alloc)
 }
 
-// The same in order.
+// Where sections with bytes begin that move, or those that stay: the offsets alone, in order.
 fn rising_starts(
     alloc: Global,
     sections: &[SectionAt],
@@ -121,14 +121,14 @@ pub fn starts_of(alloc: Global, r: &Resizing<'_, '_>, marks: &[bool]) -> Result<
 }
 
 impl Starts {
-    /// Whether one of those that move begins in a range of the file.
+    /// Whether one of the sections that move begins in a range of the file.
     pub fn does_any_move(&self, part: Range) -> bool
         ensures { result ≡ is_some_in self.now.moving part }
     {
         self.moving.is_some_in(part)
     }
 
-    /// Whether one of those that stay does.
+    /// Whether one of the sections that stay begins in a range of the file.
     pub fn does_any_stay(&self, part: Range) -> bool
         ensures { result ≡ is_some_in self.now.staying part }
     {

@@ -52,7 +52,7 @@ all_three : (a b c : Bool) → (a && b && c) ≡ (a && (b && c))
 all_three true b c = refl
 all_three false b c = refl
 
--- as many of each kind
+-- a table with as many texts of each kind, and the same names, is told copied by its other texts
 pub copied_same : (now read : Others) (ys zs : List (List ℕ)) → HaveSameCounts now read
     → (is_subsequence now.list read.list && is_subsequence now.versions read.versions && is_subsequence now.sections read.sections)
     ≡ is_subsequence (with_names now ys zs) (with_names read ys zs)
@@ -180,7 +180,7 @@ dynamic_names read image number now before kept =
     ∙ sym (names_kept read image kept)
     ∙ sym (ap (λ (b : Bool). if b then texts_of_symbols read.dynamic_symbols else []) before)
 
--- in a table to which as many of them link now as at read, and which aren't the same
+-- other names of as many dynamic symbols as were read, in a table to which they link now as at read
 pub other_names : (read image : Image) (number : ℕ) → is_linked image SHT_DYNSYM number ≡ true → is_linked read SHT_DYNSYM number ≡ true
     → are_names_changed read image ≡ true → length image.dynamic_symbols ≡ length read.dynamic_symbols → HasOtherDynamicNames read image number
 other_names read image number now before changed long =

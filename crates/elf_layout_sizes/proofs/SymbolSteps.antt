@@ -38,7 +38,7 @@ name_gathered old new all ys i t is pushed so_far =
 
 -- ## Tests of symbols
 
--- those of what is left that pass a test, the first of them apart
+-- the symbols that are left and pass a test, the first of them apart
 counted_at : (test : NamedSymbol → Bool) (ys : List NamedSymbol) (i : ℕ) (y : NamedSymbol) (b : Bool) → slice_get ys i ≡ Some y → test y ≡ b
     → count_by test (drop i ys) ≡ cond b 1 0 + count_by test (drop (i + 1) ys)
 counted_at test ys i y b at is =

@@ -23,7 +23,7 @@ pub text_found : (t : List ℕ) (ts : List (List ℕ)) (u : List ℕ) (us : List
 unfolding is_subsequence
 text_found t ts u us same = ap (λ (b : Bool). elim b as (λ _. Bool) [ true ↦ is_subsequence ts us | _ ↦ is_subsequence (t ∷ ts) us ]) same
 
--- another one is passed over
+-- a text that isn't the next one is passed over
 pub text_passed : (t : List ℕ) (ts : List (List ℕ)) (u : List ℕ) (us : List (List ℕ)) → bytes_eq t u ≡ false → is_subsequence (t ∷ ts) (u ∷ us) ≡ is_subsequence (t ∷ ts) us
 unfolding is_subsequence
 text_passed t ts u us other = ap (λ (b : Bool). elim b as (λ _. Bool) [ true ↦ is_subsequence ts us | _ ↦ is_subsequence (t ∷ ts) us ]) other
@@ -40,7 +40,7 @@ next_found some next text within same others =
     ap (λ (l : List (List ℕ)). is_subsequence l (text ∷ others)) (drop_more some next [] within)
     ∙ text_found (get_or some next []) (drop (next + 1) some) text others same
 
--- it is another one
+-- the text at a place is another one than the one that is looked at
 pub next_passed : (some : List (List ℕ)) (next : ℕ) (text : List ℕ) → next < length some → bytes_eq (get_or some next []) text ≡ false
     → (others : List (List ℕ)) → is_subsequence (drop next some) (text ∷ others) ≡ is_subsequence (drop next some) others
 next_passed some next text within other others =

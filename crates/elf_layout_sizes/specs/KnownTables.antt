@@ -11,7 +11,7 @@ pub record IsKnownTable (read image : Image) (number : ℕ) (known : Known) : Ty
   pub numbered : known.number ≡ number
   pub table : MatchOption known.made (IsTrue (is_table_copied read image number)) (IsMade read image number)
 
--- the same, of the dynamic strings
+-- what is known of the table of the dynamic strings: it is copied, or made anew and this one
 pub record IsKnown (read image : Image) (known : Known) : Type 0 where
   pub linked : dynamic_strings_number image ≡ Some known.number
   pub table : MatchOption known.made (IsTrue (is_table_copied read image known.number)) (IsMade read image known.number)

@@ -8,7 +8,7 @@ use Rattle.elf_layout_plan.specs.Texts.{if_linked, if_names, is_subsequence, tex
 use Rattle.elf_layout_sizes.specs.declared.other_texts.Others.{Others}
 use Rattle.elf_layout_sizes.specs.Inner.{Edit}
 
--- those that an image uses of the string table with that number
+-- the texts but names of symbols that an image uses of the string table with that number
 abbrev pub others_in_use : Edit → ℕ → Others
 others_in_use e number = record {
   list = if_linked e.image SHT_DYNAMIC number (list_at texts_of_entries (written_entries e.read e.image));
@@ -34,11 +34,11 @@ pub record HaveSameCounts (now read : Others) : Type 0 where
 abbrev pub HasDynamicNamesOf : Image → Image → ℕ → Type 0
 HasDynamicNamesOf read image number = if_linked image SHT_DYNSYM number (texts_of_symbols image.dynamic_symbols) ≡ if_linked read SHT_DYNSYM number (texts_of_symbols read.dynamic_symbols)
 
--- the same of the symbols for a link editor
+-- the names of symbols for a link editor that stand in the string table with that number are those that stood there at read
 abbrev pub HasStaticNamesOf : Image → Image → ℕ → Type 0
 HasStaticNamesOf read image number = if_linked image SHT_SYMTAB number (texts_of_symbols image.symbols) ≡ if_linked read SHT_SYMTAB number (texts_of_symbols read.symbols)
 
--- and of both
+-- the names of symbols of both kinds that stand in the string table with that number are those that stood there at read
 pub record HasNamesOf (read image : Image) (number : ℕ) : Type 0 where
   pub dynamic : HasDynamicNamesOf read image number
   pub static : HasStaticNamesOf read image number

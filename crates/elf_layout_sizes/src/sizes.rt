@@ -68,7 +68,7 @@ pub fn new_sizes_with_strings<'a, 'data>(
     Ok(new)
 }
 
-/// The same, for a caller that has the image as its source was read.
+/// The new sizes, as `sizes_of` tells them, for a caller that has the image as its source was read.
 pub fn new_sizes_of<'data>(
     alloc: Global,
     read: &Builder<'data>,

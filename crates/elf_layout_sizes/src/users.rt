@@ -67,7 +67,7 @@ impl<'a, 'data> Users<'a, 'data> {
         })
     }
 
-    // The same of the image that was read. Takes no memory.
+    // The users of string tables of the image that was read. Takes no memory.
     pub(crate) fn of_read(alloc: Global, read: &'a Builder<'data>) -> Self
         ensures { result ≡ record { read = read.entry.now; image = read.entry.now } }
     {
@@ -156,7 +156,7 @@ impl<'a, 'data> Users<'a, 'data> {
         }
     }
 
-    // Adds the names of the dynamic symbols, the same.
+    // Adds the names of the dynamic symbols, where they stand in the string table with that number.
     fn push_dynamic_symbols(&self, texts: &mut Texts<'a>, number: usize) -> Result<(), AllocError>
         ensures { OnOk result (texts.new ≡ texts.old ++ if_linked self.now.image SHT_DYNSYM number
             (texts_of_symbols self.now.image.dynamic_symbols)) }
@@ -167,7 +167,8 @@ impl<'a, 'data> Users<'a, 'data> {
         texts.push_symbols(self.image.dynamic_symbols())
     }
 
-    // Adds the names of the defined versions, the same.
+    // Adds the names of the defined versions, where they stand in the string table with that
+    // number.
     fn push_definitions(&self, texts: &mut Texts<'a>, number: usize) -> Result<(), AllocError>
         ensures { OnOk result (texts.new ≡ texts.old ++ if_linked self.now.image SHT_GNU_VERDEF
             number (texts_of_definitions self.now.image.definitions)) }
@@ -178,7 +179,8 @@ impl<'a, 'data> Users<'a, 'data> {
         texts.push_definitions(self.image.versions().definitions.as_slice())
     }
 
-    // Adds the texts of the needed versions that are written, the same.
+    // Adds the texts of the needed versions that are written, where they stand in the string table
+    // with that number.
     fn push_needs(&self, texts: &mut Texts<'a>, number: usize) -> Result<(), AllocError>
         ensures { OnOk result (texts.new ≡ texts.old ++ if_linked self.now.image SHT_GNU_VERNEED
             number (texts_of_needs (written_needs self.now.read self.now.image))) }
@@ -189,7 +191,8 @@ impl<'a, 'data> Users<'a, 'data> {
         texts.push_needs(self.image.versions().needs.as_slice(), &self.staying)
     }
 
-    // Adds the names of the symbols for a link editor, the same.
+    // Adds the names of the symbols for a link editor, where they stand in the string table with
+    // that number.
     fn push_symbols(&self, texts: &mut Texts<'a>, number: usize) -> Result<(), AllocError>
         ensures { OnOk result (texts.new ≡ texts.old ++ if_linked self.now.image SHT_SYMTAB number
             (texts_of_symbols self.now.image.symbols)) }
@@ -200,7 +203,7 @@ impl<'a, 'data> Users<'a, 'data> {
         texts.push_symbols(self.image.symbols())
     }
 
-    // Adds the names of the sections, the same.
+    // Adds the names of the sections, where they stand in the string table with that number.
     fn push_sections(&self, texts: &mut Texts<'a>, number: usize) -> Result<(), AllocError>
         ensures { OnOk result (texts.new ≡ texts.old ++ if_names self.now.image number) }
     {
@@ -233,7 +236,7 @@ impl<'a, 'data> Users<'a, 'data> {
         Ok(texts)
     }
 
-    // The texts of versions, the same.
+    // The texts of versions that the image uses of that string table.
     fn version_texts(&self, alloc: Global, number: usize) -> Result<Texts<'a>, AllocError>
         ensures { IfOk result (λ texts. texts ≡ (others_in_use self.now number).versions) }
     {
@@ -243,7 +246,7 @@ impl<'a, 'data> Users<'a, 'data> {
         Ok(texts)
     }
 
-    // The names of sections, the same.
+    // The names of sections that the image uses of that string table.
     fn section_texts(&self, alloc: Global, number: usize) -> Result<Texts<'a>, AllocError>
         ensures { IfOk result (λ texts. texts ≡ (others_in_use self.now number).sections) }
     {
@@ -278,7 +281,8 @@ impl<'a, 'data> Users<'a, 'data> {
         !is_linked || !self.are_names_changed
     }
 
-    // The same of the symbols for a link editor.
+    // Whether the names of symbols for a link editor in that string table are known to be those
+    // that stood there at read.
     fn keeps_static_names(&self, read_users: &Users<'_, '_>, number: usize) -> bool
         requires { read_users.now ≡ record { read = self.now.read; image = self.now.read } }
         ensures { IsTrue result → HasStaticNamesOf self.now.read self.now.image number }
@@ -356,7 +360,7 @@ impl<'a, 'data> Users<'a, 'data> {
         is_known_copied(now, at_read)
     }
 
-    // The same, by its other texts, with a look at those at read.
+    // Whether that string table is copied, by its other texts, with a look at those at read.
     fn is_copied_with(
         &self,
         alloc: Global,

@@ -48,7 +48,7 @@ gone false false true = refl
 gone false false false = refl
 
 module _ (names : List (Bor Name)) (i : ℕ) (x : Bor Name) (here : i < length names) (is : x ≡ get_or names i x) where
-  -- it is put into the set
+  -- one more name is put into the set
   pub put_more : (old new : List (Bor Name)) (name : Name) → has_name old name ≡ is_among (map now_of (take i names)) name
       → has_name new name ≡ cond (bytes_eq x.now name) true (has_name old name)
       → has_name new name ≡ is_among (map now_of (take (i + 1) names)) name
@@ -57,7 +57,7 @@ module _ (names : List (Bor Name)) (i : ℕ) (x : Bor Name) (here : i < length n
       ∙ ap (λ b. is_among (map now_of (take i names)) name || b) (other_way x.now name)
       ∙ sym (ap (λ l. is_among l name) (one_more names i x here is) ∙ among_more (map now_of (take i names)) x.now name)
 
-  -- it is taken out of the set
+  -- one more name is taken out of the set
   pub take_out_more : (all : Bool) (old new : List (Bor Name)) (name : Name) → has_name old name ≡ (all && not (is_among (map now_of (take i names)) name))
       → has_name new name ≡ cond (bytes_eq x.now name) false (has_name old name)
       → has_name new name ≡ (all && not (is_among (map now_of (take (i + 1) names)) name))

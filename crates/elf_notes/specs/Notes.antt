@@ -218,11 +218,11 @@ section_table image = range image.header.e_shoff (length image.sections * sectio
 abbrev pub reaches : ℕ → Range → Bool
 reaches file_end part = nat_le file_end (end_of part)
 
--- so does the file's part of a loaded segment
+-- the file's part of a loaded segment goes up to the end of a file
 abbrev pub does_load_reach : ℕ → SegmentHeader → Bool
 does_load_reach file_end p = is_loaded p && reaches file_end (file_part p)
 
--- so do the bytes of a section
+-- the bytes of a section go up to the end of a file
 abbrev pub does_section_reach : ℕ → ImageSection → Bool
 does_section_reach file_end s = nat_lt 0 (length s.content) && reaches file_end (range s.sh_offset (length s.content))
 
@@ -287,8 +287,8 @@ IsUnplanned edited =
 abbrev pub IsPlannedSo : (Plan → Bool) → Image → Bool → Type 0
 IsPlannedSo test edited passes = (plan : Plan) × IsPlan (resized edited) plan × (test plan ≡ passes)
 
--- It is told just where it may be so, and the plan passes the test. An image has no more than one plan.
-abbrev pub TellsPlanned : Bool → (Plan → Bool) → Image → Bool → Type 0
+-- A note is told just where it may be so, and the plan passes the test. An image has no more than one plan.
+abbrev pub TellsPlanned : Bool → (Layout → Bool) → Image → Bool → Type 0
 TellsPlanned may_be test edited true = (may_be ≡ true) × IsPlannedSo test edited true
 TellsPlanned may_be test edited false = (may_be ≡ false) ⊎ (IsPlannedSo test edited false ⊎ IsUnplanned edited)
 
@@ -333,7 +333,7 @@ pub record AreFindings (edits : List Edit) (image : Image) (found : Findings) : 
   pub loose_headers : found.has_loose_headers ≡ has_loose_headers image
   pub bytes_behind : found.has_bytes_behind ≡ has_bytes_behind image
 
--- What an edited image shows beside these.
+-- What an edited image shows beside what edits look for and find.
 pub record AreLeft (edited : Image) (notes : ElfNotes) : Type 0 where
   pub old_needs : map (λ n. n.now) notes.old_needs.items ≡ old_needs (map (λ n. n.now) notes.found.dropped.items) edited
   pub new_finds : notes.finds_more ≡ (is_hashed_anew edited && list_any (leaves_out edited.form edited.dynamic_symbols) edited.sections)

@@ -145,7 +145,7 @@ fn leave_out(edited: &Builder<'_>) -> bool
     any_leaves_out(edited.form(), edited.dynamic_symbols(), edited.sections())
 }
 
-/// Whether one of some sections is a GNU hash table that does.
+/// Whether one of some sections is a GNU hash table that left out a symbol that a look-up may find.
 fn any_leaves_out(form: Form, symbols: SymbolsNow<'_>, sections: &[Section<'_>]) -> bool
     ensures { result ≡ list_any (does_leave_out form (symbols_now symbols.entry))
         (map section_model sections.now) }

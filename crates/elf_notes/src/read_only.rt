@@ -52,7 +52,7 @@ fn is_read_only(segments: &[Segment<'_>]) -> bool
     }
 }
 
-/// Whether such a segment has an address.
+/// Whether a loaded segment that mayn't be written has an address.
 fn is_any_read_only(segments: &[Segment<'_>], address: u64) -> bool
     ensures { result ≡ list_any (can_only_be_read address) (map segment_model segments.now) }
 {
@@ -74,7 +74,7 @@ fn is_planned_read_only(plan: &Plan) -> bool
     }
 }
 
-/// Whether one of them is such a segment, and has an address.
+/// Whether one of the planned segments mayn't be written, and has an address.
 fn is_any_planned(segments: &[SegmentHeader], address: u64) -> bool
     ensures { result ≡ list_any (can_only_be_read address) segments.now }
 {

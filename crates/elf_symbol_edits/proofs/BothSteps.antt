@@ -24,7 +24,7 @@ use Rattle.elf_symbol_edits.proofs.ByNameLaws.{none_left_out}
 
 -- ## The dynamic symbols may still be put in place
 
--- an image with other static symbols, where there are such
+-- an image with other static symbols, where some changed
 abbrev with_static : Bool → List NamedSymbol → List ℕ → Image → Image
 with_static b symbols numbers image = if b then record image { changed = true; symbols = symbols; symbol_numbers = numbers } else image
 
@@ -121,7 +121,7 @@ all_numbers [] = refl
 all_numbers (n ∷ ns) = ap (λ l. n ∷ l) (all_numbers ns)
 
 module _ (image : Image) (gone dynamic_gone : List ℕ) where
-  -- an image without some of its static symbols, where there are such
+  -- an image without some of its static symbols, where some go
   abbrev some_left : Image
   some_left = if has_some gone then without_symbols gone image else image
 

@@ -140,7 +140,7 @@ module _ (names : List (List ℕ)) (image : Image) (h : IsEdited image) where
   dynamic_by_name : (edited (DeleteDynamicSymbols names) image).dynamic_symbols ≡ without_named names image.dynamic_symbols
   dynamic_by_name = dynamic_there (named_dynamic_symbols names image) ∙ dynamic_left_by_name
 
-  -- both lists, of which perhaps only one has such a name
+  -- both lists of symbols, of which perhaps only one has a symbol that goes
   abbrev all_there : List ℕ → List ℕ → Image
   all_there gone dynamic_gone = if has_some gone || has_some dynamic_gone then without_dynamic_symbols dynamic_gone (without_symbols gone image) else image
 

@@ -72,7 +72,7 @@ module _ (pairs : List (List ℕ × List ℕ)) where
       by_test true = refl
       by_test false = refl
 
-  -- both lists, of which perhaps only one has such a name
+  -- both lists of symbols, of which perhaps only one has a symbol with a new name
   pub all_after : (image : Image) → ((edited (RenameAllSymbols pairs) image).symbols ≡ behind_first (renamed pairs) image.symbols) × ((edited (RenameAllSymbols pairs) image).dynamic_symbols ≡ behind_first (renamed pairs) image.dynamic_symbols)
   all_after image = by_test (list_any (λ y. has_new_name pairs y.name) (drop 1 image.symbols)) (list_any (λ y. has_new_name pairs y.name) (drop 1 image.dynamic_symbols)) refl refl
     where

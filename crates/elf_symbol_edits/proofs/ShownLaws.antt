@@ -69,7 +69,7 @@ module _ (names : List (List ℕ)) where
         ∙ ap (λ ys. shown (with_dynamic ys)) (dynamic_left_by_name names image h)
         ∙ ap (λ (s : Option (List NamedSymbol)). record (shown image) { symbols = s }) (by_entries image.entries image.dynamic_symbols)
 
-    -- of both lists, what is shown looks at the dynamic one
+    -- what is shown of both lists of symbols looks at the dynamic one
     all_by_gone : (gone dynamic_gone : List ℕ) → shown (if has_some gone || has_some dynamic_gone then without_dynamic_symbols dynamic_gone (without_symbols gone image) else image)
         ≡ shown (with_dynamic (parts_left dynamic_gone image.dynamic_symbol_numbers image.dynamic_symbols))
     all_by_gone [] [] = ap (λ ys. shown (with_dynamic ys)) (sym (none_left_out image.dynamic_symbol_numbers image.dynamic_symbols h.is_edit.dynamic_symbols.numbered))
@@ -125,7 +125,7 @@ stack_stays image gone p is =
     ap (λ (type : ℕ). if type == PT_INTERP then does_interpreter_go gone image else not (is_one_of (PT_LOAD ∷ PT_DYNAMIC ∷ PT_GNU_STACK ∷ []) type)
     && list_any (λ s. begins_in p s.section) (going gone image) && not (list_any (λ s. begins_in p s.section) (staying gone image))) (eqb-true p.p_type PT_GNU_STACK is)
 
--- so the first one is the first one still
+-- the first program header of the stack is the first one still
 stack_left : (image : Image) (gone : List ℕ) → segment_of_type PT_GNU_STACK (segments_left gone image) ≡ segment_of_type PT_GNU_STACK image.segments
 stack_left image gone =
     find_left (λ p. not (is_deserted image gone p)) (λ p. p.p_type == PT_GNU_STACK) image.segments (λ p has is. ap not (stack_stays image gone p is))

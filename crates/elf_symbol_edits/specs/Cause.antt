@@ -48,7 +48,7 @@ is_fixed d image =
     has_some d.symbols && has_opaque_user (table_number SHT_SYMTAB image) (staying d.sections image)
     || has_some d.dynamic_symbols && not (can_renumber image)
 
--- the first of these, or else a section that is needed
+-- the first cause against a deletion, or else a section that is needed
 abbrev pub cause_of_deletion : Deletion → Image → Option Cause
 cause_of_deletion d image =
     first_there (cause_if (is_named_by_relocation d image) SymbolInRelocation)

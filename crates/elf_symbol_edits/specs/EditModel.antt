@@ -29,7 +29,7 @@ pub record IsDeletionOf (edit : SymbolEdit) (image : Image) (d : DeletionHeld) :
   pub is : deletion_model d ≡ deletion_of edit image
   pub rising : AreRising (deletion_model d)
 
--- the same, where no cause stands against the edit
+-- what an edit deletes, where no cause stands against the edit
 pub record IsChecked (edit : SymbolEdit) (image : Image) (d : DeletionHeld) : Type 0 where
   pub free : cause edit image ≡ None
   pub deletion : IsDeletionOf edit image d

@@ -36,6 +36,6 @@ named_sections names image = numbers_passing (λ s. is_among names (section_name
 abbrev pub renamed_section : List (List ℕ × List ℕ) → ImageSection → ImageSection
 renamed_section pairs s = with_section_name (new_name pairs s.name) s
 
--- they have one for a section behind the first
+-- some pairs of an old and a new name have another name for a section behind the first
 abbrev pub is_section_renamed : List (List ℕ × List ℕ) → List ImageSection → Bool
 is_section_renamed pairs sections = list_any (λ s. has_new_name pairs s.name) (drop 1 sections)

@@ -272,7 +272,7 @@ pub record AlongRows : Type 0 where
         symbols = [];
         symbol_numbers = [];
       })
-  -- its relocations go too
+  -- the relocations of a section go with it
   pub relocations_gone : step (DeleteSections (codes ".symtab" ∷ codes ".rel" ∷ [])) static_relocated
       ≡ Ok (record static_relocated {
         changed = true;

@@ -16,12 +16,12 @@ abbrev pub with_symbols_put : Option EditedList → Image → Image
 with_symbols_put None image = image
 with_symbols_put (Some edited) image = with_static_symbols edited image
 
--- the same of dynamic symbols
+-- the image with these dynamic symbols, where there are some
 abbrev pub with_dynamic_put : Option EditedList → Image → Image
 with_dynamic_put None image = image
 with_dynamic_put (Some edited) image = with_dynamic_symbols edited image
 
--- the dynamic symbols without those that have some numbers, where there are such: the image may take them in place of its own
+-- the dynamic symbols without those that have some numbers, where there are some: the image may take them in place of its own
 abbrev pub AreDynamicLeft : List ℕ → Image → Option EditedList → Type 0
 AreDynamicLeft gone image None = has_some gone ≡ false
 AreDynamicLeft gone image (Some left) = (has_some gone ≡ true) × IsPutFor image left × (with_dynamic_symbols left image ≡ without_dynamic_symbols gone image)
@@ -31,7 +31,7 @@ pub record AreGone (gone : List ℕ) (old new : Image) (touched : Bool) : Type 0
   pub told : touched ≡ has_some gone
   pub made : new ≡ (if has_some gone then without_symbols gone old else old)
 
--- the same of dynamic symbols, of both, and of sections with what goes along
+-- the dynamic symbols, those of both tables, or the sections with what goes along went, and it is told whether there were some
 pub record AreDynamicGone (gone : List ℕ) (old new : Image) (touched : Bool) : Type 0 where
   pub told : touched ≡ has_some gone
   pub made : new ≡ (if has_some gone then without_dynamic_symbols gone old else old)
@@ -61,7 +61,7 @@ with_names [] sections = sections
 with_names (n ∷ ns) [] = []
 with_names (n ∷ ns) (s ∷ ss) = named_if n s ∷ with_names ns ss
 
--- the same of those behind the first
+-- each section behind the first with the name that stands at its place, where there is one
 abbrev pub with_names_behind : List (Option (List ℕ)) → List ImageSection → List ImageSection
 with_names_behind ns [] = []
 with_names_behind ns (s ∷ ss) = s ∷ with_names ns ss

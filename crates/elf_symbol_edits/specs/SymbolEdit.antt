@@ -12,9 +12,9 @@ pub data SymbolEdit : Type 0 where
   -- the symbols for a link editor (gABI, Symbol Table, SHT_SYMTAB), but the first
   RenameSymbols : List (List ℕ × List ℕ) → SymbolEdit
   DeleteSymbols : List (List ℕ) → SymbolEdit
-  -- those for a loader (SHT_DYNSYM), but the first
+  -- the symbols for a loader (gABI, Symbol Table, SHT_DYNSYM), but the first
   DeleteDynamicSymbols : List (List ℕ) → SymbolEdit
-  -- both, but the first of each
+  -- the symbols for a link editor and for a loader, but the first of each
   RenameAllSymbols : List (List ℕ × List ℕ) → SymbolEdit
   DeleteAllSymbols : List (List ℕ) → SymbolEdit
   -- the sections (gABI, Sections), but the null section

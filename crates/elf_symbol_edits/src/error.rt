@@ -8,7 +8,7 @@ use std::alloc::AllocError;
 /// Why an edit was not made.
 #[derive(Clone, Copy, Debug, PartialEq, Eq)]
 pub enum SymbolEditError {
-    /// It is refused.
+    /// The edit is refused.
     Refused(Cause),
     /// There was no memory.
     Memory,

@@ -92,7 +92,8 @@ fn put_name<'d>(image: &mut Builder<'d>, i: usize, name: Option<ByteString<'d>>)
     }
 }
 
-// Gives the sections behind the first these names, from the last one back, where there are such. Takes no memory.
+// Gives the sections behind the first these names, from the last one back, where there are some.
+// Takes no memory.
 fn put_names<'d>(image: &mut Builder<'d>, mut names: Vec<Option<ByteString<'d>>>)
     requires few { length names.items ≤ length image.old.sections - 1 }
     requires whole { AreNames (map text_model names.items) }

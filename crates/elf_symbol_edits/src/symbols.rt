@@ -37,7 +37,7 @@ fn put_symbols<'d>(image: &mut Builder<'d>, symbols: Option<EditedSymbols<'d>>) 
     }
 }
 
-// The same of symbols for a loader.
+// Puts symbols for a loader in place, where there are some, and tells whether there are.
 fn put_dynamic_symbols<'d>(image: &mut Builder<'d>, symbols: Option<EditedSymbols<'d>>) -> bool
     requires { IfSome symbols (IsPutFor image.old) }
     ensures told { result ≡ is_some symbols.entry }
@@ -70,8 +70,8 @@ pub(crate) fn rename_symbols(
     Ok(put_symbols(image, symbols))
 }
 
-// The same of the symbols of both, where hash tables and relocations can follow. Those for a loader are made first, and put in
-// place last.
+// Gives the symbols for a link editor and for a loader other names, where hash tables and
+// relocations can follow. The symbols for a loader are made first, and put in place last.
 pub(crate) fn rename_all_symbols(
     alloc: Global,
     image: &mut Builder<'_>,
@@ -131,7 +131,7 @@ pub(crate) fn delete_symbols(
     Ok(true)
 }
 
-// The same of the symbols for a loader, where hash tables and relocations can follow.
+// Deletes the symbols for a loader with some numbers, where hash tables and relocations can follow.
 pub(crate) fn delete_dynamic_symbols(
     alloc: Global,
     image: &mut Builder<'_>,
@@ -155,7 +155,7 @@ pub(crate) fn delete_dynamic_symbols(
     Ok(true)
 }
 
-// The symbols for a loader without those that have some numbers, where there are such.
+// The symbols for a loader without those that have some numbers, where there are some.
 fn dynamic_without<'d>(
     alloc: Global,
     image: &Builder<'d>,

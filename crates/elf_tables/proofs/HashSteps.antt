@@ -15,7 +15,7 @@ module _ (step : ℕ → ℕ → ℕ) (bytes : List ℕ) (i hash whole : ℕ) (s
   nul_next less is =
       sym (ap (fold step hash) (ap front_text (drop_more bytes i 0 less ∙ ap (λ (b : ℕ). b ∷ drop (i + 1) bytes) is) ∙ front_text-nul (drop (i + 1) bytes))) ∙ so_far
 
-  -- another byte is
+  -- another byte than a NUL is next
   pub byte_next : i < length bytes → slice_index bytes i ≢ 0 → fold step (step hash (slice_index bytes i)) (front_text (drop (i + 1) bytes)) ≡ whole
   byte_next less other =
       sym (ap (fold step hash) (ap front_text (drop_more bytes i 0 less) ∙ front_text-byte (slice_index bytes i) (drop (i + 1) bytes) other)) ∙ so_far

@@ -180,7 +180,7 @@ told_there ks places i d e told low within =
     let at = with_places-at ks places i d e ([], 0) low within in
     subst (λ (p : List ℕ × ℕ). lookup (bytes_eq p.0) (with_places ks places) ≡ Some p.1) at.1 (told i ([], 0) at.0)
 
--- so it tells that of each text that is the same
+-- the pair at a position tells what was laid of each text that is the same
 pub told_at : (text : List ℕ) (ks : List Numbered) (places : List ℕ) (i : ℕ) (d : Numbered) (e : ℕ) → AreTold (with_places ks places) → i < length ks → i < length places
     → bytes_eq text (get_or ks i d).text ≡ true → lookup (bytes_eq text) (with_places ks places) ≡ Some (get_or places i e)
 told_at text ks places i d e told low within itself =

@@ -50,7 +50,7 @@ pub puts-behind-pairs : (old : List (List ℕ × ℕ)) (text : List ℕ) (place 
 unfolding PutsPlace
 puts-behind-pairs old text place same q = told_behind old text place same q
 
--- the same where other pairs stand behind
+-- a place that is put into pairs, where other pairs stand behind
 pub puts-joined : (old new behind : List (List ℕ × ℕ)) (text : List ℕ) (place : ℕ) → PutsPlace old new text place → PutsPlace (old ++ behind) (new ++ behind) text place
 unfolding PutsPlace
 puts-joined old new behind text place puts q = by_test (bytes_eq text q)
@@ -83,7 +83,7 @@ stand_step bytes more old new text place stand puts here q p e = by_test (bytes_
     subst (λ (n : ℕ). StandsAt (bytes ++ more) n q) at (subst (StandsAt (bytes ++ more) place) ((bytes_decides text q).0 yes) here))
     (λ no. stands-at-more bytes more p q (stand q p (sym (puts q ∙ cond-false (bytes_eq text q) (Some place) (lookup (bytes_eq q) old) no) ∙ e)))
 
--- the same where the table stays
+-- each text of which a place is told stands there, also where the table stays
 pub stand_shared : (bytes : List ℕ) (old new : List (List ℕ × ℕ)) (text : List ℕ) (place : ℕ)
     → ((q : List ℕ) (p : ℕ) → lookup (bytes_eq q) old ≡ Some p → StandsAt bytes p q) → PutsPlace old new text place → StandsAt bytes place text
     → (q : List ℕ) (p : ℕ) → lookup (bytes_eq q) new ≡ Some p → StandsAt bytes p q

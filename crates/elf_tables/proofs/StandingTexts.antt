@@ -14,7 +14,7 @@ pub stands-with : (table : List ℕ) (place : ℕ) (text : List ℕ) → StandsA
 unfolding StandsWith
 stands-with table place text stands = stands.bytes
 
--- it lies within the table
+-- a text that stands in a table lies within it
 pub stands-within : (table : List ℕ) (place : ℕ) (text : List ℕ) → StandsWith table place text → place + length text + 1 ≤ length table
 unfolding StandsWith
 stands-within table place text stands =

@@ -54,7 +54,7 @@ appended-here last t ts e = cond-false (ends_with nat_eq last t) (appended t ts)
 pub appended-shared : (last t : List ℕ) (ts : List (List ℕ)) → ends_with nat_eq last t ≡ true → appended last (t ∷ ts) ≡ appended t ts
 appended-shared last t ts e = cond-true (ends_with nat_eq last t) (appended t ts) (t ∷ appended t ts) e
 
--- they are among the texts
+-- the texts that are put behind the table are among the texts
 appended-held : (last x : List ℕ) (ts : List (List ℕ)) → Holds (appended last ts) x → Holds ts x
 appended-held last x [] h = h
 appended-held last x (t ∷ ts) h = by_test (ends_with nat_eq last t)
@@ -64,7 +64,7 @@ appended-held last x (t ∷ ts) h = by_test (ends_with nat_eq last t)
       | inr g ↦ Holds-behind t x ts (appended-held t x ts g)
     ])
 
--- what it is not to stand within another text: neither the text before ends with it nor another of the list
+-- a text that doesn't stand within another: neither the text before ends with it nor another of the list
 record NeedsBytes (last : List ℕ) (ts : List (List ℕ)) (x : List ℕ) : Type 0 where
   first : IsEnd last x → ⊥
   others : (u : List ℕ) → Holds ts u → IsEnd u x → u ≡ x

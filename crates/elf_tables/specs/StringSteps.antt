@@ -17,7 +17,7 @@ pub record Numbered : Type 0 where
 abbrev pub texts_in : List Numbered → List (List ℕ)
 texts_in ks = map (λ k. k.text) ks
 
--- as many were added before each of these as stand before it
+-- as many texts were added before each of these as stand before it
 abbrev pub AreInOrder : List Numbered → Type 0
 AreInOrder ks = (i : ℕ) (d : Numbered) → i < length ks → (slice_index_or ks i d).nth ≡ i
 
@@ -44,7 +44,7 @@ with_places [] places = []
 with_places (k ∷ ks) [] = []
 with_places (k ∷ ks) (place ∷ places) = (k.text, place) ∷ with_places ks places
 
--- each of these pairs tells of its text what the first of them with this text tells
+-- each of these pairs of a text and a place tells of its text what the first of them with this text tells
 abbrev pub AreTold : List (List ℕ × ℕ) → Type 0
 AreTold pairs = All (λ pair. lookup (bytes_eq pair.0) pairs ≡ Some pair.1) pairs
 

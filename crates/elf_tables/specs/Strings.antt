@@ -17,7 +17,7 @@ HoldNoNul texts = All (λ text. holds_nul text ≡ false) texts
 -- a text stands at a place of a table, a NUL behind it
 pub record StandsAt (table : List ℕ) (place : ℕ) (text : List ℕ) : Type 0 where
   pub bytes : field (length text + 1) place table ≡ text ++ 0 ∷ []
-  -- so it is what a reader finds there
+  -- a text that stands at a place is what a reader finds there
   pub read : (room : ℕ) → length text < room → text_at room (memory_of table) place ≡ Some text
 
 -- the texts, each once

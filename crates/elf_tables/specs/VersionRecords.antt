@@ -100,7 +100,7 @@ abbrev pub own_name : List (List ℕ) → List ℕ
 own_name [] = []
 own_name (name ∷ names) = name
 
--- its hash is that of its own name, by the gABI
+-- a defined version with its places; its hash is that of its own name, by the gABI
 abbrev pub placed_definition : Strings → VersionDefinition → PlacedDefinition
 placed_definition table d = record { index = d.index; flags = d.flags; hash = gabi_hash (own_name d.names); names = map (place_in table) d.names }
 

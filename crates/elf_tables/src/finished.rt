@@ -24,7 +24,7 @@ fn is_there(bytes: &[u8], place: u32, text: &[u8]) -> bool
     rest[text.len()] == 0
 }
 
-// Whether a text stands at a place of a table: the same, with no NUL in it.
+// Whether a text with no NUL in it stands at a place of a table, a NUL behind it.
 fn does_stand(bytes: &[u8], place: u32, text: &[u8]) -> bool
     ensures { IsTrue result ↔ StandsThere bytes.now place text.now }
 {
@@ -42,7 +42,7 @@ pub struct Finished<'t> {
     pub(crate) texts: Vec<Keyed<'t>>,
     // Where each of them stands.
     pub(crate) places: Vec<u32>,
-    // The same in the order in which they were added.
+    // Where each text stands, in the order in which they were added.
     pub(crate) in_order: Vec<u32>,
     // The texts that were placed, and where.
     pub(crate) placed: HashMap<&'t [u8], u32>,

@@ -37,7 +37,8 @@ fn end_key_by_byte(text: &[u8]) -> u64
     key
 }
 
-// The same, at once where the text has 8 bytes.
+// A text's last 8 bytes as one number, the last byte the highest, at once where the text has 8
+// bytes.
 fn end_key(text: &[u8]) -> u64
     ensures { result ≡ key_of_end text.now }
 {

@@ -209,7 +209,7 @@ fn identification(form: Form, header: FileHeader) -> [Field; 16]
     ]
 }
 
-// The numbers of a file header behind these.
+// The numbers of a file header, behind the sixteen bytes that a file begins with.
 fn header_numbers(form: Form, h: FileHeader) -> [Field; 13]
     requires { IsTrue (do_fields_fit (header_fields form h)) }
     ensures { map field_model result ≡ header_fields form h }

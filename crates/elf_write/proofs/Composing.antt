@@ -91,7 +91,7 @@ same_byte r k = by_length (cases_lt k len)
         ap (λ (b : Bool). if kept && not cleared && b then slice_index source k else 0) (le-ltb k len past)
         ∙ none_chosen (kept && not cleared) (does_byte_stay r k) (slice_index source k) (slice_index source k) (get_or_past source k 0 past)
 
--- so bytes over what stays are composed of it
+-- bytes over what stays of the source are composed of it
 pub composed_of : (r : Resized) (source : List ℕ) (len : ℕ) (segments : List SegmentHeader) (places : List Range) (kept cleared : List Span)
     (patches : List Patch) (size : ℕ) (bytes : List ℕ)
     → source ≡ r.image.source → len ≡ length source → segments ≡ r.image.segments → places ≡ old_places r.read r.image

@@ -42,7 +42,7 @@ use Rattle.elf_image.proofs.ForCallers.KeptSections.{length-kept}
 abbrev pub left_patches : Resized → List KeptSection → List Place → List (List ℕ) → ℕ → List Patch
 left_patches r ks ps cs i = patches_of_sections r (drop i ks) (drop i ps) (drop i cs)
 
--- those before it are there
+-- the patches of the sections before a position are there
 abbrev pub IsPushedTo : Resized → List KeptSection → List Place → List (List ℕ) → ℕ → List Patch → List Patch → Type 0
 IsPushedTo r ks ps cs i old now = now ++ left_patches r ks ps cs i ≡ old ++ patches_of_sections r ks ps cs
 
@@ -69,7 +69,7 @@ pub record IsAt (image : Image) (sections : List Section) (places : List Section
   pub of_number : number ≡ slice_index image.section_numbers i
   pub content : bytes ≡ get_or contents i bytes
 
--- its patch, and those of the sections behind it
+-- a section's patch, and those of the sections behind it
 pub left-next : (image : Image) (interpreter : Option ℕ) (sections : List Section) (places : List SectionPlace)
     (ps : List Place) (contents : List (List ℕ))
     (i number : ℕ) (x : Section) (bytes : List ℕ) (d : SectionPlace) (stays : Bool)
@@ -194,7 +194,7 @@ module _ (image : Image) (plan : Plan) (headers : List SectionHeader) (contents 
   of_sections : List Patch
   of_sections = patches_of_sections (resized image) (kept_sections image) plan.places contents
 
-  -- they are those of what is written
+  -- these patches are those of what is written
   are_patches : (raw : List EntryNumbers) → these ≡ patches (output_of image plan headers contents raw)
   unfolding of_sections
   are_patches raw = of.are ∙ ap (λ (qs : List Patch). qs ++ of_sections)
@@ -204,7 +204,7 @@ module _ (image : Image) (plan : Plan) (headers : List SectionHeader) (contents 
   is_size : size ≡ written_size (resized image) plan
   is_size = of.same_size ∙ ap (λ (f : Form). plan.e_shoff + length plan.places * section_header_size f) of.same_form
 
-  -- they lie in the bytes of the file
+  -- these patches lie in the bytes of the file
   pub all_lie : ((raw : List EntryNumbers) × IsPlannedOutput (output_of image plan headers contents raw)) → All (LiesIn size) these
   all_lie (raw, is) =
       subst (λ (n : ℕ). All (LiesIn n) these) (sym is_size)
@@ -212,7 +212,7 @@ module _ (image : Image) (plan : Plan) (headers : List SectionHeader) (contents 
       (all_each (LiesIn (written_size (resized image) plan)) (patches (output_of image plan headers contents raw))
       (patches_lie (output_of image plan headers contents raw) is)))
 
-  -- its bytes are theirs over what stays
+  -- the bytes of the file are these patches over what stays
   planned_over : (raw : List EntryNumbers) → IsPlannedOutput (output_of image plan headers contents raw)
       → IsOverBase (resized image) these size (written_bytes (output_of image plan headers contents raw))
   planned_over raw is =
@@ -221,7 +221,7 @@ module _ (image : Image) (plan : Plan) (headers : List SectionHeader) (contents 
       (subst (λ (qs : List Patch). IsOverBase (resized image) qs (written_size (resized image) plan) bytes) (sym (are_patches raw))
       (over_base (output_of image plan headers contents raw) is))
 
-  -- so a difference that makes such bytes in parts makes what it makes in parts
+  -- a difference that makes such bytes in parts makes the bytes of the file in parts
   pub planned-parts : ((raw : List EntryNumbers) × IsPlannedOutput (output_of image plan headers contents raw)) → (source : List ℕ) (d : Difference)
       → ((bytes : List ℕ) → IsOverBase (resized image) these size bytes → IsMadeInParts source d bytes)
       → IsMadeInParts source d (made_of source d)
@@ -231,7 +231,7 @@ module _ (image : Image) (plan : Plan) (headers : List SectionHeader) (contents 
       let parts : IsMadeInParts source d bytes = makes bytes (planned_over known is) in
       subst (IsMadeInParts source d) (sym parts.made) parts
 
-  -- and what makes such bytes makes those of the file
+  -- what makes such bytes makes those of the file
   pub made-planned : ((raw : List EntryNumbers) × IsPlannedOutput (output_of image plan headers contents raw)) → (made : List ℕ)
       → ((bytes : List ℕ) → IsOverBase (resized image) these size bytes → made ≡ bytes)
       → (raw : List EntryNumbers) → made ≡ written_bytes (output_of image plan headers contents raw)

@@ -207,7 +207,7 @@ module _ (read image : Image) (plan : Plan) (made : List Made) (raw : List Entry
         };
       }
 
-  -- there is such a one
+  -- the headers and contents are those of a planned output
   pub are_written : AreBytes image.source → (hs : List SectionHeader) → AreHeadersApart image plan
       → AreRaw (resized image) plan made raw
       → AreHeaders (resized image) (strings_at image made image.header.e_shstrndx) (kept_sections image) plan.places hs
@@ -215,7 +215,7 @@ module _ (read image : Image) (plan : Plan) (made : List Made) (raw : List Entry
       → (entries : List EntryNumbers) × IsPlannedOutput (output_of image plan hs contents entries)
   are_written source hs apart is_raw headers fit few = (raw, is_planned_output source hs apart is_raw headers fit few)
 
-  -- these are its bytes
+  -- these bytes are those of a planned file
   pub is_planned_file : AreBytes image.source → (hs : List SectionHeader) (bytes : List ℕ) → AreHeadersApart image plan
       → AreRaw (resized image) plan made raw
       → AreHeaders (resized image) (strings_at image made image.header.e_shstrndx) (kept_sections image) plan.places hs

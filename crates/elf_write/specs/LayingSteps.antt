@@ -36,12 +36,12 @@ is_in_load segments position = list_any (λ p. has_position position (file_part 
 abbrev pub is_data_at : Option ℕ → ℕ → ImageSection → Bool
 is_data_at interpreter number s = is_loaded_section s && is_opaque s.kind && not (is_some_and (λ n. n == number) interpreter)
 
--- it takes memory and bytes of the file, and is no data
+-- a section takes memory and bytes of the file, and is no data
 abbrev pub is_rewritten_at : Option ℕ → ℕ → ImageSection → Bool
 is_rewritten_at interpreter number s =
     is_loaded_section s && occupies_file (place_at_read s) && not (is_data_at interpreter number s)
 
--- it is, and nobody looks for it where it stood: a dynamic section that has leave to move is looked for there
+-- a section is written anew, and nobody looks for it where it stood: a dynamic section that has leave to move is looked for there
 abbrev pub leaves_place_at : Option ℕ → Bool → ℕ → ImageSection → Bool
 leaves_place_at interpreter leave number s = is_rewritten_at interpreter number s && not (s.sh_type == SHT_DYNAMIC && leave)
 

@@ -17,7 +17,7 @@ use Rattle.elf_write_contents.specs.Base.{base_byte}
 abbrev pub span_in : ℕ → Range → Span
 span_in len r = record { start = min r.start len; end = min (end_of r) len }
 
--- those of the bytes that loaded segments have in the file
+-- the positions of the bytes that loaded segments have in the file, as far as there are so many bytes
 abbrev pub load_spans : ℕ → List SegmentHeader → List Span
 load_spans len segments = map (λ p. span_in len (file_part p)) (loads_of segments)
 

@@ -26,7 +26,8 @@ fn is_rewritten(section: &Section<'_>, number: usize, interpreter: Option<usize>
         && !is_data(section, number, interpreter)
 }
 
-// Whether it is, and nobody looks for it where it stood: for a dynamic section that may move some programs do, by `_DYNAMIC`.
+// Whether a section that had that number is written anew, and nobody looks for it where it stood:
+// for a dynamic section that may move some programs do, by `_DYNAMIC`.
 pub(crate) fn leaves_place(
     image: &Builder<'_>,
     section: &Section<'_>,

@@ -93,7 +93,7 @@ module _ (image : Image) (plan : Plan) (made : List Made) (raw : List EntryNumbe
 
 -- ## What a program holds
 
--- as many, and each where it was
+-- as many sections are lent as the image has
 pub long_held : (held : List Section) (sections : List ImageSection) → map section_model held ≡ sections → length sections ≡ length held
 long_held held sections are = ap length (sym are) ∙ length-map held section_model
 
@@ -157,7 +157,7 @@ module _ (read image : Image) (plan : Plan) (made : List Made) (raw : List Entry
   same : place.here.section ≡ s
   same = same_Some place.here.section s (sym place.here.is_section ∙ s_at)
 
-  -- its number at read
+  -- the section's number at read
   abbrev n : ℕ
   n = place.here.number
 
@@ -207,7 +207,7 @@ module _ (read image : Image) (plan : Plan) (made : List Made) (raw : List Entry
         (subst (λ (x : ImageSection). IsRelocated (resized_with read image) x bytes) (sym same)
         (subst (λ (x : Image). IsRelocated (resized_with x image) s bytes) (sym is.ready.at_read) are)))
 
-    -- and what is as it was read
+    -- a section that numbers dynamic symbols, and is as it was read
     pub numbering_at : HasNoTable s.sh_type → (bytes : List ℕ) → IsNumbering read image s bytes → IsBytesAt image plan made raw i bytes
     numbering_at none bytes numbers = elim (cases_eq s.sh_type SHT_GNU_VERSYM) [
       | inl e ↦ versions_at e bytes (numbers.versions e).0 (numbers.versions e).1

@@ -47,7 +47,7 @@ use Rattle.elf_write_contents.proofs.ContentsCopied.{content_long, content_sized
 
 -- ## A table that is made
 
--- its texts stand where it tells
+-- the texts of a table that is made stand where it tells
 table_made : (texts : List (List ℕ)) (table : Strings) → IsTableOf texts table → PlacesStand table → IsTableMadeOf texts table.bytes
 table_made texts table holds stand = record {
   first = holds.first;
@@ -181,7 +181,7 @@ module _ (read image : Image) (plan : Plan) (made : List Made) (raw : List Entry
     (are : AreRaw (resized image) plan made raw)
     (i : ℕ) (at : PlacedAt read image plan f.parts i) (apart : is_numbered (interpreter_number read) (kept_as i at.here.number at.here.section) ≡ false)
     (typed_so : at.here.section.sh_type ≡ SHT_DYNAMIC) where
-  -- it is the one of its type
+  -- the dynamic section is the one of its type
   is_list : kept_of_type SHT_DYNAMIC image ≡ Some (kept_as i at.here.number at.here.section)
   is_list =
       let test : SectionHeader → Bool = was_of read image f SHT_DYNAMIC in
@@ -196,7 +196,7 @@ module _ (read image : Image) (plan : Plan) (made : List Made) (raw : List Entry
         | inr none ↦ absurd (false≢true (sym (none at.here.number at.here.old at.here.is_old) ∙ passes))
       ]
 
-  -- its entries
+  -- the entries of the dynamic section
   listed : AreEntriesOf (resized_with read image) plan (strings_at image made at.here.section.sh_link) (list_at (λ es. es) (final read image).entries) raw
   listed =
       (subst (λ (x : Image). AreRaw (resized_with x image) plan made raw) (sym is.at_read) are).listed (kept_as i at.here.number at.here.section) is_list

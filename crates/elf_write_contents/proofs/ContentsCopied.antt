@@ -40,7 +40,7 @@ module _ (read image : Image) (plan : Plan) (f : ReadFacts read image) (i : ℕ)
   unfolding section_bytes
   no_content h = content_is ∙ cond-false (has_file_bytes at.here.old) _ [] h
 
-  -- as many bytes as its place has, where that has its size
+  -- as many bytes as the section's place has, where that has its size
   pub content_sized : at.place.sh_size ≡ at.here.section.sh_size → length at.here.section.content ≡ (if occupies_file at.place then at.place.sh_size else 0)
   content_sized same = by_test (occupies_file at.place) refl
     where

@@ -119,7 +119,7 @@ content_plain r plan raw strings s bytes kinds.GnuVersym h is = absurd (false≢
 content_plain r plan raw strings s bytes kinds.GnuVerdef h is = absurd (false≢true h)
 content_plain r plan raw strings s bytes kinds.GnuVerneed h is = absurd (false≢true h)
 
--- they are as many as a size that both the bytes that were read and relocations have
+-- bytes of such a kind are as many as a size that both the bytes that were read and relocations have
 pub plain_long : (r : Resized) (s : ImageSection) (bytes : List ℕ) (size : ℕ) (kind : SectionData) → is_plain kind ≡ true → IsRelocatedOf r s bytes kind
     → length s.content ≡ size → (kind ≡ kinds.Relocation → s.sh_size ≡ size) → length bytes ≡ size
 plain_long r s bytes size kinds.Opaque h is long relocations = ap length is ∙ long
@@ -251,7 +251,7 @@ module _ (read image : Image) (plan : Plan) (made : List Made) (raw : List Entry
     stored type e h =
         cond-true (occupies_file at.place) at.place.sh_size 0 (ap (λ t. not (eqb t 0) && not (eqb t 8)) (at.place_type ∙ e) ∙ h)
 
-    -- it is no string table
+    -- a section of another type is no string table
     pub no_strings : (type : ℕ) → at.here.section.sh_type ≡ type → (type == SHT_STRTAB) ≡ false → (bytes : List ℕ)
         → at.here.section.sh_type ≡ SHT_STRTAB → bytes ≡ strings_at image made at.here.number
     no_strings type e other bytes h = absurd (both_ways (type == SHT_STRTAB) other (eq-eqb type SHT_STRTAB (sym e ∙ h)))

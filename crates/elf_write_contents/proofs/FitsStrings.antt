@@ -43,11 +43,11 @@ module _ (read image : Image) (is : IsEditedReady read image) (f : ReadFacts rea
   abbrev here : KeptSection
   here = kept_as i at.number at.section
 
-  -- it isn't the interpreter's
+  -- the string table isn't the interpreter's
   no_interpreter : is_numbered (interpreter_number read) here ≡ false
   no_interpreter = not_interpreter read image f i at (ap (λ (n : ℕ). n == SHT_PROGBITS) type)
 
-  -- it keeps its size
+  -- the string table keeps its size
   kept_size : new_size read image here ≡ x.sh_size
   unfolding new_size
   kept_size =
@@ -60,7 +60,7 @@ module _ (read image : Image) (is : IsEditedReady read image) (f : ReadFacts rea
       of_type n same =
           subst (λ (m : ℕ). table_size read image (kept_as i at.number (record x { sh_type = m })) ≡ strings_size read image here) same refl
 
-  -- and that fits
+  -- the size of the string table fits
   pub copied_fits : x.sh_size < words_end image.form.wide
   unfolding new_sizes
   copied_fits =

@@ -26,7 +26,7 @@ module _ (read image : Image) (is : IsEditedReady read image) where
       ∙ slice_get-map (final_symbol image) (ordered read image) i
       ∙ ap (option_map (final_symbol image)) (ordered-at read image (all_symbols read image f) i n at ∙ there)
 
-  -- as many as there were
+  -- as many dynamic symbols as there were
   pub count : length (final read image).dynamic_symbols ≡ length image.dynamic_symbols
   count = final_count read image (facts read image is)
 
@@ -42,6 +42,6 @@ behind_final image [] = refl
 behind_final image (y ∷ ys) =
     ap (λ (n : ℕ). if not (n == 0) then n + 1 else if is_local y then 1 else 0) (behind_final image ys)
 
--- so of the static symbols those of the image tell as much
+-- the static symbols of the image tell as many local ones as the final ones
 pub behind_static : (read image : Image) → behind_locals image.symbols ≡ behind_locals (final read image).symbols
 behind_static read image = sym (ap behind_locals (symbols_written read image) ∙ behind_final image image.symbols)

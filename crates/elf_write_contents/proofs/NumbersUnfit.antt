@@ -41,7 +41,7 @@ module _ (image : Image) (plan : Plan) where
   unfolding do_numbers_fit headers names symbols relocations
   symbols_unfit far = and_left (headers && names && symbols) relocations (and_right (headers && names) symbols far)
 
-  -- and in relocations
+  -- new numbers of dynamic symbols in relocations
   pub relocations_unfit : list_all (do_section_relocations_fit (image_at_read image) image) (kept_sections image) ≡ false
       → do_numbers_fit image plan ≡ false
   unfolding do_numbers_fit headers names symbols relocations

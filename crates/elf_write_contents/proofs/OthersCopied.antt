@@ -47,7 +47,7 @@ part_of_more (t ∷ ts) (u ∷ us) more h =
 abbrev all_texts : List (List ℕ) → List (List ℕ) → List (List ℕ) → List (List ℕ) → List (List ℕ) → List (List ℕ) → List (List ℕ)
 all_texts a b c d e g = a ++ b ++ c ++ d ++ e ++ g
 
--- those of two users alone, which had them, are a part of all
+-- the texts of two users alone, which had them, are a part of all
 two_left : (a b c d e g was_a was_b was_c was_d was_e was_g : List (List ℕ)) → a ≡ [] → b ≡ [] → e ≡ [] → g ≡ [] → was_a ≡ [] → was_b ≡ []
     → c ≡ was_c → d ≡ was_d → is_subsequence (all_texts a b c d e g) (all_texts was_a was_b was_c was_d was_e was_g) ≡ true
 two_left a b c d e g was_a was_b was_c was_d was_e was_g ha hb he hg wa wb hc hd =

@@ -25,7 +25,7 @@ order_fits read image (Some r) is =
     or_right (not (are_names_changed read image)) (nat_lt (length image.dynamic_symbols) (2 ^ 32))
     (lt-ltb (length image.dynamic_symbols) (2 ^ 32) is.few)
 
--- and those of static ones
+-- the new numbers of static symbols fit
 static_fit : (read image : Image) (o : Option NewNumbers) → AreStaticNumbersFor read image o
     → (not (are_static_numbers_new read image) || nat_lt (length image.symbols) (2 ^ 32)) ≡ true
 static_fit read image None same = ap (λ (b : Bool). not b || nat_lt (length image.symbols) (2 ^ 32)) same

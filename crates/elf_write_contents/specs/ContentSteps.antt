@@ -25,8 +25,8 @@ pub record IsBytesAt (image : Image) (plan : Plan) (made : List Made) (raw : Lis
   pub are : (k : KeptSection) (place : Place) → slice_get (kept_sections image) i ≡ Some k → slice_get plan.places i ≡ Some place
       → IsMadeContent (resized image) plan made raw k place bytes
 
--- these are those of the first sections, each
-pub record AreBytesOf (image : Image) (plan : Plan) (made : List Made) (raw : List EntryNumbers) (contents : List (List ℕ)) : Type 0 where
+-- the bytes of each of the first sections are there
+pub record AreBytesOf (image : Image) (plan : Layout) (made : List Made) (raw : List EntryNumbers) (contents : List (List ℕ)) : Type 0 where
   pub each : (i : ℕ) (bytes : List ℕ) → slice_get contents i ≡ Some bytes → IsBytesAt image plan made raw i bytes
 
 -- ## Sections that number the dynamic symbols
@@ -41,7 +41,7 @@ IsRelocatedOf r s bytes kind = elim kind [
 abbrev pub IsRelocated : Resized → ImageSection → List ℕ → Type 0
 IsRelocated r s bytes = IsRelocatedOf r s bytes s.kind
 
--- the bytes of a section that numbers the dynamic symbols, by its type; else as above
+-- the bytes of a section that numbers the dynamic symbols, by its type; else as of other sections
 pub record IsNumbering (read image : Image) (s : ImageSection) (bytes : List ℕ) : Type 0 where
   pub versions : s.sh_type ≡ SHT_GNU_VERSYM
       → (length bytes ≡ 2 * length image.dynamic_symbols) × AreVersionsIn (resized image) s bytes

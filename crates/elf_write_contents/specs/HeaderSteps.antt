@@ -24,7 +24,7 @@ pub record IsKnown (image : Image) (known : Known) : Type 0 where
   pub needs : known.needs ≡ length (final (image_at_read image) image).needs
   pub headers : headers_read image ≡ Some known.headers.items
 
--- sh_info of tables that are made of the image's lists follows from these
+-- the number in sh_info of a table that is made of the image's lists, by what is known of these
 abbrev pub info_by : Known → Image → ImageSection → ℕ
 info_by known image s =
     if s.sh_type == SHT_SYMTAB then known.symbols

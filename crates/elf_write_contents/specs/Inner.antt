@@ -27,7 +27,7 @@ pub record IsPlanned (read image : Image) (plan : Plan) : Type 0 where
 
 -- ## Headers and entries
 
--- one header for each section, their names among these
+-- one header for each section, with the sections' names among these
 abbrev pub AreHeaders : Resized → List ℕ → List KeptSection → List Place → List SectionHeader → Type 0
 AreHeaders r names [] [] [] = Unit {0}
 AreHeaders r names (s ∷ ss) (p ∷ ps) (h ∷ hs) = IsHeaderOf r names s.section p h × AreHeaders r names ss ps hs

@@ -46,9 +46,9 @@ do_header_numbers_fit image plan =
     && do_sections_fit r (kept_sections image) plan.places
     && list_all (does_entry_fit r plan) (list_at (λ es. es) (final r.read image).entries)
 
--- Each of them does; so do the offsets of texts, where texts move in dynamic strings that are copied, and the new numbers of dynamic
--- symbols in hash tables and in relocations.
-unfoldable pub do_numbers_fit : Image → Plan → Bool
+-- Each number of the headers and of the dynamic list fits its field; so do the offsets of texts, where texts move in dynamic strings that
+-- are copied, and the new numbers of dynamic symbols in hash tables and in relocations.
+unfoldable pub do_numbers_fit : Image → Layout → Bool
 do_numbers_fit image plan =
     let read = image_at_read image in
     do_header_numbers_fit image plan
@@ -56,7 +56,7 @@ do_numbers_fit image plan =
     && do_symbols_fit read image
     && list_all (do_section_relocations_fit read image) (kept_sections image)
 
--- the same of records that are there
+-- each number of records that are there fits its field
 unfoldable pub do_records_fit : Form → FileHeader → List SegmentHeader → List SectionHeader → List EntryNumbers → Bool
 do_records_fit form header segments sections entries =
     do_fields_fit (file_header_fields form header)

@@ -126,7 +126,7 @@ fn push_zeros(bytes: &mut Vec<u8>, count: u64) -> Result<(), AllocError>
     Ok(())
 }
 
-// So many bytes of entries, with zeros behind these.
+// So many bytes: entries, with zeros behind them.
 #[tactic(auto, unfolding(elf_write_spec::specs::Contents::spelled_list))]
 pub(crate) fn list_content(
     alloc: Global,

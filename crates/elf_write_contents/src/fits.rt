@@ -42,7 +42,7 @@ fn does_header_fit(form: Form, h: FileHeader) -> bool
     do_words_fit(form, &[h.e_entry, h.e_phoff, h.e_shoff])
 }
 
-// The same of a program header.
+// Whether each number of a program header fits its field.
 fn does_segment_fit(form: Form, p: SegmentHeader) -> bool
     ensures { result ≡ do_fields_fit (segment_fields form p) }
 {
@@ -54,7 +54,7 @@ fn does_segment_fit(form: Form, p: SegmentHeader) -> bool
         && does_word_fit(form, p.p_align)
 }
 
-// The same of a section header, whatever the place of its name.
+// Whether each number of a section header fits its field, whatever the place of its name.
 fn does_section_fit(form: Form, s: SectionHeader) -> bool
     ensures fit { result ≡ do_fields_fit (section_fields form s) }
     ensures unnamed { result ≡ do_fields_fit (section_fields form (unnamed s)) }
@@ -72,7 +72,7 @@ fn does_section_fit(form: Form, s: SectionHeader) -> bool
     )
 }
 
-// The same of a dynamic entry.
+// Whether each number of a dynamic entry fits its field.
 fn does_entry_fit(form: Form, e: EntryNumbers) -> bool
     ensures { result ≡ do_fields_fit (entry_fields form e) }
 {
@@ -86,7 +86,7 @@ fn do_segments_fit(form: Form, segments: &[SegmentHeader]) -> bool
     segments.iter().all(|p| does_segment_fit(form, *p))
 }
 
-// The same of section headers, whatever the places of their names.
+// Whether each number of these section headers fits its field, whatever the places of their names.
 fn do_sections_fit(form: Form, sections: &[SectionHeader]) -> bool
     ensures fit { result ≡ list_all (λ s. do_fields_fit (section_fields form s)) sections.now }
     ensures unnamed { result
@@ -95,7 +95,7 @@ fn do_sections_fit(form: Form, sections: &[SectionHeader]) -> bool
     sections.iter().all(|s| does_section_fit(form, *s))
 }
 
-// The same of dynamic entries.
+// Whether each number of these dynamic entries fits its field.
 fn do_entries_fit(form: Form, entries: &[EntryNumbers]) -> bool
     ensures { result ≡ list_all (λ e. do_fields_fit (entry_fields form e)) entries.now }
 {
@@ -121,7 +121,7 @@ fn do_records_fit(
         && do_entries_fit(form, entries)
 }
 
-// The same of those of an image.
+// Whether each number of the records of an image fits its field.
 pub(crate) fn do_header_numbers_fit<'data>(
     read: &Builder<'data>,
     image: &Builder<'data>,

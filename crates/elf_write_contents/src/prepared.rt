@@ -55,8 +55,9 @@ pub fn prepare<'a, 'data>(
     prepare_with_strings(alloc, read, image, plan, made)
 }
 
-/// The same, with the string tables that are told anew, which [`strings_from`](elf_write_symbol_tables::made::strings_from)
-/// gives. Errors as there.
+/// What stands in the headers of an image that is written by a plan, with the string tables that
+/// are told anew, which [`strings_from`](elf_write_symbol_tables::made::strings_from) gives. Errors
+/// as there.
 pub fn prepare_with_strings<'a, 'data>(
     alloc: Global,
     read: &'a Builder<'data>,
@@ -123,7 +124,8 @@ fn made_numbers<'data>(
     })
 }
 
-// The same, each of which fits its field, as the new numbers of symbols do in relocations.
+// The headers and the dynamic entries of an image that is written by a plan, each of which fits its
+// field, as the new numbers of symbols do in relocations.
 fn fitting_numbers<'data>(
     alloc: Global,
     read: &Builder<'data>,
@@ -159,7 +161,8 @@ fn fitting_numbers<'data>(
     Ok(numbers)
 }
 
-// The same, with the new numbers of sections and symbols.
+// What stands in the headers of an image that is written by a plan, with the new numbers of
+// sections and symbols.
 fn prepare_numbered<'a, 'data>(
     alloc: Global,
     read: &'a Builder<'data>,

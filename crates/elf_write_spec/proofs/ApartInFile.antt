@@ -259,7 +259,7 @@ module _ (r : Resized) (moved : List ℕ) (looked : ℕ) (reads : ReadsPlaced r)
   table_ahead : Each (λ x. occupies_file x ≡ true → apart table (file_range x) ≡ true) (places r moved)
   table_ahead = ahead table stored_ahead.1 table_end
 
-  -- what holds of each section with bytes in the file holds of the ranges of these
+  -- what holds of each section with bytes in the file holds of the ranges of such sections
   ranges_each : (Q : Range → Type 0) → Each (λ x. occupies_file x ≡ true → Q (file_range x)) (places r moved)
       → Each Q (map file_range (filter occupies_file (places r moved)))
   ranges_each Q each = each-map Q file_range (filter occupies_file (places r moved))

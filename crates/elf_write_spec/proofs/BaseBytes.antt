@@ -120,7 +120,7 @@ module _ (w : Output) (is : IsPlannedOutput w) (f : ReadFacts w) where
   pub section_place : (i : ℕ) (at : SectionAt w f.parts i) → place_at_read at.section ≡ place_of at.old
   section_place i at = ap place_at_read at.of_old.fields
 
-  -- its type is none of a table's
+  -- data has a type that is no table's
   not_table : (i : ℕ) (at : SectionAt w f.parts i) → is_data r.read (kept_as i at.number at.section) ≡ true → IsNoTable at.section.sh_type
   not_table i at is_it =
       let facts = data_facts r (kept_as i at.number at.section) is_it in
@@ -207,7 +207,7 @@ module _ (w : Output) (is : IsPlannedOutput w) (f : ReadFacts w) where
         ),
       )
 
-  -- so the base has it
+  -- a place where data was is in the base
   pub base_has : (i : ℕ) (at : SectionAt w f.parts i) → is_data r.read (kept_as i at.number at.section) ≡ true → is_stored (place_of at.old) ≡ true
       → (k : ℕ) → at.old.sh_offset ≤ k → k < at.old.sh_offset + at.old.sh_size → base_byte r k ≡ slice_index w.image.source k
   base_has i at is_it stored k begins ends =
@@ -253,7 +253,7 @@ module _ (w : Output) (is : IsPlannedOutput w) (f : ReadFacts w) where
       field-values (base_byte r) size at.old.sh_size at.old.sh_offset w.image.source inside there
       (λ k begins ends. base_has i at is_it stored k begins ends)
 
-  -- its bytes
+  -- the bytes of data stand where the section is written
   pub data_stands : (i : ℕ) (at : SectionAt w f.parts i) → is_data r.read (kept_as i at.number at.section) ≡ true → occupies_file at.place ≡ true
       → field at.place.sh_size at.place.sh_offset (written_bytes w) ≡ field at.old.sh_size at.old.sh_offset w.image.source
   data_stands i at is_it in_file = elim (cases_Bool (eqb at.old.sh_size 0)) [

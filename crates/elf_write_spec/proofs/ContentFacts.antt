@@ -118,7 +118,7 @@ module _ (w : Output) (is : IsPlannedOutput w) (f : ReadFacts w) (i : ℕ) (at :
       → at.bytes ≡ section_bytes (file_of f.parts) at.old
   gnu_hash_copied same h = hash_kept same kinds.GnuHash refl (shows SHT_GNU_HASH h refl kinds.GnuHash refl)
 
-  -- and else made of the final symbols
+  -- the bytes of a hash table show the final symbols, or are as they were
   pub hash_shown : at.old.sh_type ≡ SHT_HASH → IsGabiContent (resized w.image) at.section at.bytes
   hash_shown h = shows SHT_HASH h refl kinds.Hash refl
 

@@ -33,7 +33,7 @@ use Rattle.elf_write_spec.proofs.NumberedSections.{kept_as}
 turned : (a b : ℕ) → (a == b) ≡ false → (b == a) ≡ false
 turned a b h = false_from_ne_true (b == a) (λ e. both_ways (a == b) h (eq-eqb a b (sym (eqb-true b a e))))
 
--- neither the interpreter nor a table nor a note
+-- data is neither the interpreter nor a table nor a note, and never moves
 never_moves : (r : Resized) (k : KeptSection) → is_interpreter r.read k ≡ false → IsNoTable k.section.sh_type → priority_of r k ≡ 0
 never_moves r k other none =
     let n : ℕ = k.section.sh_type in

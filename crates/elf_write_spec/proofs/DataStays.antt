@@ -157,7 +157,7 @@ module _ (image : Image) (plan : Plan) (edited : IsEdited image) (planned : IsPl
   abbrev r : Resized
   r = resized image
 
-  -- it doesn't move
+  -- a section that can't move doesn't move
   stays_there : (i : ℕ) (k : KeptSection) → slice_get (kept_sections image) i ≡ Some k → priority_of r k ≡ 0 → is_one_of planned.moved k.position ≡ false
   stays_there i k at fixed_there = false_from_ne_true (is_one_of planned.moved k.position) (λ among.
       absurd (fixed_isnt_moved r (resized_sections image) plan.looked planned.moved planned.ended.move i k at fixed_there among))
@@ -168,7 +168,7 @@ module _ (image : Image) (plan : Plan) (edited : IsEdited image) (planned : IsPl
       let apart : Bool = stay_apart planned.moved (blocks_with r plan.looked) in
       (and_parts causes apart (and_parts (causes && apart) (are_in_old_order (sections_at r planned.moved)) planned.ended.move).0).1
 
-  -- it is in a loaded segment that is still there
+  -- a section that can't move is in a loaded segment that is still there
   pub fixed_in_load : (i : ℕ) (k : KeptSection) → slice_get (kept_sections image) i ≡ Some k → is_interpreter r.read k ≡ false
       → IsNoTable k.section.sh_type → is_stored (place_at_read k.section) ≡ true
       → IsKeptIn r k.section.sh_offset k.section.sh_size k.section.sh_addr

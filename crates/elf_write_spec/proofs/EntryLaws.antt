@@ -69,7 +69,7 @@ module _ (order : ByteOrder2) (w x : ℕ) (entry : List ℕ) (long : w + w ≤ l
     ]
   ]
 
--- its parts, one behind another
+-- the parts of an entry, one behind another
 pub pushed_parts : {T E : Type 0} → (order : ByteOrder2) (w x : ℕ) (entry old one two new : List ℕ) (result : Result T E) → one ≡ old ++ take w entry → two ≡ one ++ bytes_of order w x
     → new ≡ (if is_ok result then two ++ drop (2 * w) entry else two) → OnOk result (new ≡ old ++ with_number order w w x entry)
 unfolding with_number

@@ -256,7 +256,7 @@ module _ (w : Output) (is : IsPlannedOutput w) (f : ReadFacts w) where
           (sym (entries_here w is f i at type has)
           ∙ ap (λ (b : List ℕ). entries_at (length (written_bytes w)) w.image.form (memory_of b) 0) bytes ∙ l.are)
 
--- It is written by its plan.
+-- The file is written by its plan.
 pub files_by_plan : (w : Output) → IsPlannedOutput w → IsWrittenByPlan w.image w.plan (written_bytes w)
 files_by_plan w is = record {
   output = w;

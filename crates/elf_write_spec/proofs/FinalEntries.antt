@@ -26,7 +26,7 @@ is_lasting e = not (is_one_of (DT_VERNEED ∷ DT_VERNEEDNUM ∷ []) (entry_tag e
 abbrev lasting_entries : Option (List Entry) → Option (List Entry)
 lasting_entries entries = option_map (λ es. filter is_lasting es) entries
 
--- its tables are those of the list, without these tags
+-- the tables of a list without needed versions are those of the list, without the tags of these
 tables-filtered : (es : List Entry) → tables_of (filter is_lasting es) ≡ filter is_lasting_tag (tables_of es)
 tables-filtered [] = refl
 tables-filtered (Auto tag ∷ es) = by_test (is_lasting_tag tag) (tables-filtered es)

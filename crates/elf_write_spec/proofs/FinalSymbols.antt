@@ -17,7 +17,7 @@ use Rattle.elf_write_spec.proofs.WholeLists.{there_at}
 
 -- ## Symbols in an order
 
--- one of those in an order is one of all
+-- one of the symbols in an order is one of all
 pub in_order-from : (ys : List NamedSymbol) (order : List ℕ) (i : ℕ) (y : NamedSymbol) → slice_get (in_order ys order) i ≡ Some y
     → (j : ℕ) × (slice_get ys j ≡ Some y)
 in_order-from ys [] i y at = absurd (none-some y at)

@@ -169,7 +169,7 @@ module _ (image again : Image) (moved : List ℕ) (same_places : places_in again
   abbrev Become : SegmentHeader → Anchor → List SegmentHeader → Type 0
   Become p anchor qs = (1 ≤ length qs) × (length qs ≤ most_headers anchor) × AllByRecursion (IsSameHeader again p anchor) qs
 
-  -- it stays, or it goes to a target
+  -- a program header stays as it is, or goes to a target
   stays_so : (p : SegmentHeader) (anchor : Anchor) → StandsBy again p anchor p → IsSameHeader again p anchor p
   stays_so p anchor place = record { type = refl; flags = refl; align = refl; place = place }
 

@@ -60,7 +60,7 @@ entries_listed read image h = by_list image.entries h (are_needs_gone read image
 
 -- ## What a loader sees of a file whose dynamic list names the symbols
 
--- it sees each symbol by its name
+-- a loader sees each symbol by its name
 pub names_are_seen : (file : List ℕ) (again : Image) → image_of file ≡ Ok again → (es : List Entry) → again.entries ≡ Some es
     → lists_tag DT_SYMTAB es ≡ true → AreNamesOf again.dynamic_symbols (loader_name file)
 names_are_seen file again read es listed names i y at =

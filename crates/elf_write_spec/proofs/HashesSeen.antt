@@ -69,7 +69,7 @@ module _ (w : Output) (is : IsPlannedOutput w) (f : ReadFacts w) (list : Section
       subst (λ (a : ℕ). Keeps (memory_of at.bytes) (from (byte_at w.plan.segments (written_bytes w)) a)) same
       (section_seen w is f i at (sym (same_allocated w is f i at) ∙ both.0) stored)
 
-  -- those of one that is copied are those that were read
+  -- the bytes of a table that is copied are those that were read
   seen_at : (tag address i : ℕ) (at : SectionAt w f.parts i)
       → tag_is_address (raw_entries p) tag (Some at.header) ≡ true → value_of_tag tag w.raw ≡ Some address
       → has_file_bytes at.old ≡ true → at.bytes ≡ section_bytes (file_of f.parts) at.old

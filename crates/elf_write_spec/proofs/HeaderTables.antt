@@ -90,7 +90,7 @@ table_at o sections h =
           ∙ records-front (section_header o.form) size count (count * size) (drop o.header.e_shoff o.file) (omega arith);
     }
 
--- those that lie in the file are all of them
+-- the section headers that lie in the file are all of them
 pub sections_there-all : (o : Opened) (sections : List SectionHeader) → sections_of o ≡ Some sections → sections_there o ≡ sections
 unfolding sections_there
 sections_there-all o sections h =

@@ -19,8 +19,8 @@ use Rattle.elf_layout_plan.proofs.ForCallers.PlacedRead.{ReadsPlaced, reads_plac
 use Rattle.elf_layout_plan.proofs.ForCallers.PlacedSegments.{before_kept_end, end_before_sections, header_before_kept_end, kept_before_segments_end, unloaded_before_end, segments_before_end}
 use Rattle.elf_layout_plan.proofs.ForCallers.PlacedStays.{table_kept_in}
 
--- both end before the section header table
-pub record EndBefore (r : Resized) (plan : Plan) : Type 0 where
+-- both headers in front end before the section header table
+pub record EndBefore (r : Resized) (plan : Layout) : Type 0 where
   pub header : file_header_size r.image.form ≤ plan.e_shoff
   pub table : plan.e_phoff + length plan.segments * segment_header_size r.image.form ≤ plan.e_shoff
 

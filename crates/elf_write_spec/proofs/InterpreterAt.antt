@@ -54,7 +54,7 @@ interpreter_is w is f n h some =
       stands = ap (stands_as_interpreter found.segment) at.renamed ∙ ap (stands_as_interpreter found.segment) (sym same) ∙ found.stands;
     }
 
--- its type
+-- the type of the interpreter's section
 pub interpreter_type : (w : Output) (f : ReadFacts w) (n : ℕ) (is : InterpreterIs w f n) → is.at.section.sh_type ≡ SHT_PROGBITS
 interpreter_type w f n is = edits.stands_typed is.segment is.at.section is.stands
 

@@ -42,7 +42,7 @@ use Rattle.elf_write_spec.proofs.NumberedSections.{kept_as}
 abbrev pub stands_at : SegmentHeader → SectionHeader → Bool
 stands_at p s = s.sh_type == SHT_PROGBITS && s.sh_offset == p.p_offset && s.sh_addr == p.p_vaddr && s.sh_size == p.p_filesz
 
--- it has the bytes that the program header names
+-- the section has the bytes that the program header names
 record IsPlaced (p : SegmentHeader) (s : SectionHeader) : Type 0 where
   type : s.sh_type ≡ SHT_PROGBITS
   offset : s.sh_offset ≡ p.p_offset

@@ -19,7 +19,7 @@ all_step : {A : Type 0} (test : A → Bool) (x : A) (kept : List A) (b : Bool) �
 all_step test x kept true passes rest = and_from (test x) (list_all test kept) (passes refl) rest
 all_step test x kept false passes rest = rest
 
--- the same of those that are picked
+-- a test that each picked element passes at its position
 pub all-picked : {A : Type 0} (test pick : A → Bool) (xs : List A)
     → ((i : ℕ) (x : A) → slice_get xs i ≡ Some x → pick x ≡ true → test x ≡ true)
     → list_all test (filter pick xs) ≡ true

@@ -71,7 +71,7 @@ module _ (p : Parts) (single : are_single p ≡ true) where
       (subst (λ (o : Option SectionHeader). AreDynamicSymbols p (section_of_type SHT_GNU_VERSYM p.sections) o symbols) found are).count
 
 module _ (w : Output) (is : IsPlannedOutput w) (f : ReadFacts w) where
-  -- as many as its bytes have room for
+  -- as many symbols as the table's bytes have room for
   length-records_read : (i : ℕ) (at : SectionAt w f.parts i) → has_file_bytes at.old ≡ true
       → length (symbols_of f.parts at.old) ≡ at.old.sh_size / symbol_size f.parts.opened.form
   length-records_read i at stored =
@@ -94,7 +94,7 @@ module _ (w : Output) (is : IsPlannedOutput w) (f : ReadFacts w) where
   static_count_now i at static =
       count_by_size at.header.sh_size (length w.image.symbols) (symbol_sizes w is f i at static)
 
-  -- and those that were read
+  -- as many symbols as were read, in a table of a type
   pub count_was : are_single f.parts ≡ true → (i : ℕ) (at : SectionAt w f.parts i) → at.old.sh_type ≡ SHT_DYNSYM
       → at.old.sh_size / symbol_size f.parts.opened.form ≡ length (image_at_read w.image).dynamic_symbols
   count_was single i at dynamic =
@@ -132,7 +132,7 @@ data TableAt (w : Output) (p : Parts) (link : ℕ) (old now : Option SectionHead
 abbrev opaque_by : ℕ → Bool → List Relocation → Bool
 opaque_by machine apart relocations = machine == EM_MIPS || apart && list_any (λ (r : Relocation). not (r.r_symbol == 0)) relocations
 
--- they name symbols of a table with so many
+-- relocations name symbols of a table with so many
 abbrev pub do_name : ℕ → List Relocation → Bool
 do_name count relocations = list_all (λ (r : Relocation). r.r_symbol == 0 || nat_lt r.r_symbol count) relocations
 
@@ -333,7 +333,7 @@ module _ (w : Output) (is : IsPlannedOutput w) (f : ReadFacts w) where
   kind_now i at (inl rel) = ap (λ n. kind_by n (is_opaque_relocation f.parts at.old)) rel
   kind_now i at (inr rela) = ap (λ n. kind_by n (is_opaque_relocation f.parts at.old)) rela
 
-  -- they name dynamic symbols by new numbers, or static ones, or nothing changes
+  -- the relocations name dynamic symbols by new numbers, or static ones, or nothing changes
   pub data Moves (i : ℕ) (at : SectionAt w f.parts i) : Type 0 where
     Dynamic : are_names_changed read w.image ≡ true → is_against (table_number SHT_DYNSYM w.image) at.section ≡ true
         → AreRenumbered w.image.form at.section.sh_type (new_dynamic_symbols read w.image) at.section.content at.bytes → Moves i at
@@ -406,7 +406,7 @@ module _ (w : Output) (is : IsPlannedOutput w) (f : ReadFacts w) where
       ∙ ap (λ n. relocations_in w.image.form n (section_bytes (file_of f.parts) at.old)) (section_type i at)
       ∙ ap (λ (form : Form). relocations_in form at.old.sh_type (section_bytes (file_of f.parts) at.old)) (form_kept w is f)
 
-  -- each of them that is against a table names one of its symbols that are there
+  -- each of the relocations that are against a table names one of its symbols that are there
   pub symbol_named : (i : ℕ) (at : SectionAt w f.parts i) → (o : Option ℕ) (numbers : List ℕ) → AreRelocated w.image o numbers
       → is_against o at.section ≡ true
       → (k : ℕ) (r : Relocation) → slice_get (relocations_in w.image.form at.section.sh_type at.section.content) k ≡ Some r
@@ -480,7 +480,7 @@ module _ (w : Output) (is : IsPlannedOutput w) (f : ReadFacts w) (has : HasWritt
           (relocations_same i at bytes)
 
 module _ (w : Output) (is : IsPlannedOutput w) (f : ReadFacts w) (has : HasWrittenParts w) (single : are_single f.parts ≡ true) where
-  -- those that name dynamic symbols name some that are there
+  -- relocations that name dynamic symbols name some that are there
   dynamic_named : (i : ℕ) (at : SectionAt w f.parts i) → is_against (table_number SHT_DYNSYM w.image) at.section ≡ true
       → do_name (length w.image.dynamic_symbols)
       (map (renumbered (new_symbol (new_dynamic_symbols (image_at_read w.image) w.image)))

@@ -133,7 +133,7 @@ module _ (w : Output) (is : IsPlannedOutput w) (f : ReadFacts w) where
 abbrev counts_own : ℕ → Bool
 counts_own type = is_one_of (SHT_SYMTAB ∷ SHT_DYNSYM ∷ SHT_GNU_VERDEF ∷ SHT_GNU_VERNEED ∷ []) type
 
--- then the table doesn't count there what it has
+-- where sh_info is a section's number, the table doesn't count there what it has
 info_apart : (type flags : ℕ) → info_by type flags ≡ true → counts_own type ≡ false
 info_apart type flags h = elim (or_cases (is_one_of (SHT_REL ∷ SHT_RELA ∷ []) type) _ h) [
   | inl relocations ↦ elim (or_cases (SHT_REL == type) (SHT_RELA == type || false) relocations) [

@@ -52,7 +52,7 @@ module _ (w : Output) (is : IsPlannedOutput w) (has : HasWrittenParts w) where
   names_new : new_number w.image w.image.header.e_shstrndx ≡ names_position
   names_new = names_found.3
 
-  -- its bytes
+  -- the bytes of the section of names
   pub names_are : names_content w ≡ names_at.bytes
   names_are =
       ap (content_at_number w.image w.contents) (names_number w is (read_facts w is) ∙ sym names_found.2)

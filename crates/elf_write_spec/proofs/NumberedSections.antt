@@ -22,14 +22,14 @@ kept_as i n s = record { position = i; number = n; section = s }
 abbrev pub AreRising : List ℕ → Type 0
 AreRising ns = (i j : ℕ) → i < j → j < length ns → slice_index ns i < slice_index ns j
 
--- so none is less than its position
+-- none of the numbers that rise is less than its position
 pub number_behind : (ns : List ℕ) → AreRising ns → (i : ℕ) → i < length ns → i ≤ slice_index ns i
 number_behind ns rising zero less = omega arith
 number_behind ns rising (suc i) less =
     let before : i ≤ slice_index ns i = number_behind ns rising i (omega (arith, less)) in
     omega (arith, before, rising i (suc i) (omega arith) less)
 
--- and each stands once
+-- each of the numbers that rise stands once
 pub one_position : (ns : List ℕ) → AreRising ns → (i j n : ℕ) → slice_get ns i ≡ Some n → slice_get ns j ≡ Some n → i ≡ j
 one_position ns rising i j n at_i at_j = elim (cases_order i j) [
   | inl same ↦ same
@@ -69,7 +69,7 @@ each_there ns count rising below many i less =
     omega (arith, number_behind ns rising i here, rise_by ns rising i (count - 1 - i) inside, ends, less) in
     slice_get-get_or ns i 0 here ∙ ap (λ (n : ℕ). Some n) same
 
--- those below a number do
+-- the numbers below a number rise
 pub counted_rise : (n : ℕ) → AreRising (counted n)
 counted_rise n i j less within =
     let below : j < n = omega (arith, within, length-counted n) in

@@ -43,7 +43,7 @@ pub record HasSymbols (read image : Image) : Type 0 where
 abbrev pub KeepsFirst : Image → Type 0
 KeepsFirst image = (n : ℕ) (s : KeptSection) → kept_at_number n image ≡ Some s → (s.position ≡ 0) ↔ (n ≡ 0)
 
--- it is, as none stands before its number
+-- the first section keeps its place, as none stands before its number
 pub keeps_first : (read image : Image) → ReadFacts read image → KeepsFirst image
 keeps_first read image f n s at =
     let (here, _, own) = read_number read image f n s at in
@@ -264,7 +264,7 @@ module _ (read image : Image) (all : HasSymbols read image) where
       each_there image.dynamic_symbol_numbers (length read.dynamic_symbols) all.rising all.below
       (sym all.as_many ∙ names_count read image same) n below
 
-  -- and keeps its number
+  -- a symbol keeps its number, with the names that were read
   pub new-same : are_names_changed read image ≡ false → (n : ℕ) → n < length read.dynamic_symbols → new_dynamic_symbol read image n ≡ n
   new-same same n below =
       let inside : n < length image.dynamic_symbols = position_below n n (all_there same n below) in

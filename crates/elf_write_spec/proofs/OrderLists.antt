@@ -91,7 +91,7 @@ module _ (n : ℕ) (order : List ℕ) (once : IsPermutation (counted n) order) w
       false≢true (sym (apart_from_distinct eqb order i j 0 distinct less (slice_get_within order j k at_j))
       ∙ eq-eqb (get_or order i 0) (get_or order j 0) same)
 
-  -- and nowhere else
+  -- each number stands nowhere else
   pub one_place : (i j k : ℕ) → slice_get order i ≡ Some k → slice_get order j ≡ Some k → i ≡ j
   one_place i j k at_i at_j = elim (cases_order i j) [
     | inl same ↦ same

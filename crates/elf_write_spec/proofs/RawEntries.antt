@@ -119,7 +119,7 @@ module _ (w : Output) (is : IsPlannedOutput w) (f : ReadFacts w) (i : ℕ) (at :
     | _ ↦ IsContentOfKind (resized w.image) w.plan w.raw list_strings (kept_as i at.number at.section) at.bytes kind
   ]
 
-  -- its entries and its bytes
+  -- the entries and the bytes of the dynamic section
   content : AreEntriesOf (resized w.image) w.plan list_strings final_entries w.raw ×
       (at.bytes ≡ spelled_list w.image.form w.raw (length at.bytes))
   unfolding content_by
@@ -129,7 +129,7 @@ module _ (w : Output) (is : IsPlannedOutput w) (f : ReadFacts w) (i : ℕ) (at :
   pub are_entries : AreEntriesOf (resized w.image) w.plan list_strings final_entries w.raw
   are_entries = content.0
 
-  -- as many bytes as its place
+  -- the dynamic section has as many bytes as its place
   pub place_filled : length at.bytes ≡ at.place.sh_size
   place_filled = at.written.sized ∙ ap (λ n. if not (n == SHT_NULL) && not (n == SHT_NOBITS) then at.place.sh_size else 0)
       (at.place_type ∙ type)

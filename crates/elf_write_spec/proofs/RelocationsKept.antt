@@ -78,7 +78,7 @@ module _ (w : Output) (is : IsPlannedOutput w) (f : ReadFacts w) (i : ℕ) (at :
   not_dynamic : is_static ≡ true → is_dynamic ≡ false
   not_dynamic static = false_from_ne_true is_dynamic (λ dynamic. both_ways is_static (not_both w is f i at dynamic) static)
 
-  -- those against the dynamic symbols have the numbers that were written
+  -- relocations against the dynamic symbols have the numbers that were written
   dynamic_same : is_dynamic ≡ true → (k : ℕ) (r : Relocation) → slice_get old_relocations k ≡ Some r
       → new_symbol (new_dynamic_symbols read w.image) r.r_symbol ≡ new r.r_symbol
   dynamic_same dynamic k r r_at = elim (symbol_named w is f i at (table_number SHT_DYNSYM w.image) w.image.dynamic_symbol_numbers
@@ -90,7 +90,7 @@ module _ (w : Output) (is : IsPlannedOutput w) (f : ReadFacts w) (i : ℕ) (at :
             ∙ sym (new_by true is_static dynamic refl r.r_symbol)
       ]
 
-  -- and so have those against the static ones
+  -- relocations against the static symbols have the numbers that were written
   static_named : is_static ≡ true → (k : ℕ) (r : Relocation) → slice_get old_relocations k ≡ Some r
       → new_symbol (new_static_symbols read w.image) r.r_symbol ≡ new r.r_symbol
   static_named static k r r_at = elim (symbol_named w is f i at (table_number SHT_SYMTAB w.image) w.image.symbol_numbers

@@ -224,7 +224,7 @@ module _ (w : Output) (is : IsPlannedOutput w) (f : ReadFacts w) where
           let (was, was_at, of_old) = was_there (image_at_read w.image) w.image f i x at_i in
           (i, was, was_at, ap (stands_as_interpreter old) of_old.fields ∙ passes)
 
-  -- so there is a number of that section
+  -- there is a number of the section where PT_INTERP says
   pub number_there : (old : SegmentHeader) → segment_of_type PT_INTERP f.parts.segments ≡ Some old
       → is_some (interpreter_section old f.parts.sections) ≡ true
       → (n : ℕ) × (interpreter_number (image_at_read w.image) ≡ Some n)
@@ -259,7 +259,7 @@ module _ (w : Output) (is : IsPlannedOutput w) (f : ReadFacts w) where
       ∙ find-same (is_numbered (Some n)) (λ s. s.number == n) (λ s. swap n s.number) (kept_sections w.image)
       ∙ ap (λ (m : ℕ). kept_at_number m w.image) (sym own) ∙ kept_is w is f i at)
 
-  -- its section's header stands where that says
+  -- the header of the interpreter's section stands where PT_INTERP says
   header_stands : (n : ℕ) (at : SectionAt w f.parts n) (old p : SegmentHeader) → p ≡ kept_segment w.image.page_size p.p_flags old
       → stands_as_interpreter old at.section ≡ true
       → Stands at.header.sh_type at.header.sh_offset at.header.sh_addr at.header.sh_size (anchored_to w.image.form p (target_at at.place))
@@ -273,7 +273,7 @@ module _ (w : Output) (is : IsPlannedOutput w) (f : ReadFacts w) where
       was : Stands at.section.sh_type at.section.sh_offset at.section.sh_addr at.section.sh_size old
       was = stands-means at.section.sh_type at.section.sh_offset at.section.sh_addr at.section.sh_size old h
 
-      -- it is loaded where its place is
+      -- the interpreter's section is loaded where its place is
       flags : at.section.sh_flags ≡ at.place.sh_flags
       flags = ap (λ (s : ImageSection). s.sh_flags) at.of_old.fields ∙ sym at.place_flags
 

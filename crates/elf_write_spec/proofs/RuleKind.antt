@@ -122,7 +122,7 @@ offset_is : (w : Output) (is : IsPlannedOutput w) → w.plan.e_shoff ≡ section
 unfolding plan_for
 offset_is w is = ap (λ (l : Plan). l.e_shoff) is.planned.follows
 
--- it stands behind the file header
+-- the section header table stands behind the file header
 pub behind_header : (w : Output) → IsPlannedOutput w → file_header_size w.image.form ≤ w.plan.e_shoff
 behind_header w is =
     let r : Resized = resized w.image in
@@ -256,7 +256,7 @@ module _ (w : Output) (is : IsPlannedOutput w) (has : HasWrittenParts w) (f : Re
       subst IsPlain (sym (ap (λ (z : NamedSymbol). z.st_shndx) is_y.fields))
       (plain_in s found.0 table y (slice_get-at (symbols_of f.parts s) i y y_at))
 
-  -- and now: a section's number is below the special ones
+  -- a section's number is below the special ones now too
   plain_below : (n : ℕ) → n < length w.plan.places → IsPlain n
   plain_below n less = grind (arith, nat_tests, counts_fit w is)
 

@@ -77,7 +77,7 @@ agree_by raw form sections list =
     tags_come_once raw && strings_by raw sections list && symbols_by raw form sections && hashes_by raw sections && versions_by raw sections
     && texts_by sections list
 
--- its parts
+-- the parts of the rule on the dynamic list
 record Agree (raw : List EntryNumbers) (form : Form) (sections : List SectionHeader) (list : SectionHeader) : Type 0 where
   once : tags_come_once raw ≡ true
   strings : strings_by raw sections list ≡ true
@@ -208,7 +208,7 @@ module _ (w : Output) (is : IsPlannedOutput w) (f : ReadFacts w) (i : ℕ) (at :
   abbrev last_entries : List Entry
   last_entries = list_at (λ es. es) (final (image_at_read w.image) w.image).entries
 
-  -- it names the tables that were read, but for needed versions of which none is left
+  -- the list of a written file names the tables that were read, but for needed versions of which none is left
   tables_left : AreTagsLeft (raw_tables old_raw) (raw_tables w.raw)
   tables_left =
       let now : raw_tables w.raw ≡ tables_of last_entries =

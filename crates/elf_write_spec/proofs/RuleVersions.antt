@@ -128,13 +128,13 @@ module _ (p : Parts) where
       ∙ ap (λ (l : List ℕ). map (λ (x : VersionDefinition). x.index) ds ++ l)
       (all_need_indices (section_of_type SHT_GNU_VERNEED p.sections) ns n)
 
--- which are those of each library, one after the other
+-- the indices of needed versions are those of each library, one after the other
 by_library : (ns : List VersionNeeds)
     → flat_map (λ n. map (λ v. v.index) n.versions) ns ≡ flat_map (λ l. l) (map (λ n. map (λ v. v.index) n.versions) ns)
 by_library [] = refl
 by_library (n ∷ ns) = ap (λ (l : List ℕ). map (λ (v : VersionName). v.index) n.versions ++ l) (by_library ns)
 
--- and stay where libraries have other names
+-- the indices of versions stay where libraries have other names
 renamed_indices : (ds : List VersionDefinition) (read now : List VersionNeeds) → AreSameNeeds read now → shown_indices ds now ≡ shown_indices ds read
 unfolding shown_indices
 renamed_indices ds read now same =
@@ -218,7 +218,7 @@ module _ (w : Output) (is : IsPlannedOutput w) (has : HasWrittenParts w) (f : Re
         | There i at e was now there ↦ ap (is_none_or test) now ∙ (needs_at w is has f i at e was).whole
       ]
 
-  -- as many dynamic symbols as its size says
+  -- as many dynamic symbols as the size of their section says
   module _ (k : ℕ) (symbols : SectionAt w f.parts k) (typed : symbols.old.sh_type ≡ SHT_DYNSYM) where
     new_count : length (symbols_of (written_parts w) symbols.header) ≡ symbols.header.sh_size / symbol_size w.image.form
     new_count =
@@ -356,7 +356,7 @@ module _ (w : Output) (is : IsPlannedOutput w) (has : HasWrittenParts w) (f : Re
   own_test link s = not (s.sh_link == link) || is_one_of (SHT_NULL ∷ SHT_DYNAMIC ∷ SHT_DYNSYM ∷ SHT_GNU_VERDEF ∷ SHT_GNU_VERNEED ∷
       []) s.sh_type
 
-  -- another section links to another one
+  -- a section that links elsewhere at read links elsewhere now
   other_link : (k : ℕ) (to : SectionAt w f.parts k) (i : ℕ) (at : SectionAt w f.parts i) → (at.old.sh_type == SHT_NULL) ≡ false
       → (at.old.sh_link == to.number) ≡ false → (at.header.sh_link == k) ≡ false
   other_link k to i at some other = by_link (link_at w is f i at.old.sh_link at (names_link at some))

@@ -117,7 +117,7 @@ module _ (image again : Image) (plan : Plan) (edited : IsEdited image) (planned 
   unfolding plan_for
   planned_places = ap (λ (l : Plan). l.places) planned.follows
 
-  -- ## Those that were added among the others
+  -- ## Added program headers among the others
 
   abbrev base : List SegmentHeader
   base = flat_map (written_from r moved) image.segments

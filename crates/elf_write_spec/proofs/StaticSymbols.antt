@@ -94,7 +94,7 @@ module _ (read image : Image) (f : ReadFacts read image) where
       not-false true h = refl
       not-false false h = absurd (false≢true (sym h))
 
-  -- and each keeps its number
+  -- each static symbol keeps its number
   pub static_all : is_static_renumbered read image ≡ false → (n : ℕ) → n < length read.symbols → slice_get image.symbol_numbers n ≡ Some n
   static_all none n below =
       each_there image.symbol_numbers (length read.symbols) f.edit.symbols.rising static_below (f.edit.symbols.numbered ∙ static_count none) n below

@@ -80,7 +80,7 @@ module _ (r : Resized) (plan : Plan) (strings : List ℕ) where
 pub listed_all : (w : Output) → ReadFacts w → AllByRecursion IsListed (list_at (λ es. es) (final (image_at_read w.image) w.image).entries)
 listed_all w f = recursion_from_All IsListed (list_at (λ es. es) (final (image_at_read w.image) w.image).entries) (final_listed w f)
 
--- as many places of a list as it has, or all, are the whole list
+-- a list's places, as many as it has or all, are the whole list
 limited : (xs : List ℕ) (o : Option ℕ) → ((value : ℕ) → o ≡ Some value → value ≡ length xs)
     → Keeps (memory_of xs) (first_by_tag o (memory_of xs))
 limited xs None h = Keeps-refl (memory_of xs)

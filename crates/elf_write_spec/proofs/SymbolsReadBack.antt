@@ -127,7 +127,7 @@ module _ (w : Output) (is : IsPlannedOutput w) (has : HasWrittenParts w) (f : Re
   abbrev symbols : List NamedSymbol
   symbols = (final read w.image).symbols
 
-  -- they have no versions
+  -- static symbols have no versions
   no_version : (i : ℕ) (x : NamedSymbol) → slice_get symbols i ≡ Some x → x.version ≡ None
   no_version i x at =
       let (z, z_at, made) = final_static read w.image f i x at in

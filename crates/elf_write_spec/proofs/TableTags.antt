@@ -1,5 +1,5 @@
--- The tags of tables in a dynamic list: an image's list and its raw entries have the same, and an edited list those that were read, but
--- for those of needed versions where none is left.
+-- The tags of tables in a dynamic list: an image's list and its raw entries have the same, and an edited list has the tags that were read,
+-- but for the tags of needed versions where none is left.
 use Rattle.std.proofs.Common.{◌≡◌, ◌≤◌, ◌⊎◌, ℕ, suc, Bool, true, false, cond, List, [], ◌∷◌, map, length, refl, sym, ap, ◌∙◌, Option, Some, None, All, inl, inr, arith}
 use Rattle.std.specs.Prelude.{◌==◌, ◌||◌, not, filter, find, is_some, nat_le, count_by}
 use Rattle.std.specs.List.{list_any}
@@ -79,7 +79,7 @@ tables-tags (e ∷ es) listed =
 abbrev pub is_lasting_tag : ℕ → Bool
 is_lasting_tag tag = not (is_one_of (DT_VERNEED ∷ DT_VERNEEDNUM ∷ []) tag)
 
--- these tags are those that were there, or those without the ones of needed versions
+-- the tags are those that were there, or those without the ones of needed versions
 abbrev pub AreTagsLeft : List ℕ → List ℕ → Type 0
 AreTagsLeft old now = (now ≡ old) ⊎ (now ≡ filter is_lasting_tag old)
 
@@ -171,7 +171,7 @@ module _ (tag : ℕ) (is_table : is_table_tag tag ≡ true) where
             )
       ]
 
-  -- it is there just where it is among these
+  -- a tag is there just where it is among the tags of tables
   has-tables : (raw : List EntryNumbers) → has_tag tag raw ≡ list_any (λ t. t == tag) (raw_tables raw)
   has-tables [] = refl
   has-tables (e ∷ es) = by_tests (e.d_tag == tag) refl (is_table_tag e.d_tag) refl (has-tables es)
@@ -195,7 +195,7 @@ module _ (tag : ℕ) (is_table : is_table_tag tag ≡ true) where
             any-filtered (λ t. t == tag) is_lasting_tag (raw_tables old) (ap (list_any (λ t. t == tag)) (sym less) ∙ there)
       ]
 
-  -- another tag than those of needed versions is there where it was
+  -- a tag that is none of needed versions is there where it was
   pub has-lasting : (raw old : List EntryNumbers) → AreTagsLeft (raw_tables old) (raw_tables raw) → is_lasting_tag tag ≡ true
       → has_tag tag old ≡ true → has_tag tag raw ≡ true
   has-lasting raw old left lasts h =

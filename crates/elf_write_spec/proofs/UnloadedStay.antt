@@ -22,7 +22,7 @@ use Rattle.elf_layout_plan.proofs.ForCallers.ApartLists.{Each, all-at, any-at, a
 use Rattle.elf_layout_plan.proofs.ForCallers.ApartPlaces.{keeps_address, slot_found}
 use Rattle.elf_layout_plan.proofs.ForCallers.ApartSections.{at-sized, kept-at, sized-at, sized_of}
 
--- where two are found, one of them has what the test tells of each two
+-- where two blocks are found, one of them has what the test tells of each two
 some_two-none : (test : Block → Block → Bool) (P : Block → Type 0) → ((a b : Block) → test a b ≡ true → P a ⊎ P b) → (bs : List Block)
     → Each (λ b. P b → ⊥) bs
     → some_two test bs ≡ true → ⊥
@@ -58,7 +58,7 @@ module _ (r : Resized) (sized : sized_sections r ≡ map (sized_of r) (kept_sect
   mine : s.position ≡ i
   mine = let e : s.position ≡ 0 + i = (kept-at 0 r.image.section_numbers r.image.sections i s at).0 in omega (arith, e)
 
-  -- it is no block
+  -- a section that takes no memory is no block
   no_block : (added : ℕ) → Each (λ b. is_block_of s.position b ≡ true → ⊥) (blocks_with r added)
   unfolding blocks_with
   no_block added =

@@ -50,7 +50,7 @@ id_number form xs = by_width form.wide
     by_width W32 = refl
     by_width W64 = refl
 
--- its lowest 15 bits and the highest determine it
+-- the lowest 15 bits of a version's number and the highest determine it
 same_numbers : (n m : ℕ) → n < 65536 → m < 65536 → n % 32768 ≡ m % 32768 → nat_le 32768 n ≡ nat_le 32768 m → n ≡ m
 same_numbers n m n_fits m_fits low high = by_tests (nat_le 32768 n) refl (nat_le 32768 m) refl high
   where
@@ -84,7 +84,7 @@ same_pair form xs ys bx bt lx ly same =
     ap (nat_le VERSYM_HIDDEN) (sym is_x) ∙ ap (λ (v : VersionId). v.hidden) same ∙ ap (nat_le VERSYM_HIDDEN) is_y in
     value_of-same form.order xs ys bx bt (lx ∙ sym ly) (same_numbers nx ny fits_x fits_y low high)
 
--- its entries have two bytes
+-- the entries of a section of versions have two bytes
 unit_is : (form : Form) (old : SectionHeader) → old.sh_type ≡ SHT_GNU_VERSYM → unit_of form old ≡ 2
 unit_is form old type = ap (λ (n : ℕ). unit_by n) type
   where
@@ -246,7 +246,7 @@ module _ (read image : Image) (is : IsWholeEdit read image) (i : ℕ) (s : Image
             ∙ ap (records (λ b. Some (version_id form b)) 2 (length ys)) c.content ∙ held;
       }
 
-  -- so bytes that hold the final versions are as they were where no version changed
+  -- bytes that hold the final versions are as they were where no version changed
   pub versions_stay : AreBytes s.content → (bytes : List ℕ) → AreBytes bytes
       → AreVersionsOf image.form (final read image).dynamic_symbols bytes → AreVersionsIn (resized image) s bytes
   versions_stay content_bytes bytes are_bytes are = record {

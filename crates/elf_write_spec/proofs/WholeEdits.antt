@@ -83,7 +83,7 @@ pub record SectionRead (read image : Image) (p : Parts) (i : ℕ) : Type 0 where
   pub named : IsName section.name
 
 module _ (read image : Image) (f : ReadFacts read image) where
-  -- as many numbers as sections, and they rise
+  -- an image has as many numbers as sections, and they rise
   pub numbered : length image.section_numbers ≡ length image.sections
   numbered = f.edit.sections.numbered
 
@@ -137,7 +137,7 @@ module _ (read image : Image) (f : ReadFacts read image) where
   pub number_below : (i : ℕ) → (at : SectionRead read image f.parts i) → at.number < length f.parts.sections
   number_below i at = slice_get_within f.parts.sections at.number at.old at.is_old
 
-  -- so there are no more than were read
+  -- there are no more sections than were read
   pub length-now : length image.sections ≤ length f.parts.sections
   length-now = no_more (length image.sections) refl
     where
@@ -149,7 +149,7 @@ module _ (read image : Image) (f : ReadFacts read image) where
 
   -- ## By number
 
-  -- its position is its new number
+  -- a section's position is its new number
   pub kept_is : (i : ℕ) → (at : SectionRead read image f.parts i) → kept_at_number at.number image ≡ Some (kept_as i at.number at.section)
   kept_is i at = by_number.kept_is image numbered rising i (kept_as i at.number at.section) at.is_kept
 
@@ -227,7 +227,7 @@ module _ (read image : Image) (f : ReadFacts read image) where
       → (i : ℕ) × (at : SectionRead read image f.parts i) × (at.number ≡ n)
   lasting_there n was at lasts = stands_by n (f.edit.complete.lasting (kept_as n n was) (read_has n was at) lasts)
 
-  -- and so is one that another names
+  -- a section that another one names is there
   pub named_there : (i n : ℕ) → (at : SectionRead read image f.parts i) → n < length f.parts.sections → names_section at.section n ≡ true
       → (j : ℕ) × (to : SectionRead read image f.parts j) × (to.number ≡ n)
   named_there i n at below names =
@@ -273,7 +273,7 @@ interpreter_read read image f n h =
       stands = stands;
     }
 
--- it is of PROGBITS
+-- the section where PT_INTERP stood is of PROGBITS
 pub stands_typed : (q : SegmentHeader) (s : ImageSection) → stands_as_interpreter q s ≡ true → s.sh_type ≡ SHT_PROGBITS
 stands_typed q s h =
     eqb-true s.sh_type SHT_PROGBITS
@@ -310,13 +310,13 @@ module _ (read image : Image) (f : ReadFacts read image) (i : ℕ) (at : Section
 
 -- ## The one section of a type
 
--- either there is none, before and after, or the first of the type that was read is the first that is there
+-- of a type either no section is there, before and after, or the first of the type that was read is the first that is there
 pub data TypeAt (read image : Image) (p : Parts) (type : ℕ) : Type 0 where
   Nowhere : section_of_type type p.sections ≡ None → kept_of_type type image ≡ None → TypeAt read image p type
   There : (i : ℕ) → (at : SectionRead read image p i) → at.old.sh_type ≡ type → at.section.sh_type ≡ type
       → section_of_type type p.sections ≡ Some at.old → kept_of_type type image ≡ Some (kept_as i at.number at.section) → TypeAt read image p type
 
--- that of the static symbols may have gone, too
+-- the section of the static symbols may have gone, too
 pub data StaticAt (read image : Image) (p : Parts) : Type 0 where
   Stays : TypeAt read image p SHT_SYMTAB → StaticAt read image p
   Went : (old : SectionHeader) → section_of_type SHT_SYMTAB p.sections ≡ Some old → kept_of_type SHT_SYMTAB image ≡ None → StaticAt read image p

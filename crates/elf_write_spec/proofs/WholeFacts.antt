@@ -48,7 +48,7 @@ read_facts w is = edits.read_facts (image_at_read w.image) w.image (whole_edit w
 
 -- ## Section by section
 
--- as many of each as sections that are there, and no more than were read
+-- as many places, headers and contents as sections that are there, and no more than were read
 pub record Lengths (w : Output) (p : Parts) : Type 0 where
   pub sections : length w.image.sections ≤ length p.sections
   pub places : length w.plan.places ≡ length w.image.sections
@@ -58,7 +58,7 @@ pub record Lengths (w : Output) (p : Parts) : Type 0 where
 pub length-kept : (w : Output) → IsPlannedOutput w → length (kept_sections w.image) ≡ length w.image.sections
 length-kept w is = edits.length-kept (image_at_read w.image) w.image (read_facts w is)
 
--- as many of each
+-- as many places, headers and contents as sections
 record SameLengths (w : Output) (ks : List KeptSection) (ps : List Place) (hs : List SectionHeader) (cs : List (List ℕ)) : Type 0 where
   places : length ps ≡ length ks
   headers : length hs ≡ length ks
@@ -194,11 +194,11 @@ pub record SectionAt (w : Output) (p : Parts) (i : ℕ) : Type 0 where
   pub was_old : IsSectionOf p old was
   pub renamed : section ≡ record was { name = section.name }
   pub named : IsName section.name
-  -- its place: of what kind, and how large
+  -- the section's place: of what kind, and how large
   pub place_type : place.sh_type ≡ old.sh_type
   pub place_flags : place.sh_flags ≡ old.sh_flags
   pub place_size : place.sh_size ≡ new_size (image_at_read w.image) w.image (kept_as i number section)
-  -- its header: all but its name, its place, perhaps its sh_info and numbers of sections are those that were read
+  -- the section's header: all but its name, its place, perhaps its sh_info and numbers of sections are those that were read
   pub type : header.sh_type ≡ old.sh_type
   pub flags : header.sh_flags ≡ old.sh_flags
   pub link : header.sh_link ≡ new_number w.image old.sh_link
@@ -325,7 +325,7 @@ module _ (w : Output) (is : IsPlannedOutput w) (f : ReadFacts w) where
       let (at, same) = section_of w is f k.position read in
       (at, same ∙ number)
 
-  -- its position is its new number
+  -- a section's position is its new number
   pub new_number-at : (i : ℕ) → (at : SectionAt w f.parts i) → new_number w.image at.number ≡ i
   new_number-at i at = edits.new_number-at (image_at_read w.image) w.image f i (read_at at)
 
@@ -371,7 +371,7 @@ names_section_at w is f below =
 
 -- ## The one section of a type
 
--- either there is none, before and after, or the first of the type that was read is the first that is there
+-- of a type either no section is there, before and after, or the first of the type that was read is the first that is there
 pub data TypeAt (w : Output) (p : Parts) (type : ℕ) : Type 0 where
   Nowhere : section_of_type type p.sections ≡ None → section_of_type type w.headers ≡ None → kept_of_type type w.image ≡ None
       → TypeAt w p type
@@ -379,7 +379,7 @@ pub data TypeAt (w : Output) (p : Parts) (type : ℕ) : Type 0 where
       → section_of_type type p.sections ≡ Some at.old → section_of_type type w.headers ≡ Some at.header
       → kept_of_type type w.image ≡ Some (kept_as i at.number at.section) → TypeAt w p type
 
--- that of the static symbols may have gone, too
+-- the section of the static symbols may have gone, too
 pub data StaticAt (w : Output) (p : Parts) : Type 0 where
   Stays : TypeAt w p SHT_SYMTAB → StaticAt w p
   Went : (old : SectionHeader) → section_of_type SHT_SYMTAB p.sections ≡ Some old → section_of_type SHT_SYMTAB w.headers ≡ None
@@ -421,7 +421,7 @@ module _ (w : Output) (is : IsPlannedOutput w) (f : ReadFacts w) (type : ℕ) wh
       (λ j h less h_at. let (k, k_at, tells) = in_headers j h h_at in
       tells ∙ before-first was_kept (kept_sections w.image) (kept_as i at.number at.section) found i at.is_kept (only_here i at) j k less k_at)
     where
-      -- it stands nowhere else
+      -- the section stands nowhere else
       only_here : (i : ℕ) → (at : SectionAt w f.parts i) → (j : ℕ) → slice_get (kept_sections w.image) j ≡ Some (kept_as i at.number at.section) → j ≡ i
       only_here i at j there =
           let (position, _, _) = kept-parts 0 w.image.section_numbers w.image.sections j (kept_as i at.number at.section) there in

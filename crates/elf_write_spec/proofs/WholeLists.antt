@@ -107,7 +107,7 @@ pub first_at : {A : Type 0} (test : A → Bool) (xs : List A) → FoundAt test x
 first_at test [] = inr (λ j y at. absurd (none-some y at))
 first_at test (x ∷ xs) = first_or test x xs (test x) refl (first_at test xs)
 
--- it is what is found
+-- the first that passes is what is found
 pub find-is : {A : Type 0} (test : A → Bool) (xs : List A) (i : ℕ) (x : A) → slice_get xs i ≡ Some x → test x ≡ true
     → ((j : ℕ) (y : A) → j < i → slice_get xs j ≡ Some y → test y ≡ false) → find test xs ≡ Some x
 find-is test [] i x at passes before = absurd (none-some x at)
@@ -142,7 +142,7 @@ before-first {A} test xs x is i at only j y less y_at = elim (first_at test xs) 
 
 -- ## What is in a list
 
--- it stands at a position
+-- an element of a list stands at a position
 pub has_at : {A : Type 0} (xs : List A) (x : A) → Has x xs → (i : ℕ) × (slice_get xs i ≡ Some x)
 has_at [] x h = absurd (has_none x h)
 has_at {A} (y ∷ xs) x h = elim (has_cases x y xs h) [

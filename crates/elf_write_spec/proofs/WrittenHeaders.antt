@@ -68,7 +68,7 @@ module _ (image : Image) (moved : List ℕ) where
   length_written p (t ∷ ts) some = length-map (t ∷ ts) (anchored_to image.form p)
 
   module _ (planned : (k : KeptSection) → Has k (kept_sections image) → IsPlannedAt image moved k) where
-    -- those of some notes that pass a test go to one place, if there are any
+    -- notes that pass a test go to one place, if there are any
     pub length_over : (test : KeptSection → Bool) (notes : List KeptSection) → ((k : KeptSection) → Has k notes → Has k (kept_sections image))
         → (b : Bool) → list_any test notes ≡ b → length (targets_over (places_of_kept (places r moved) (filter test notes))) ≡ one_if b
     length_over test notes among true some =

@@ -25,8 +25,8 @@ is_data read s = is_loaded_section s.section && is_opaque s.section.kind && not 
 abbrev pub is_rewritten : Image → KeptSection → Bool
 is_rewritten read s = is_loaded_section s.section && occupies_file (place_at_read s.section) && not (is_data read s)
 
--- it is written anew, and where it stood nobody looks for it any more; of a dynamic section that may move the bytes stay there, since
--- some programs find it by its symbol _DYNAMIC
+-- the section is written anew, and where it stood nobody looks for it any more; of a dynamic section that may move the bytes stay there,
+-- since some programs find it by its symbol _DYNAMIC
 abbrev pub leaves_place : Image → Image → KeptSection → Bool
 leaves_place read image s = is_rewritten read s && not (s.section.sh_type == SHT_DYNAMIC && image.moves_dynamic)
 

@@ -142,7 +142,7 @@ pub record AreDefinitionsSpelled (order : ByteOrder2) (definitions : List Versio
   pub told : IsTrue (has_definition_texts names definitions)
   pub are_bytes : bytes ≡ definition_table order (map (placed_definition names) definitions)
 
--- the same of needed versions: of revision 1, with the hash of each version's name
+-- The bytes are the records of needed versions, each name at a place where it stands: of revision 1, with the hash of each version's name.
 pub record AreNeedsSpelled (order : ByteOrder2) (needs : List VersionNeeds) (strings bytes : List ℕ) : Type 0 where
   pub names : Strings
   pub of_strings : names.bytes ≡ strings
@@ -150,7 +150,7 @@ pub record AreNeedsSpelled (order : ByteOrder2) (needs : List VersionNeeds) (str
   pub told : IsTrue (has_needs_texts names needs)
   pub are_bytes : bytes ≡ needs_table order (map (placed_needs names) needs)
 
--- they are spelled, and read back
+-- the records of defined versions are spelled, and read back
 pub record AreDefinitionsOf (form : Form) (definitions : List VersionDefinition) (strings bytes : List ℕ) : Type 0 where
   pub spelled : AreDefinitionsSpelled form.order definitions strings bytes
   pub read : (room : ℕ) → length strings ≤ room
@@ -205,7 +205,8 @@ IsGabiContent r s bytes = elim (are_names_changed r.read r.image) [
   | _ ↦ bytes ≡ s.content
 ]
 
--- the same of a GNU table: buckets, words of the filter and shift are those that it had
+-- A GNU hash table is as it was read where the names are; else it is made of the final symbols, with the buckets, the words of the filter
+-- and the shift that it had.
 abbrev pub IsGnuContent : Resized → ImageSection → List ℕ → Type 0
 IsGnuContent r s bytes = elim (are_names_changed r.read r.image) [
   | true ↦ (header : GnuHeader) → gnu_header r.image.form (memory_of s.content) ≡ Some header

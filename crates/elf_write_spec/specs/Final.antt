@@ -20,7 +20,7 @@ use Rattle.elf_image.specs.Names.{are_names_changed}
 abbrev pub new_number : Image → ℕ → ℕ
 new_number image number = elim (kept_at_number number image) [ Some s ↦ s.position | None ↦ number ]
 
--- the same of a symbol's section: special numbers stay, and a section that is gone is none (gABI, Symbol Table, st_shndx)
+-- the number that a symbol gets for its section: special numbers stay, and a section that is gone is none (gABI, Symbol Table, st_shndx)
 abbrev pub new_symbol_section : Image → ℕ → ℕ
 new_symbol_section image number =
     if nat_le SHN_LORESERVE number then number

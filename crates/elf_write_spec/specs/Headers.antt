@@ -45,7 +45,7 @@ unfoldable pub behind_locals : List NamedSymbol → ℕ
 behind_locals [] = 0
 behind_locals (y ∷ ys) = if not (behind_locals ys == 0) then behind_locals ys + 1 else if is_local y then 1 else 0
 
--- sh_info of tables that are made of the image's lists follows from these
+-- the number in sh_info of a table that is made of the image's lists, by the final lists
 abbrev pub written_info : Image → Image → ImageSection → ℕ
 written_info read image s =
     if s.sh_type == SHT_SYMTAB then behind_locals (final read image).symbols

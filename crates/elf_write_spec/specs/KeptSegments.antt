@@ -17,7 +17,7 @@ use Rattle.elf_layout_plan.specs.Written.{memory_size, physical_for}
 
 -- ## Those of the image
 
--- one of these sections of the image, and what is read of it
+-- a section of these of the image, and what is read of it
 pub record SectionNow (again : Image) (sections : List KeptSection) : Type 0 where
   pub index : ℕ
   pub kept : KeptSection
@@ -37,7 +37,7 @@ pub record StandsAtSections (again : Image) (p : SegmentHeader) (sections : List
   pub physical : q.p_paddr ≡ physical_for again.form p q.p_vaddr
   pub memory : q.p_memsz ≡ memory_size p q.p_filesz
 
--- It stands where it did, and is as long as the program header table (gABI, Program Header, PT_PHDR).
+-- The program header stands where it did, and is as long as the program header table (gABI, Program Header, PT_PHDR).
 pub record StandsAtTable (again : Image) (p q : SegmentHeader) : Type 0 where
   pub same : q ≡ record p { p_filesz = q.p_filesz; p_memsz = q.p_filesz }
   pub whole : q.p_filesz ≡ length again.segments * segment_header_size again.form
@@ -104,7 +104,7 @@ abbrev pub AreBehind : ℕ → List SegmentHeader → Type 0
 AreBehind end [] = Unit {0}
 AreBehind end (q ∷ qs) = (end ≤ q.p_vaddr) × AreBehind (end_of (memory_part q)) qs
 
--- one of these segments has the section's bytes at the section's address, a multiple of the section's alignment, and lets a program do
+-- one of the added segments has the section's bytes at the section's address, a multiple of the section's alignment, and lets a program do
 -- with them what the section needs
 pub record IsInAdded (image : Image) (added : List SegmentHeader) (s : KeptSection) (now : ImageSection) : Type 0 where
   pub index : ℕ
@@ -122,7 +122,7 @@ pub record AreSegmentsKept (read image again : Image) : Type 0 where
   pub added : List SegmentHeader
   pub behind : List SegmentHeader
   pub are : again.segments ≡ front ++ (added ++ behind)
-  -- but for those that were added they are the image's
+  -- the program headers are the image's, but for those that were added
   pub kept : AreHeadersInOrder read image again image.segments (front ++ behind)
   -- loaded ones that were added stand behind all others that are loaded, in the table as in memory
   pub last : list_any is_loaded behind ≡ false

@@ -40,7 +40,7 @@ pub record AreSymbolsKept (read image again : Image) : Type 0 where
   pub there : (i number : ℕ) (y : NamedSymbol) → slice_get image.dynamic_symbol_numbers i ≡ Some number
       → slice_get image.dynamic_symbols i ≡ Some y
       → slice_get again.dynamic_symbols (new_dynamic_symbol read image number) ≡ Some (final_symbol image y)
-  -- as many are there, and each of them is one of these: so each stands once
+  -- as many dynamic symbols are there, and each of them is one of the image's: so each stands once
   pub count : length again.dynamic_symbols ≡ length image.dynamic_symbols
   pub each : (new : ℕ) (z : NamedSymbol) → slice_get again.dynamic_symbols new ≡ Some z → IsDynamicSymbolOf read image new z
   -- the static ones keep their order

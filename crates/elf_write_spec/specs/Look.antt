@@ -27,7 +27,8 @@ pub record FindsByGabiHash (again : Image) (file : List ℕ) (table : Memory) : 
   pub ends : (hash : ℕ) → (k : ℕ) × (k ≤ length again.dynamic_symbols) × (gabi_visited again.form table hash k ≡ Some 0)
   pub counts : word_of_table again.form table 1 ≡ Some (length again.dynamic_symbols)
 
--- The same of a GNU table: the run of each bucket that isn't empty ends at a symbol that is there (GNU hash section).
+-- In a GNU table at an address a look-up finds a name just at the symbols that have it, are defined, aren't local and aren't the first; the
+-- run of each bucket that isn't empty ends at a symbol that is there (GNU hash section).
 pub record FindsByGnuHash (again : Image) (file : List ℕ) (table : Memory) : Type 0 where
   pub finds : (name : List ℕ) (i : ℕ) → IsFoundByGnuHash again.form table (loader_name file) name i ↔ IsFoundAt again.dynamic_symbols name i
   pub ends : (h : GnuHeader) → gnu_header again.form table ≡ Some h → (bucket first : ℕ) → bucket < h.buckets

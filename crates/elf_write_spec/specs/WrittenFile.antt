@@ -62,7 +62,7 @@ IsSectionKept read image s now = now ≡ record s.section {
   content = now.content;
 }
 
--- as many sections, in their order
+-- as many sections as the image has, in their order
 pub record AreSectionsKept (read image again : Image) : Type 0 where
   pub count : length again.sections ≡ length (kept_sections image)
   pub each : EachSection image again (IsSectionKept read image)
@@ -149,9 +149,9 @@ is_kind_copied u kinds.GnuVersym = u.versions
 is_kind_copied u kinds.GnuVerdef = false
 is_kind_copied u kinds.GnuVerneed = false
 
--- The bytes of the section are written as they were read: it isn't the interpreter's, nor one of the dynamic list, the dynamic symbols
--- or the records of versions, nor a string table with a text that was added or changed; where names of dynamic symbols changed, it is no
--- hash table and has no relocations against them; where their versions did, it doesn't hold these; where static symbols went, it has no
+-- The bytes of the section are written as they were read: it isn't the interpreter's, nor one of the dynamic list, the dynamic symbols or
+-- the records of versions, nor a string table with a text that was added or changed; where names of dynamic symbols changed, it is no hash
+-- table and has no relocations against them; where their versions did, it doesn't hold versions; where static symbols went, it has no
 -- relocations against them; and where something of these or of the table of their names changed, it doesn't hold them.
 abbrev pub is_copied : Image → Image → KeptSection → Bool
 is_copied read image s = not (is_interpreter read s) && is_kind_copied (unchanged_for read image s) s.section.kind
@@ -194,7 +194,7 @@ pub record IsWrittenByPlan (image : Image) (plan : Plan) (file : List ℕ) : Typ
 
 -- A file to which an edited image is written.
 pub record IsWrittenOf (image : Image) (file : List ℕ) : Type 0 where
-  -- this is what was read of the bytes that the image comes from, before any edit
+  -- the image as it was read of its source's bytes, before any edit
   pub read : Image
   pub was_read : image_of image.source ≡ Ok read
   -- the file is accepted, and this is what reading it gives
@@ -218,12 +218,12 @@ pub record IsWrittenOf (image : Image) (file : List ℕ) : Type 0 where
   -- each loaded section has its bytes at its address
   pub loaded : EachSection image again (λ s now.
       IsTrue (is_loaded_with_bytes s.section) → IsSeenAt again.segments file now.sh_addr now.content)
-  -- those are the bytes that it had, where it isn't written anew
+  -- the bytes of a section are those that it had, where it isn't written anew
   pub copied : EachSection image again (λ s now. IsTrue (is_copied read image s) → now.content ≡ s.section.content)
   -- each section, loaded or not, has its bytes in the file where its header says
   pub in_file : EachSection image again (λ s now.
       IsTrue (occupies_file (place_at_read s.section)) → field now.sh_size now.sh_offset file ≡ now.content)
-  -- so what can't move and isn't written anew has its bytes at its address: relocations as much as data
+  -- what can't move and isn't written anew has its bytes at its address: relocations as much as data
   pub stay : EachSection image again (λ s now.
       IsTrue (is_fixed read image s && is_copied read image s && is_loaded_with_bytes s.section)
       → IsSeenAt again.segments file s.section.sh_addr s.section.content)

@@ -67,14 +67,14 @@ by_left : (a b : Bool) → a ≡ true → (a && b) ≡ b
 by_left true b is = refl
 by_left false b is = absurd (false≢true is)
 
--- the same where the text is left
+-- behind a text that is left, whether all are left stays as it is
 pub left_on : (read : List (List ℕ)) (ns : List ℕ) (ts : List (List ℕ)) (i : ℕ) (is : Bool) → i < length ts → is_text_left read ns ts i ≡ true
     → are_texts_left read (drop i ns) (drop i ts) ≡ is → are_texts_left read (drop (i + 1) ns) (drop (i + 1) ts) ≡ is
 left_on read ns ts i is within here so_far =
     sym (by_left (is_text_left read ns ts i) (are_texts_left read (drop (i + 1) ns) (drop (i + 1) ts)) here)
     ∙ sym (left_next read ns ts i within) ∙ so_far
 
--- and where it isn't
+-- where a text isn't left, not all are
 pub left_out : (read : List (List ℕ)) (ns : List ℕ) (ts : List (List ℕ)) (i : ℕ) (is : Bool) → i < length ts → is_text_left read ns ts i ≡ false
     → are_texts_left read (drop i ns) (drop i ts) ≡ is → false ≡ is
 left_out read ns ts i is within here so_far =

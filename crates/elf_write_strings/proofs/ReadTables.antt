@@ -108,7 +108,7 @@ pub record UserWas (p : Parts) (type number : ℕ) : Type 0 where
   pub is_old : section_of_type type p.sections ≡ Some old
   pub link : number ≡ old.sh_link
 
--- the same with its bytes
+-- the bytes of the one section of a type, as it was read, which links to the table with that number
 pub record ContentWas (p : Parts) (type number : ℕ) (bytes : List ℕ) : Type 0 where
   pub user : UserWas p type number
   pub content : bytes ≡ section_bytes (file_of p) user.old
@@ -151,7 +151,7 @@ module _ (read image : Image) (f : ReadFacts read image) where
       ∙ ap (λ (x : ImageSection). Some x.sh_link) at.of_old.fields
       ∙ sym (ap (λ (o : Option SectionHeader). o >>= λ h. Some h.sh_link) was)
 
-  -- the same of the static symbols
+  -- the bytes of the section of the static symbols that links to a table, as they were read
   pub static_was : (number : ℕ) (bytes : List ℕ) → IsContentOfUser image SHT_SYMTAB number bytes → ContentWas f.parts SHT_SYMTAB number bytes
   static_was number bytes c =
       subst (ContentWas f.parts SHT_SYMTAB number) (sym c.content) (by_static (static_at read image f))
@@ -255,7 +255,7 @@ module _ (read : Image) (is : IsUnedited read) where
       (versions_read p (section_of_type SHT_GNU_VERSYM p.sections) (length (symbols_of p old))) read.dynamic_symbols are
       (texts_keep old number was.user.link))
 
-  -- so have the static symbols
+  -- the static symbols have their names where their records tell
   pub static_symbols_stand : (number : ℕ) (bytes : List ℕ) → ContentWas facts.parts SHT_SYMTAB number bytes
       → AreSymbolsAt (content_in read.sections number) read.symbols (symbols_in read.form bytes)
   static_symbols_stand number bytes was =

@@ -35,7 +35,7 @@ names_test o sections h less s at =
     ap (is_none_or (λ b. (section_header o.form b).sh_type == SHT_STRTAB)) there
     ∙ ap (λ (x : SectionHeader). x.sh_type == SHT_STRTAB) made
 
--- its number is one of a section, and it is a string table
+-- the number of the section of names is one of a section, and that is a string table
 record AreNamesRead (o : Opened) : Type 0 where
   pub number : o.header.e_shstrndx < o.header.e_shnum
   pub texts : names_are_texts o ≡ true
@@ -186,7 +186,7 @@ module _ (read image : Image) (f : ReadFacts read image) where
 
   -- ## The bytes of a table
 
-  -- those that were read
+  -- the bytes of a table are those that were read
   pub content_at : (i : ℕ) → (at : SectionRead read image f.parts i) → content_read image at.number ≡ at.section.content
   content_at i at =
       ap (λ (o : Option KeptSection). unwrap_or (o >>= λ s. Some s.section.content) []) (kept_is read image f i at)
@@ -199,14 +199,14 @@ module _ (read image : Image) (f : ReadFacts read image) where
       ∙ ap (λ (x : ImageSection). x.content) (sym at.renamed) ∙ sym (content_at t.i at) in
       subst (λ (n : ℕ). content_in read.sections n ≡ content_read image n) t.is_number here
 
--- such a table has the bytes that were read
+-- a table of which texts may change has the bytes that were read
 pub edited_content : (read image : Image) → IsEditedReady read image → (number : ℕ) → IsEditedTable image number
     → content_in read.sections number ≡ content_read image number
 edited_content read image is number edited =
     let f = read_facts read image (ready_edit is) in
     content_same read image f number (edited_there read image f number edited)
 
--- so have those that a section of a type that lasts links to
+-- a table that a section of a type that lasts links to has the bytes that were read
 pub linked_content : (read image : Image) → IsEditedReady read image → (type number : ℕ) → is_one_of lasting_types type ≡ true
     → is_one_of text_users type ≡ true → link_of_type type image ≡ Some number → content_in read.sections number ≡ content_read image number
 linked_content read image is type number lasting user linked =

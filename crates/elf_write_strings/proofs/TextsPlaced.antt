@@ -85,7 +85,7 @@ next_found (t ∷ ts) (suc n) e es x xs h =
     next_found ts n e es x xs h
     ∙ ap (λ (m : ℕ). x.d_value ∷ places_among (drop m (t ∷ ts)) es xs) next
 
--- it isn't
+-- the next text isn't that of the entry
 next_passed : (ts : List (List ℕ)) (n : ℕ) (e : Entry) (es : List Entry) (x : EntryNumbers) (xs : List EntryNumbers)
     → is_some_and (λ t. has_text t e) (slice_get ts n) ≡ false
     → places_among (drop n ts) (e ∷ es) (x ∷ xs) ≡ places_among (drop n ts) es xs
@@ -143,7 +143,7 @@ module _ (ts : List (List ℕ)) (es : List Dynamic) (xs : List EntryNumbers) (wh
       ∙ ap (λ (l : List ℕ). made ++ l) (sym (split in_es in_xs))
       ∙ all
 
-  -- the same by what is known in the loop
+  -- the next text is that of the entry, by what is known in the loop
   pub is_found : (n : ℕ) → n ≡ length made → i < min (length es) (length xs) → e ≡ get_or es i e
       → is_some_and (λ t. has_text t (entry_model e)) (slice_get ts n) ≡ true
       → made ++ places_among (drop (length made) ts) (map entry_model (drop i es)) (drop i xs) ≡ whole
@@ -203,7 +203,7 @@ module _ (strings : List ℕ) where
       (subst (λ (u : List ℕ). Reads strings x.d_value u) (sym ((bytes_decides t own).0 is)) here, found h)
   by_text false t own is ts us x es xs here found passed h = passed h
 
-  -- texts of the entries, with some left out, stand at the places among these
+  -- texts of the entries, with some left out, stand at the places that are given for them
   pub texts_stand : (es : List Entry) (xs : List EntryNumbers) → EntriesStand strings es xs → (ts : List (List ℕ))
       → is_subsequence ts (texts_of_entries es) ≡ true → TextsStand strings ts (places_among ts es xs)
   unfolding is_subsequence by_has
@@ -252,7 +252,7 @@ module _ (read image : Image) (is : IsEditedReady read image) (list : ℕ) (at :
   pub linked_now : link_of_type SHT_DYNAMIC image ≡ Some (link_at image list)
   linked_now = ap (λ (o : Option KeptSection). o >>= λ s. Some s.section.sh_link) here.now ∙ ap (λ (n : ℕ). Some n) (sym section_link)
 
-  -- so it has its texts among the dynamic strings
+  -- the dynamic list has its texts among the dynamic strings
   pub strings_number : dynamic_strings_number image ≡ Some (link_at image list)
   strings_number = ap (λ (o : Option ℕ). first_there o (link_of_type SHT_DYNSYM image)) linked_now
 
@@ -324,7 +324,7 @@ left_found (t ∷ ts) (suc n) e es h =
     let next : suc (n + 1) ≡ suc n + 1 = omega arith in
     left_found ts n e es h ∙ ap (λ (m : ℕ). is_subsequence (drop m (t ∷ ts)) (texts_of_entries es)) next
 
--- it isn't
+-- the next text isn't that of the entry
 left_passed : (ts : List (List ℕ)) (n : ℕ) (e : Entry) (es : List Entry) → is_some_and (λ t. has_text t e) (slice_get ts n) ≡ false
     → is_subsequence (drop n ts) (texts_of_entries (e ∷ es)) ≡ is_subsequence (drop n ts) (texts_of_entries es)
 unfolding is_subsequence subsequence_by
@@ -335,7 +335,7 @@ left_passed (t ∷ ts) zero (Integer tag number) es h = refl
 left_passed (t ∷ ts) zero (Text tag own) es h = ap (λ (b : Bool). subsequence_by b t ts (texts_of_entries es)) h
 left_passed (t ∷ ts) (suc n) e es h = left_passed ts n e es h
 
--- the same by what is known in the loop
+-- the texts that are left, by what is known in the loop
 pub left_next : (ts : List (List ℕ)) (es : List Dynamic) (n m i : ℕ) (e : Dynamic) (b is : Bool) → i < length es → e ≡ get_or es i e
     → b ≡ is_some_and (λ t. has_text t (entry_model e)) (slice_get ts n) → m ≡ cond b (n + 1) n
     → is_subsequence (drop n ts) (texts_of_entries (map entry_model (drop i es))) ≡ is
@@ -401,7 +401,7 @@ link_of [] i d within = absurd (omega (arith, within))
 link_of (s ∷ ss) zero d within = refl
 link_of (s ∷ ss) (suc i) d within = link_of ss i d (omega (arith, within))
 
--- the same of a section as it is lent
+-- what a section that is lent links to
 pub link_lent : (image : Image) (list : ℕ) (sections : List Section) (d : Section) → map section_model sections ≡ image.sections
     → list < length sections → (get_or sections list d).sh_link ≡ link_at image list
 link_lent image list sections d same within =

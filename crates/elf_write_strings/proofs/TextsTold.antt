@@ -133,7 +133,7 @@ linked_if image type number texts links =
     ap (λ (o : Option ℕ). if is_some_and (λ link. link == number) o then texts else []) links
     ∙ ap (λ (b : Bool). if b then texts else []) (eq-eqb number number refl)
 
--- and where it links to another one, none of them
+-- where a section links to another table, none of its texts are used of this one
 pub unlinked_if : (image : Image) (type number : ℕ) (texts : List (List ℕ)) → is_some_and (λ link. link == number) (link_of_type type image) ≡ false
     → if_linked image type number texts ≡ []
 unlinked_if image type number texts other = ap (λ (b : Bool). if b then texts else []) other

@@ -77,14 +77,14 @@ module _ (image : Image) (type number : ℕ) (is : IsEdited image) where
         section_got image ss i s same within is_s
   ]
 
-  -- it has its texts elsewhere
+  -- a section that links to another table has its texts there
   pub user_apart : (i : ℕ) → type_position image type ≡ Some i → (s : ImageSection) → slice_get image.sections i ≡ Some s
       → s.sh_link ≢ number → has_texts_in image type number ≡ false
   user_apart i there s at apart =
       let u = user_here i there s at in
       ap (is_link number) u.found ∙ ap (λ (x : ImageSection). x.sh_link == number) u.same ∙ ne_eqb s.sh_link number apart
 
-  -- it has them there
+  -- a section that links to the table has its texts there
   pub user_there : (i : ℕ) → type_position image type ≡ Some i → (s : ImageSection) → slice_get image.sections i ≡ Some s
       → s.sh_link ≡ number → IsContentOfUser image type number s.content
   user_there i there s at link =

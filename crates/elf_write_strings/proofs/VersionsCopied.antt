@@ -49,7 +49,7 @@ module _ (read : Image) (is : IsUnedited read) (number : ℕ) (p : Parts) (accep
       (linked_stands read is user.old number user.link) records ds
       (ap (each show) raws ∙ shown ∙ ap (λ (l : List VersionDefinition). Some l) (sym kept_ds))
 
-  -- the texts of the needed versions, the same
+  -- the texts of the needed versions stand where their records say
   pub copied_needs : link_of_type SHT_GNU_VERNEED read ≡ Some number → (ns : List VersionNeed) → map needs_model ns ≡ read.needs
       → (records : List NeedNumbers) → records ≡ needed_in p → AreNeedsAt (content_in read.sections number) ns records
   copied_needs linked ns kept_ns records walked =

@@ -49,7 +49,7 @@ definition_at_place old now definitions records i d r at more within definition 
 
 -- ## Needed versions
 
--- the same of the name of a needed version
+-- the name of a needed version stands at its place
 pub name_at_place : (old now : Strings) (versions : List VersionNeedName) (records : List NeedNameNumbers) (i : ℕ) (r : NeedNameNumbers)
     (v : VersionNeedName) (text : List ℕ) → AreNamesAt old.bytes versions records
     → HasMore old now → i < length versions → v ≡ get_or versions i v → text ≡ v.name.bytes → StandsAt now.bytes (get_or records i r).name text
@@ -57,7 +57,7 @@ name_at_place old now versions records i r v text at more within here same =
     subst (λ (t : List ℕ). StandsAt now.bytes (get_or records i r).name t) (ap (λ (x : VersionNeedName). x.name.bytes) (sym here) ∙ sym same)
     (subst (λ (bytes : List ℕ). StandsAt bytes (get_or records i r).name (get_or versions i v).name.bytes) (sym more.bytes) (at.each i v r within))
 
--- the same of the texts of the versions needed of a library
+-- the texts of the versions needed of a library stand at their places
 pub need_at_place : (old now : Strings) (needs : List VersionNeed) (records : List NeedNumbers) (i : ℕ) (n : VersionNeed) (r : NeedNumbers)
     → AreNeedsAt old.bytes needs records → HasMore old now → i < length needs → n ≡ get_or needs i n → r ≡ get_or records i r
     → IsNeedAt now.bytes n r

@@ -11,7 +11,7 @@ abbrev pub IsAsTold : Image → Image → ℕ → Option Made → Type 0
 IsAsTold read image number None = AreAsRead read image number
 IsAsTold read image number (Some m) = (m.number ≡ number) × IsTold read image m
 
--- each of these tables is told
+-- each of the tables that are made is told
 abbrev pub AreTold : Image → Image → List Made → Type 0
 AreTold read image made = (number : ℕ) (m : Made) → made_of made number ≡ Some m → IsTold read image m
 
@@ -24,7 +24,7 @@ abbrev pub AreDynamicTold : Image → Image → List Made → Type 0
 AreDynamicTold read image made =
     (number : ℕ) → dynamic_strings_number image ≡ Some number → made_of made number ≡ None → AreAsRead read image number
 
--- the same of the names of static symbols
+-- the names of static symbols are told, or as they were read
 abbrev pub AreStaticTold : Image → Image → List Made → Type 0
 AreStaticTold read image made =
     (number : ℕ) → link_of_type SHT_SYMTAB image ≡ Some number → made_of made number ≡ None → AreAsRead read image number

@@ -76,7 +76,7 @@ EntryStands strings (Auto tag) place = Unit {0}
 EntryStands strings (Integer tag number) place = Unit {0}
 EntryStands strings (Text tag text) place = StandsAt strings place text
 
--- the same of each entry, whose numbers tell the place
+-- the text of each entry stands at a place, which the entry's numbers tell
 abbrev pub EntriesStand : List ℕ → List Entry → List EntryNumbers → Type 0
 EntriesStand strings [] xs = Unit {0}
 EntriesStand strings (e ∷ es) [] = ⊥
@@ -96,7 +96,7 @@ pub record AreSymbolsAt (strings : List ℕ) (symbols : List NamedSymbol) (recor
   pub each : (i : ℕ) (y : NamedSymbol) (n : SymbolNumbers) → slice_get symbols i ≡ Some y → slice_get records i ≡ Some n
       → StandsAt strings n.st_name y.name
 
--- the same of each section and its header
+-- each section's name stands where its header tells
 pub record AreSectionsAt (strings : List ℕ) (sections : List ImageSection) (headers : List SectionHeader) : Type 0 where
   pub count : length headers ≡ length sections
   pub each : (i : ℕ) (s : ImageSection) (h : SectionHeader) → slice_get sections i ≡ Some s → slice_get headers i ≡ Some h

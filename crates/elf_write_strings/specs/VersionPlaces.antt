@@ -47,7 +47,7 @@ pub record AreNamesAt (strings : List ℕ) (versions : List VersionNeedName) (re
   pub each : (i : ℕ) (v : VersionNeedName) (r : NeedNameNumbers) → i < length versions
       → StandsAt strings (get_or records i r).name (get_or versions i v).name.bytes
 
--- the same of the versions needed of a library, and the library's name
+-- versions needed of a library, whose names and the library's stand at the places that their records tell
 pub record IsNeedAt (strings : List ℕ) (need : VersionNeed) (numbers : NeedNumbers) : Type 0 where
   pub file : StandsAt strings numbers.file need.file.bytes
   pub versions : AreNamesAt strings need.versions.items numbers.versions

@@ -46,7 +46,7 @@ abbrev pub are_static_names_left : Image → Image → Bool
 are_static_names_left read image =
     are_texts_left (texts_of_symbols read.symbols) image.symbol_numbers (texts_of_symbols image.symbols)
 
--- the same of each section
+-- each section has the name that it had at read
 abbrev pub are_section_names_left : Image → Image → Bool
 are_section_names_left read image =
     are_texts_left (names_of_sections read.sections) image.section_numbers (names_of_sections image.sections)
@@ -55,7 +55,7 @@ are_section_names_left read image =
 abbrev pub files_of : List VersionNeeds → List (List ℕ)
 files_of needs = map (λ n. n.file) needs
 
--- these have the names that they had at read
+-- the libraries of which versions are needed have the names that they had at read
 abbrev pub are_files_left : Image → Image → Bool
 are_files_left read image = are_same_texts (files_of read.needs) (files_of image.needs)
 
@@ -81,7 +81,7 @@ abbrev pub edited_tables : Image → List ℕ
 edited_tables image =
     option_to_list (dynamic_strings_number image) ++ option_to_list (link_of_type SHT_SYMTAB image) ++ image.header.e_shstrndx ∷ []
 
--- one of these
+-- one of the string tables of which texts may change
 abbrev pub IsEditedTable : Image → ℕ → Type 0
 IsEditedTable image number =
     (dynamic_strings_number image ≡ Some number) ⊎ ((link_of_type SHT_SYMTAB image ≡ Some number) ⊎ (image.header.e_shstrndx ≡ number))

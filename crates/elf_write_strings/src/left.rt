@@ -56,7 +56,7 @@ fn are_names_left(read: SymbolsNow<'_>, now: SymbolsNow<'_>) -> bool
     true
 }
 
-// The same of the symbols for a link editor.
+// Whether each symbol for a link editor has the name that the one with its number at read had.
 fn are_static_names_left(read: &Builder<'_>, image: &Builder<'_>) -> bool
     requires { IsEditedReady read.now image.now }
     ensures { result ≡ are_statics_left read.now image.now }
@@ -89,7 +89,7 @@ fn is_section_left(read: &Builder<'_>, image: &Builder<'_>, i: usize) -> bool
     was_name(read.sections(), image.read_section(i), name)
 }
 
-// The same of each section.
+// Whether each section has the name that the one with its number at read had.
 fn are_section_names_left(read: &Builder<'_>, image: &Builder<'_>) -> bool
     requires { IsEditedReady read.now image.now }
     ensures { result ≡ are_sections_left read.now image.now }
@@ -125,7 +125,8 @@ fn are_same_files(read: &[VersionNeed<'_>], now: &[VersionNeed<'_>]) -> bool
     true
 }
 
-// The same of the libraries of which versions are needed.
+// Whether the libraries of which versions are needed have the names that they had at read, one by
+// one.
 fn are_files_left(read: &Builder<'_>, image: &Builder<'_>) -> bool
     ensures { result ≡ are_libraries_left read.now image.now }
 {

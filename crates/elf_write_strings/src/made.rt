@@ -22,7 +22,7 @@ use std::alloc::{AllocError, Global};
 pub struct Made<'t> {
     /// The number of its section in the file that was read.
     pub number: usize,
-    /// Its bytes, and where each text stands in them.
+    /// The table's bytes, and where each text stands in them.
     pub table: Finished<'t>,
     /// Whether the bytes are those that were read.
     pub is_copied: bool,
@@ -72,7 +72,7 @@ fn table_anew<'a, 'data>(
     }
 }
 
-// The same, where it is copied: told anew where texts move.
+// The table with that number at read, where it is copied: told anew where texts move.
 fn table_copied<'a, 'data>(
     alloc: Global,
     read: &'a Builder<'data>,
@@ -172,7 +172,7 @@ fn add_dynamic<'a, 'data>(
     }
 }
 
-// Adds the names of static symbols, the same.
+// Adds the names of static symbols, where these are told anew.
 fn add_static<'a, 'data>(
     alloc: Global,
     read: &'a Builder<'data>,
@@ -234,7 +234,8 @@ pub fn made_strings<'a, 'data>(
     Ok(made)
 }
 
-/// The same. Dynamic strings that were made anew already are taken. Errors as there.
+/// The string tables that are told anew, as `made_strings` gives them. Dynamic strings that were
+/// made anew already are taken. Errors: those of `made_strings`.
 pub fn strings_from<'a, 'data>(
     alloc: Global,
     read: &'a Builder<'data>,

@@ -70,7 +70,7 @@ fn tell_list<'t>(
     place_entries(table, entries, &numbers)
 }
 
-// Places the names of the dynamic symbols, the same.
+// Places the names of the dynamic symbols, where they stand in the string table with that number.
 fn tell_dynamic_symbols<'t>(
     alloc: Global,
     read: &'t Builder<'_>,
@@ -90,7 +90,7 @@ fn tell_dynamic_symbols<'t>(
     place_symbols(table, read.dynamic_symbols(), &records)
 }
 
-// Places the names of the static symbols, the same.
+// Places the names of the static symbols, where they stand in the string table with that number.
 fn tell_static_symbols<'t>(
     alloc: Global,
     read: &'t Builder<'_>,
@@ -110,7 +110,7 @@ fn tell_static_symbols<'t>(
     place_symbols(table, read.symbols(), &records)
 }
 
-// Places the names of the defined versions, the same.
+// Places the names of the defined versions, where they stand in the string table with that number.
 fn tell_definitions<'t>(
     alloc: Global,
     read: &'t Builder<'_>,
@@ -129,7 +129,7 @@ fn tell_definitions<'t>(
     place_read_definitions(alloc, read, number, table)
 }
 
-// Places the texts of the needed versions, the same.
+// Places the texts of the needed versions, where they stand in the string table with that number.
 fn tell_needs<'t>(
     alloc: Global,
     read: &'t Builder<'_>,
@@ -148,7 +148,7 @@ fn tell_needs<'t>(
     place_read_needs(alloc, read, number, table)
 }
 
-// Places the names of the sections, the same.
+// Places the names of the sections, where they stand in the string table with that number.
 fn tell_sections<'t>(
     alloc: Global,
     read: &'t Builder<'_>,

@@ -88,7 +88,8 @@ fn names_of_definitions<'t>(
     Ok(table)
 }
 
-// The same of the texts of the needed versions.
+// A copy of the string table with that number, in which the texts of the needed versions stand: it
+// tells where.
 fn names_of_needs<'t>(
     alloc: Global,
     read: &'t Builder<'_>,

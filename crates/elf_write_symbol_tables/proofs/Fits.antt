@@ -74,7 +74,7 @@ six_parts a b c d e g fits =
 pub length-symbols : (form : Form) (bytes : List ℕ) → length (symbols_in form bytes) ≡ length bytes / symbol_size form
 length-symbols form bytes = length-records (symbol_numbers form) (symbol_size form) (length bytes / symbol_size form) bytes
 
--- it begins in the bytes
+-- the record at a position begins in the bytes
 pub record_begins : (form : Form) (bytes : List ℕ) (number : ℕ) → 0 < symbol_size form → number < length (symbols_in form bytes)
     → number * symbol_size form ≤ length bytes
 record_begins form bytes number some within =

@@ -76,7 +76,7 @@ module _ (read image : Image) (is : IsEditedReady read image) (s : ImageSection)
       dynamic_told_at named placed =
           by_place (named.each k picked.symbol picked.is_there) (part_at (λ y. place_in m.table y) (slice_get lent k) picked.symbol place lent_at placed)
 
-      -- its name has the next place in the order of the table
+      -- the name of a symbol has the next place in the order of the table
       pub dynamic_ordered_at : (before : ℕ) (begins : Bool) (places : List ℕ) → HasNames m.table before image.dynamic_symbols → places ≡ m.table.in_order
           → begins ≡ begins_empty m.table
           → option_map (λ y. place_of_named begins y (slice_index places (before + k))) (slice_get lent k) ≡ Some place
@@ -138,7 +138,7 @@ module _ (read image : Image) (is : IsEditedReady read image) (s : ImageSection)
       (read_told read image m told place y (named.each i y there.is_there)
       (part_at (λ z. place_in m.table z) (slice_get lent i) y place lent_at placed))
 
-  -- its name stands where it stood
+  -- the name of a symbol stands where it stood
   pub static_named_at : are_static_names_left read image ≡ true → (n : SymbolNumbers)
       → option_map (λ m. record_with image m.st_name m) (slice_get (symbols_in image.form s.content) number) ≡ Some n
       → do_fields_fit (symbol_fields image.form n) ≡ true → IsRecordAt image.form (content_read image s.sh_link) static_finals i n

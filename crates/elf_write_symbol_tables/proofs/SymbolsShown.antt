@@ -57,7 +57,7 @@ module _ (read image : Image) (s : ImageSection) (olds ys finals : List NamedSym
   abbrev records : List SymbolNumbers
   records = symbols_in image.form s.content
 
-  -- its record is there
+  -- the symbol's record is there
   pub number_within : (k number : ℕ) → IsPicked olds ys k number → number < length records
   number_within k number picked = omega (arith, slice_get_within olds number picked.old picked.is_old, table.count)
 
@@ -75,7 +75,7 @@ module _ (read image : Image) (s : ImageSection) (olds ys finals : List NamedSym
         fits = fits;
       }
 
-  -- the same, its name where it stood at read
+  -- the record that is spelled for the symbol, its name where it stood at read
   pub record_stays : (i k number : ℕ) (m : SymbolNumbers) → (picked : IsPicked olds ys k number)
       → slice_get finals i ≡ Some (final_symbol image picked.symbol)
       → option_map (λ n. record_with image n.st_name n) (slice_get records number) ≡ Some m

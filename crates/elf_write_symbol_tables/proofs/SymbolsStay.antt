@@ -56,7 +56,7 @@ module _ (read image : Image) (is : IsEditedReady read image) (made : List Made)
   static_edited : IsSectionOfType SHT_SYMTAB image s → IsEditedTable image s.sh_link
   static_edited at = inr (inl (static_link read image is s at))
 
-  -- so have static symbols, each by its number at read
+  -- static symbols whose strings aren't told anew have the names that were read, each by its number at read
   pub static_left : IsSectionOfType SHT_SYMTAB image s → made_of made s.sh_link ≡ None → are_static_names_left read image ≡ true
   static_left at none =
       let number : ℕ = s.sh_link in
@@ -188,7 +188,7 @@ same_each (a ∷ xs) (b ∷ ys) h zero x y x_at y_at =
 same_each (a ∷ xs) (b ∷ ys) h (suc i) x y x_at y_at =
     same_each xs ys (and_parts (is_same_symbol a b) (are_same_symbols xs ys) h).1 i x y x_at y_at
 
--- what is the same of them
+-- what is the same of two symbols
 pub record IsSame (x y : NamedSymbol) : Type 0 where
   pub name : x.name ≡ y.name
   pub st_info : x.st_info ≡ y.st_info

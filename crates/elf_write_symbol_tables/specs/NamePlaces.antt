@@ -12,7 +12,7 @@ begins_empty table = is_some_and (λ byte. byte == 0) (slice_get table.bytes 0)
 abbrev pub place_of_name : Strings → List ℕ → ℕ
 place_of_name table name = if length name == 0 && begins_empty table then 0 else unwrap_or (place_of table name) 0
 
--- the same of a symbol's name
+-- where a string table tells a symbol's name; no name is at 0, if the table begins with a NUL
 abbrev pub place_in : Strings → NamedSymbol → ℕ
 place_in table y = place_of_name table y.name
 

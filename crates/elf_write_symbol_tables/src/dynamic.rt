@@ -243,7 +243,7 @@ fn content_as_named<'data>(
     Ok(ByteString::owned(bytes))
 }
 
-// The same, whatever their names are.
+// The bytes of a section of symbols, whatever the names of these are.
 fn symbols_content<'data>(
     alloc: Global,
     read: &Builder<'data>,

@@ -49,7 +49,8 @@ pub(crate) fn record_at(
     numbers
 }
 
-// The same, its name where it stood at read.
+// The record that was read at a number, with the place of the symbol's name as it was at read and
+// the number that its section gets.
 #[inline(always)]
 pub(crate) fn record_staying(
     read: &Builder<'_>,

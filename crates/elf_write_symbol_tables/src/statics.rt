@@ -216,7 +216,7 @@ fn is_copied(
     }
 }
 
-// Whether both are as they were read: the final symbols, and the strings of their names.
+// Whether the final symbols and the strings of their names are as they were read.
 fn is_table_kept(
     read: &Builder<'_>,
     image: &Builder<'_>,

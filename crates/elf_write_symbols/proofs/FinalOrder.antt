@@ -64,7 +64,7 @@ header_read image s can = by_header (gnu_header image.form (memory_of s.content)
 nonzero : (n : ℕ) → not (n == 0) ≡ true → n ≢ 0
 nonzero n is e = false≢true (sym (ap (λ m. not (m == 0)) e) ∙ is)
 
--- its numbers serve for a table
+-- the numbers of the header serve for a table
 pub some_buckets : (image : Image) (s : ImageSection) → (h : HeaderRead image s) → h.header.buckets ≢ 0
 some_buckets image s h =
     nonzero h.header.buckets (and_parts _ _ (and_parts _ _ (and_parts _ _ h.front).0).0).0
@@ -111,7 +111,7 @@ module _ (read image : Image) (is : IsEditedReady read image) (f : ReadFacts rea
   lent_ordered ys order same is_order =
       ap (λ (l : List NamedSymbol). in_order l order) same ∙ ap (in_order image.dynamic_symbols) is_order
 
-  -- look-ups find the same of the symbols that are lent
+  -- the symbols that are lent have the names of the final ones in hash tables
   pub lent_names : (ys : List NamedSymbol) (order : List ℕ) → ys ≡ image.dynamic_symbols → order ≡ dynamic_order read image
       → hashed_names (in_order ys order) ≡ hashed_names finals
   lent_names ys order same is_order =

@@ -36,7 +36,7 @@ word_past order a bytes past = ap (λ (o : Option (List ℕ)). o >>= λ b. Some 
 
 -- ## The GNU table
 
--- its four numbers
+-- the four numbers of a GNU table
 pub header_there : (form : Form) (bytes : List ℕ) → 16 ≤ length bytes
     → gnu_header form (memory_of bytes)
     ≡ Some (record {

@@ -81,7 +81,7 @@ drop_here : {A : Type 0} (xs : List A) (i : ℕ) (x : A) → slice_get xs i ≡ 
 drop_here xs i x at = drop_more xs i x (slice_get_within xs i x at) ∙ ap (λ y. y ∷ drop (i + 1) xs) (get_or_from_slice_get xs i x x at)
 
 module _ {A : Type 0} (test : A → Bool) where
-  -- those from a place on do
+  -- the elements from a place on pass the test
   abbrev pub all_from : List A → ℕ → Bool
   all_from xs i = list_all test (drop i xs)
 
@@ -115,14 +115,14 @@ count-in_order test ys (k ∷ order) =
     by_symbol None = omega arith
     by_symbol (Some y) = count-cons test y (in_order ys order)
 
--- as many as in another order
+-- as many symbols pass a test as in another order
 pub count-permuted : (test : NamedSymbol → Bool) (ys : List NamedSymbol) (order : List ℕ) → IsPermutation (counted (length ys)) order
     → count_by test (in_order ys order) ≡ count_by test ys
 count-permuted test ys order once =
     count-in_order test ys order ∙ sum_by-IsPermutation (one_at test ys) (counted (length ys)) order once
     ∙ sym (count-in_order test ys (counted (length ys))) ∙ ap (count_by test) (in_order-counted ys)
 
--- and behind the first, where that stays
+-- as many symbols behind the first pass a test as in another order, where the first stays
 pub count-behind : (test : NamedSymbol → Bool) (first : NamedSymbol) (rest : List NamedSymbol) (order : List ℕ)
     → IsPermutation (counted (length (first ∷ rest))) (0 ∷ order) → count_by test (in_order (first ∷ rest) order) ≡ count_by test rest
 count-behind test first rest order once =

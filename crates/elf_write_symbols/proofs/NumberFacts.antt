@@ -117,7 +117,7 @@ module _ (read image : Image) (f : ReadFacts read image) where
   pub places_few : (lent : List ℕ) → lent ≡ order → length lent ≡ length image.dynamic_symbols
   places_few lent same = ap length same ∙ length-order read image all
 
-  -- its number at read
+  -- the number at read of the symbol at a place
   pub old_below : (m n : ℕ) → slice_get image.dynamic_symbol_numbers m ≡ Some n → n < length read.dynamic_symbols
   old_below = all.below
 

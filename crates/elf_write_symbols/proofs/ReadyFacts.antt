@@ -60,7 +60,7 @@ module _ (read image : Image) (f : ReadFacts read image) (type : ℕ) (s : Image
   abbrev pub old_of : SectionHeader
   old_of = r.at.old
 
-  -- its bytes
+  -- the bytes of a section are those that were read
   pub content_was : s.content ≡ section_bytes (file_of f.parts) r.at.old
   content_was = ap (λ (x : ImageSection). x.content) (sym r.own ∙ r.at.of_old.fields)
 
@@ -100,7 +100,7 @@ lent_there xs sections i x are within is =
     let at : slice_get xs i ≡ Some x = slice_get_read xs (length xs) i x refl (omega (arith, long, within)) is in
     sym (ap (λ (ss : List ImageSection). slice_get ss i) are) ∙ slice_get-map section_model xs i ∙ ap (option_map section_model) at
 
--- it is kept there with its number
+-- a section that is lent is kept in the image with its number
 pub kept_there : (read image : Image) → (f : ReadFacts read image) → (i : ℕ) (s : ImageSection) → slice_get image.sections i ≡ Some s
     → slice_get (kept_sections image) i ≡ Some (kept image i s)
 kept_there read image f i s there =

@@ -37,7 +37,7 @@ module _ (read image : Image) (f : ReadFacts read image) (type : ℕ) (s : Image
   abbrev relocations : List Relocation
   relocations = relocations_in image.form s.sh_type s.content
 
-  -- those of a table, whose numbers at read are below a number
+  -- the symbols of a table, whose numbers at read are below a number
   module _ (table : Option ℕ) (numbers : List ℕ) (count : ℕ) (named : AreRelocated image table numbers)
       (below : (i n : ℕ) → slice_get numbers i ≡ Some n → n < count) (against : is_against table s ≡ true) where
     below_by : (n : ℕ) → (n ≡ 0) ⊎ Contains numbers n → is_symbol_below count n ≡ true
@@ -91,7 +91,7 @@ module _ (read image : Image) (f : ReadFacts read image) (type : ℕ) (s : Image
   abbrev moved_static : Bool
   moved_static = is_static_renumbered read image && is_against (table_number SHT_SYMTAB image) s
 
-  -- so there is a new number for each that they name
+  -- there is a new number for each symbol that relocations name
   pub named_below : (numbers : List ℕ) → numbers_for read image s ≡ Some numbers
       → are_symbols_below image.form s.sh_type (length numbers) s.content ≡ true
   named_below numbers told = by_tests moved_dynamic refl moved_static refl told

@@ -50,7 +50,7 @@ version_read form count bytes j version at =
     let (part, is) = record_at (λ b. Some (version_id form b)) 2 count bytes j version at in
     record { id = version_id form part; is_id = is; fits = read_fits form part }
 
--- and so does what an edit may put in its place
+-- what an edit may put in place of a version has one
 edited_has : (old now : Option VersionId) → HasVersion old → IsVersionOf old now → HasVersion now
 edited_has old now has (inl same) = subst HasVersion (sym same) has
 edited_has old now has (inr cleared) = record {
@@ -86,7 +86,7 @@ none_large ys (k ∷ order) have = by_symbol (slice_get ys k) refl (none_large y
 -- ## The section that was read
 
 module _ (read image : Image) (is : IsEditedReady read image) (s : ImageSection) (at : IsSectionOfType SHT_GNU_VERSYM image s) where
-  -- it held the version of each symbol
+  -- the section held the version of each symbol
   pub copied : AreVersionsOf image.form read.dynamic_symbols s.content
   copied = versions_were read image (whole_edit read image is) at.position s at.there at.typed
 

@@ -15,7 +15,7 @@ abbrev pub dynamic_numbers_for : Image → Image → ImageSection → Option (Li
 dynamic_numbers_for read image s =
     if are_names_changed read image && is_against (table_number SHT_DYNSYM image) s then Some (new_dynamic_symbols read image) else None
 
--- the same of the static symbols
+-- the new numbers of the static symbols, where the section's relocations are against these and they are renumbered
 abbrev pub static_numbers_for : Image → Image → ImageSection → Option (List ℕ)
 static_numbers_for read image s =
     if is_static_renumbered read image && is_against (table_number SHT_SYMTAB image) s then Some (new_static_symbols read image) else None

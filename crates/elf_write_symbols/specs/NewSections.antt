@@ -8,7 +8,7 @@ use Rattle.elf_write_symbols.specs.declared.section_numbers.NewSections.{NewSect
 abbrev pub new_section : Image → ℕ → ℕ
 new_section image number = elim (kept_at_number number image) [ Some s ↦ s.position | None ↦ 0 ]
 
--- the same of each section that was read
+-- where each section stands that was read; 0 where it isn't there
 abbrev pub all_sections : Image → Image → List ℕ
 all_sections read image = map (new_section image) (counted (length read.sections))
 

@@ -1,4 +1,5 @@
-//! The bytes of sections that hold or number symbols, in the order in which a written file has these.
+//! The bytes of sections that hold or number symbols, in the order in which a written file has its
+//! symbols.
 #![tactic(auto)]
 
 mod hashes;

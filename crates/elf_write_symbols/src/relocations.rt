@@ -34,7 +34,8 @@ fn numbers_against<'a>(numbers: &'a NewNumbers, section: &Section<'_>) -> Option
     }
 }
 
-// Those of the dynamic symbols, where these are renumbered.
+// The new numbers of the dynamic symbols, where these are renumbered and a section's relocations
+// are against them.
 fn dynamic_numbers_for<'a>(
     read: &Builder<'_>,
     image: &Builder<'_>,
@@ -51,7 +52,8 @@ fn dynamic_numbers_for<'a>(
     }
 }
 
-// Those of the static symbols, where these are renumbered.
+// The new numbers of the static symbols, where these are renumbered and a section's relocations are
+// against them.
 fn static_numbers_for<'a>(
     read: &Builder<'_>,
     image: &Builder<'_>,

@@ -27,16 +27,16 @@ use std::alloc::Global;
 pub struct Reordering {
     /// For each new place, where its symbol stands in the image.
     pub order: Vec<usize>,
-    /// Their GNU hashes as they stand in the image, of those that a look-up may find.
+    /// The GNU hashes of the symbols as they stand in the image, of those that a look-up may find.
     pub hashes: Vec<Option<u32>>,
-    /// Their new numbers.
+    /// The new numbers of the symbols.
     pub numbers: NewNumbers,
 }
 
 /// The new numbers of the sections and of the symbols of an image.
 #[derive(Debug, Drop)]
 pub struct Renumbering {
-    /// Those of sections.
+    /// The new numbers of sections.
     pub sections: NewSections,
     /// The dynamic ones, where they haven't, one by one, the names that were read.
     pub dynamic: Option<Reordering>,
@@ -104,7 +104,8 @@ fn reordered(
     })
 }
 
-// The same, where the names aren't those that were read.
+// The new order of the dynamic symbols, and their numbers, where the names aren't those that were
+// read.
 fn reordering_of(
     alloc: Global,
     read: &Builder<'_>,

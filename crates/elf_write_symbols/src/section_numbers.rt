@@ -78,8 +78,8 @@ pub fn new_number(
     }
 }
 
-/// The same of a symbol's section (gABI, Symbol Table, `st_shndx`): a special number stays, and a section that isn't there is none.
-/// Takes no memory.
+/// The number by which a written file names a symbol's section (gABI, Symbol Table, `st_shndx`): a
+/// special number stays, and a section that isn't there is none. Takes no memory.
 #[inline(always)]
 pub fn new_symbol_section(
     read: &Builder<'_>,

@@ -52,7 +52,7 @@ fn versions_by(
     }
 }
 
-// The same, where the order may be that of the list.
+// The versions of the symbols in their new order, which may be that of the list.
 fn versions_anew(
     alloc: Global,
     read: &Builder<'_>,

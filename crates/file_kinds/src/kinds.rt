@@ -9,7 +9,7 @@ const TEXT_FRONT: usize = 512;
 /// What a file is, by its first bytes.
 #[derive(Clone, Copy, Debug, PartialEq, Eq)]
 pub enum FileKind {
-    /// It has no byte.
+    /// The file has no byte.
     Empty,
     /// An ELF file: 0x7f and `ELF`.
     Elf,

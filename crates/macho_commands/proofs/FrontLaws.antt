@@ -52,7 +52,7 @@ same_content front rest short ok content =
     let same = accepts front rest short ok in
     rw (same.1, same.2) (least_longer (length front) (length (front ++ rest)) (named_contents front) (omega (arith, length-append front rest)) content)
 
--- it isn't fat either
+-- a file isn't fat either where its front isn't
 pub same_shape : (front rest : List ℕ) → 4 ≤ length front → begins_fat (front ++ rest) ≡ begins_fat front
 same_shape front rest four =
     let more : 4 ≤ length (front ++ rest) = omega (arith, length-append front rest) in
@@ -83,7 +83,7 @@ step_longer : (calls : List Call) (s : State) (rest : List ℕ) → ctx_of (s.ol
 unfolding step
 step_longer calls s rest form content = rw form (fitted_longer (length calls) s rest (edited_by (ctx_of s.old) 0 calls s.list) form content)
 
--- what it makes fits in the front
+-- what an edit makes of a state fits in the front
 fits_front : (count : ℕ) (s new : State) (edited : Result (List (List ℕ)) Refusal) → fitted_state count s edited ≡ Ok new → s.high ≤ length s.old → available s ≤ length s.old → (new.old ≡ s.old) × (new.high ≤ length s.old)
 unfolding fitted_state
 fits_front count s new (Err refusal) is high room = cc
@@ -212,7 +212,7 @@ state_longer s rest new short is thin shows =
       long = omega (arith, length-append new rest, length-append s.old rest, long);
     }
 
--- so does a file
+-- bytes that show a file that fits show that of a longer file with the rest behind them
 file_longer : (s : State) (is_edited : Bool) (rest new : List ℕ) → length (s.old ++ rest) < 2 ^ 32 → IsThinFront s.old → ShowsFile (SingleArch (record { state = s; is_edited = is_edited })) new → ShowsFile (SingleArch (record { state = longer_state rest s; is_edited = is_edited })) (new ++ rest)
 file_longer s is_edited rest new short is shows =
     let state : Shows s new = shows.state in

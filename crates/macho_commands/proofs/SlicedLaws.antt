@@ -149,7 +149,7 @@ same_after at start size part file bytes (p ∷ parts) low room rising same = (
   same_after at (p.arch.offset + p.arch.size) size part file bytes parts (omega (arith, rising.0)) room rising.2 same.1,
 )
 
--- their bytes, over those of the file
+-- the bytes of slices, laid over those of the file
 pub over_in : (calls : List Call) (file bytes : List ℕ) (start size : ℕ) (parts : List Part) → length bytes ≡ size → AreRising start size (map arch_in parts) → SameSlices file bytes parts → AreParts calls file parts → bytes_laid_over (map slice_in parts) bytes ≡ laid (patches_in parts) bytes
 over_in calls file bytes start size [] long rising same are = refl
 over_in calls file bytes start size (p ∷ parts) long rising same are =
@@ -175,7 +175,7 @@ stand_further at size new part patches is long inside stand =
     let same : at + length part - at ≡ size = omega (arith, long) in
     stands_shifted at part new (get_or patches i d) (omega (arith, lies, long)) (ap (λ (n : ℕ). take n (drop at new)) same ∙ sym is) (stand i d below))
 
--- the patches of slices stand in bytes that show these
+-- the patches of slices stand in bytes that show the slices
 stand_in : (calls : List Call) (file new : List ℕ) (parts : List Part) → AreParts calls file parts → AreShown new (map slice_in parts) → All (Stands new) (patches_in parts)
 stand_in calls file new [] are shown = All-nil (Stands new)
 stand_in calls file new (p ∷ parts) are shown =

@@ -87,7 +87,7 @@ makes_more a fronts i front edited old new inside is makes adds =
     let P : List SliceFront → Type 0 = λ l. MakesFronts a l new in
     subst P (sym (next_take fronts i front inside is)) (makes_push a (take i fronts) front edited old new makes adds)
 
--- and what they become
+-- the new bytes of a front more are what it becomes
 
 pub edited_more : (a : Asked) (fronts : List SliceFront) (i : ℕ) (front : SliceFront) (edited : List ℕ) (news nexts : List (List ℕ)) (old new : List Patch) → i < length fronts → front ≡ get_or fronts i front → MakesEdited a (take i fronts) news old → AddsFront a front edited old new → nexts ≡ news ++ edited ∷ [] → MakesEdited a (take (i + 1) fronts) nexts new
 edited_more a fronts i front edited news nexts old new inside is makes adds push =

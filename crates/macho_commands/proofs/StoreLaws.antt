@@ -64,7 +64,7 @@ found_long file long = either_way (begins_fat file)
     either_way true = long_fat file long
     either_way false = ap found_fault (long_thin file long)
 
--- so its first 4 GiB have the same outcome
+-- the first 4 GiB of a file that is too long have the same outcome
 long_outcome : (a : Asked) (first file : List ℕ) → container_found first ≡ Some (fault TooLong) → container_found file ≡ Some (fault TooLong) → outcome_of a first ≡ outcome_of a file
 long_outcome (one call) first file one_long all_long = rw (one_long, all_long) refl
 long_outcome (several (Ok calls)) first file one_long all_long = rw (one_long, all_long) refl
@@ -78,7 +78,7 @@ first_outcome a file = elim (cases_lt (length file) (2 ^ 32)) [
       long_outcome a (take (2 ^ 32) file) file (found_long (take (2 ^ 32) file) (omega arith)) (found_long file long)
 ]
 
--- and no new bytes
+-- a file that is too long gets no new bytes
 long_makes_none : (a : Asked) (file new : List ℕ) → container_found file ≡ Some (fault TooLong) → outcome_of a file ≡ bytes new → ⊥
 long_makes_none (one call) file new long makes =
     let e : no_file (fault TooLong) ≡ bytes new = ap (edited_file refused (call ∷ []) file) (sym long) ∙ makes in cc
@@ -95,7 +95,7 @@ whole_of_first a file new makes = elim (cases_lt (length file) (2 ^ 32)) [
       absurd (long_makes_none a (take (2 ^ 32) file) new (found_long (take (2 ^ 32) file) (omega arith)) makes)
 ]
 
--- ---- the same of signed outcomes
+-- ---- signed outcomes of a file that is too long, and of its first 4 GiB
 
 -- signing leaves the outcome of a file that is too long
 sign_long : (pages : Pages) (a : Asked) (file : List ℕ) → container_found file ≡ Some (fault TooLong) → sign_on pages (outcome_of a file) ≡ outcome_of a file
@@ -190,7 +190,7 @@ makes_of signs a loaded patches file (inr (leaves, read)) inside makes shows sta
       long = sym read.long;
     }
 
--- the same of what a command writes
+-- what a file becomes by what a command writes
 pub makes_store : (choice : Signing) (meaning : MachoMeaning) (old : Option (List ℕ)) (loaded : Loaded) (fronts : List Front) (slots : List Slot) (pieces : List Piece) (file : List ℕ) → ReadsStore (signs_of choice meaning) old loaded → old ≡ Some file → Writes choice meaning loaded.bytes.items fronts slots → ArePartsOf loaded.bytes.items (slots_on slots (fronts_on fronts loaded.bytes.items)) pieces → MakesOf (signs_of choice meaning) (asked meaning) loaded (patches_of pieces) file
 makes_store choice meaning old loaded fronts slots pieces file reads known writes are =
     let Made : List ℕ → Type 0 = λ l. IsSignedOutcome choice meaning loaded.bytes.items l in

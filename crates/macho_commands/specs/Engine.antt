@@ -220,7 +220,7 @@ ShowsBy Whole a file new = ShowsSigned all a file new
 abbrev pub IsSignedOutcome : Signing → MachoMeaning → List ℕ → List ℕ → Type 0
 IsSignedOutcome choice meaning file new = ShowsBy (signs_of choice meaning) (asked meaning) file new
 
--- fronts that lie in a file's bytes, and make them what edits make of them, which shows these
+-- fronts that lie in a file's bytes, and make them what edits make of them, and the new bytes show the edits
 pub record WritesEdits (a : Asked) (file : List ℕ) (fronts : List Front) : Type 0 where
   pub inside : All (LiesIn (length file)) fronts
   pub is : outcome_of a file ≡ bytes (fronts_on fronts file)

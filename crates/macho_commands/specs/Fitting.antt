@@ -23,8 +23,8 @@ SigningFits =
     (choice : Signing) (meaning : MachoMeaning) (file new : List ℕ) → IsSigning choice meaning → IsSignedOutcome choice meaning file new
     → checking_fault file ≡ None → DoAdhocFit file → DoAdhocFit new
 
--- and the new bytes have the same parts, of which each tells of the same place of a signature, by an identity or not, and of the
--- same directories, apart from the lengths of their identifiers
+-- where slots are made anew, the new bytes of a command have the same parts, of which each tells of the same place of a signature, by an
+-- identity or not, and of the same directories, apart from the lengths of their identifiers
 abbrev pub SigningTellsSame : Type 0
 SigningTellsSame =
     (choice : Signing) (meaning : MachoMeaning) (file new : List ℕ) → IsSigning choice meaning → IsSignedOutcome choice meaning file new
@@ -66,7 +66,7 @@ EditKeepsSignatures =
     → checking_fault file ≡ None → All (λ p. IsSignatureBehind (part_bytes file p)) (parts_of file)
     → (checking_fault new ≡ None) × InEachPart KeepsSignature file new
 
--- so they are wherever those of the new bytes are read
+-- the signatures of a file and of its new bytes are the same, with their directories, wherever those of the new bytes are read
 abbrev pub ReadEditKeepsSignatures : Type 0
 ReadEditKeepsSignatures =
     (choice : Signing) (meaning : MachoMeaning) (file new : List ℕ) → signs_of choice meaning ≡ Nothing → IsSignedOutcome choice meaning file new

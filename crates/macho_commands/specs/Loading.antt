@@ -21,13 +21,13 @@ FrontDecides =
     (a : Asked) (front rest : List ℕ) → IsThinFront front → length (front ++ rest) < 2 ^ 32
     → outcome_of a (front ++ rest) ≡ with_rest rest (outcome_of a front)
 
--- and what new bytes show
+-- what new bytes show of edits depends on such a front alone
 abbrev pub FrontShows : Type 0
 FrontShows =
     (a : Asked) (front rest new : List ℕ) → IsThinFront front → length (front ++ rest) < 2 ^ 32 → ShowsEdited a front new
     → ShowsEdited a (front ++ rest) (new ++ rest)
 
--- and whether it is signed
+-- whether a file is signed depends on such a front alone
 abbrev pub FrontTellsSigned : Type 0
 FrontTellsSigned =
     (front rest : List ℕ) → IsThinFront front → length (front ++ rest) < 2 ^ 32

@@ -18,7 +18,7 @@ abbrev pub LeadsWith : List Call → MachoType → List Front → Type 0
 LeadsWith calls file fronts = LeadOn container_bytes file (container_step calls file) fronts
     × StepShows (container_step calls file)
 
--- why they are not made: there was no memory, or one of them is refused
+-- why edits are not made: there was no memory, or one of them is refused
 abbrev pub IsRefusal : Asked → List Call → MachoType → MachoCommandError → Type 0
 IsRefusal a calls file e = (e ≡ Memory)
     ⊎ ((batch : MachoBatchError) × RefusesAt batch.index (cause_of batch.fault) (container_step calls file)

@@ -21,7 +21,7 @@ pub record IsLoadedFront (front : SliceFront) : Type 0 where
   pub low : front.offset < 2 ^ 32
   pub thin : IsThinFront front.bytes.items
 
--- patches that lie in a front, and make of it what edits make of it, which shows these, and in which each of them stands
+-- patches that lie in a front, and make of it what edits make of it, which shows the edits, and in which each of them stands
 pub record MakesFront (a : Asked) (front : List ℕ) (patches : List Patch) : Type 0 where
   pub inside : All (LiesIn (length front)) patches
   pub stand : All (Stands (laid patches front)) patches
@@ -34,7 +34,7 @@ MakesFronts a [] patches = patches ≡ []
 MakesFronts a (front ∷ fronts) patches = (here : List Patch) × (behind : List Patch)
     × (patches ≡ map (shifted front.offset) here ++ behind) × MakesFront a front.bytes.items here × MakesFronts a fronts behind
 
--- those of one front more, of which they make these bytes, are put behind others
+-- the patches of one front more, which make these bytes of it, are put behind others
 abbrev pub AddsFront : Asked → SliceFront → List ℕ → List Patch → List Patch → Type 0
 AddsFront a front edited old new = (here : List Patch) × (new ≡ old ++ map (shifted front.offset) here) × MakesFront a front.bytes.items here
     × (edited ≡ laid here front.bytes.items)

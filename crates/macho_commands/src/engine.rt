@@ -57,8 +57,9 @@ pub fn run_macho(
     Ok(new)
 }
 
-/// The same, and the line that tells what a user should know of the edit, with the command's path; no text where notes
-/// are left out, or where there is nothing to tell.
+/// The bytes of a file after a command, as `run_macho` gives them, and the line that tells what a
+/// user should know of the edit, with the command's path; no text where notes are left out, or
+/// where there is nothing to tell.
 pub fn run_macho_telling(
     alloc: Global,
     bytes: &[u8],
@@ -149,7 +150,7 @@ fn renews_touched(signing: Signing, command: &MachoCommand) -> bool
     }
 }
 
-/// The same where it is known which slots are made anew.
+/// What a command writes over the bytes of a file, where it is known which slots are made anew.
 fn made_by(
     alloc: Global,
     bytes: &[u8],
@@ -281,7 +282,8 @@ pub(crate) fn fronts_of(
     fronts_by(alloc, bytes, command, edits.as_slice(), notes)
 }
 
-/// The same by the edits that it asks for.
+/// The fronts that the edits of a command write over the bytes of a file, and the line of its note,
+/// by the edits that it asks for.
 fn fronts_by(
     alloc: Global,
     bytes: &[u8],
@@ -405,8 +407,9 @@ pub fn patch_store<S: Store>(
     patch_loaded(alloc, store, command, notes, signing)
 }
 
-/// The same of a command that makes the slots of touched pages anew, where fronts of the file and its signatures tell these;
-/// else `None`, and the bytes are as they were.
+/// Edits the bytes of a store as `patch_store` does, of a command that makes the slots of touched
+/// pages anew, where fronts of the file and its signatures tell these; else `None`, and the bytes
+/// are as they were.
 fn patch_touched<S: Store>(
     alloc: Global,
     store: &mut S,
@@ -433,7 +436,8 @@ fn patch_touched<S: Store>(
     patch_renewed(alloc, store, &slices, command, notes, signing)
 }
 
-/// The same where the store doesn't hold a fat file whose slices are edited by their fronts.
+/// Edits the bytes of a store as `patch_store` does, where it doesn't hold a fat file whose slices
+/// are edited by their fronts.
 fn patch_loaded<S: Store>(
     alloc: Global,
     store: &mut S,
@@ -554,7 +558,7 @@ pub fn macho_execute_telling<R: Files + Print + Eprint + AllocGlobal>(
     answer
 }
 
-/// The same by a command that is lent.
+/// Does what a command that is lent asks, as `macho_execute_telling` does.
 fn execute_lent<R: Files + Print + Eprint + AllocGlobal>(
     rt: &R,
     command: &MachoCommand,

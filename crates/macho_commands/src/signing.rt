@@ -4,9 +4,9 @@
 /// in either case, since only that identity could sign again.
 #[derive(Clone, Copy, Debug)]
 pub enum Signing {
-    /// They are, and the others stay.
+    /// The slots of touched pages are made anew, and the others stay.
     Renewed,
-    /// They are left.
+    /// The slots are left.
     Left,
 }
 
@@ -15,7 +15,7 @@ pub enum Signing {
 pub enum Signs {
     /// None.
     Nothing,
-    /// Those of the pages in which the edit changed a byte.
+    /// The slots of the pages in which the edit changed a byte.
     Touched,
     /// All.
     Whole,

@@ -26,7 +26,7 @@ use std::alloc::Global;
 pub(crate) struct Sliced {
     /// The pieces, those of the first slice first.
     pub(crate) pieces: Vec<OwnedPiece>,
-    /// What they make of each front.
+    /// The bytes that the pieces make of each front.
     pub(crate) edited: Vec<Vec<u8>>,
     /// The line; no text where it is left out.
     text: String,

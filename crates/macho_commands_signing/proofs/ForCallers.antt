@@ -6,5 +6,5 @@ pub use Rattle.macho_commands_signing.proofs.StepSignature.{IsKept, edit_keeps, 
 pub use Rattle.macho_commands_signing.proofs.KeptParts.{behind_ends, each_after, each_weaker, edited_keeps, edited_tells, layouts_after, read_ends, signed_tells, signing_ends}
 -- that these slots fit
 pub use Rattle.macho_commands_signing.proofs.KeptParts.{touched_fit, whole_fit}
--- that the signatures are read again
+-- that the signatures are read again behind an edit, and behind slots that were made anew
 pub use Rattle.macho_commands_signing.proofs.ReadParts.{edit_reads, named_apart, slots_read, tells_after}

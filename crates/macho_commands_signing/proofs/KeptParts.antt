@@ -40,7 +40,7 @@ each_after First Then Both old mid new join first next =
           join (part_bytes old p) (part_bytes mid p) (part_bytes new p) (first.each k e here) (second k e here);
     }
 
--- the same layouts upon the same directories
+-- the same layouts, where first the same directories are told and then the same layouts
 pub layouts_after : (a b c : List ℕ) → TellsSame a b → TellsSameLayout b c → TellsSameLayout a c
 layouts_after a b c first next = record {
   place = next.place ∙ first.place;
@@ -130,13 +130,13 @@ new_fit edited new same fits =
     let p : Part = get_or (parts_of edited) k e in
     told_fit (part_bytes edited p) (part_bytes new p) (same.each k e here) (fits k e here)))
 
--- so where all fitted, all fit again
+-- where all pages fitted, all fit again
 pub touched_fit : (old edited new : List ℕ) → length edited ≡ length old → InEachPart TellsSame old edited → signing_fault (since old) edited ≡ None → IsSigned (since old) edited new → FileShowsSame edited new → DoAdhocFit old → DoAdhocFit new
 touched_fit old edited new long same none is shows told =
     new_fit edited new (signed_tells (since old) edited new none is shows)
     (signed_fit old edited new (sym long) none is (old_fit old edited same told))
 
--- and where all are made anew, all fit
+-- where all slots are made anew, all fit
 pub whole_fit : (edited new : List ℕ) → signing_fault all edited ≡ None → IsSigned all edited new → FileShowsSame edited new → DoAdhocFit new
 whole_fit edited new none is shows =
     let reads = signing_reads all edited none in

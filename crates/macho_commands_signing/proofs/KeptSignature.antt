@@ -76,7 +76,7 @@ unfolding signing_fault
 parts_pass pages bytes none =
     none_at (part_fault pages bytes) (parts_of bytes) (first_none (parts_fault bytes) (first_fault (part_fault pages bytes) (parts_of bytes)) none).1
 
--- so where slots are made anew, signatures are read
+-- where slots are made anew, signatures are read
 pub signing_reads : (pages : Pages) (bytes : List ℕ) → signing_fault pages bytes ≡ None → All (λ p. thin_fault (part_bytes bytes p) ≡ None) (parts_of bytes)
 signing_reads pages bytes none = λ k e here.
     let p : Part = get_or (parts_of bytes) k e in
@@ -232,7 +232,7 @@ told_fit old new same fits adhoc =
     let here : AllFit (thin_directories old) new = subst P (adhoc_here old (sym same.identity ∙ adhoc)) fits in
     same_layouts_unfit 0 (thin_directories new) (thin_directories old) new same.directories ∙ all_fit_none 0 (thin_directories old) new here
 
--- and slots that are told to fit do, by the directories of the edited file
+-- slots of the edited file that fit are told to fit, and those that are told to fit do, by the directories of the edited file
 pub fit_told : (old edited : List ℕ) → TellsSame old edited → (has_identity old ≡ false → unfit_from 0 (thin_directories old) old ≡ []) → AllFit (adhoc_directories edited) old
 fit_told old edited same told =
     elim (cases_Bool (has_identity edited)) [

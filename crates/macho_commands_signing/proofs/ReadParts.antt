@@ -34,7 +34,7 @@ use Rattle.macho_commands_signing.proofs.StepSignature.{EndsBeforeSignature, IsK
 
 -- ## A thin file
 
--- its signature is read where the place that it tells is, in bytes that are accepted
+-- the signature of a thin file is read where the place that it tells is, in bytes that are accepted
 reads_at : (old new : List ℕ) (r : Result (Option Place) SigningFault) → signature_place old ≡ r → TellsSamePlace old new → thin_fault old ≡ None → file_fault new ≡ None → ((place : Place) → r ≡ Ok (Some place) → (commands_end (ctx_of new) new ≤ place.dataoff) × (signature_fault place.dataoff place.datasize new ≡ None)) → thin_fault new ≡ None
 unfolding thin_fault
 reads_at old new (Err found) is same none accepted at =
@@ -202,7 +202,7 @@ slots_read pages old new none is same apart =
       record { parts = parts; each = λ k e here. (each k e here).1 },
     )
 
--- the identifiers of a file that tells the same
+-- the identifiers stand in no slots of each part of a file that tells the same
 all_of_map : (f : Part → Found) (parts : List Part) → All IsAdhocNamedApart (map f parts) → All (λ p. IsAdhocNamedApart (f p)) parts
 all_of_map f [] told = All-nil (λ p. IsAdhocNamedApart (f p))
 all_of_map f (p ∷ parts) told =
@@ -219,7 +219,7 @@ named_apart old new same told =
     let tells = same.each k e here in
     subst Q (sym tells.directories) (each k e here (sym tells.identity ∙ adhoc)))
 
--- the same upon the same
+-- files that tell the same, one upon another
 pub tells_after : (a b c : List ℕ) → TellsSame a b → TellsSame b c → TellsSame a c
 tells_after a b c first next = record {
   place = next.place ∙ first.place;

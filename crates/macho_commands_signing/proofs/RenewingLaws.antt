@@ -74,7 +74,7 @@ long_at fronts news i front new long inside is told =
     let g : SliceFront → ℕ = λ x. length x.bytes.items in
     ap f told ∙ sym (get_or-map f news i new 0 (omega (arith, inside, count_edited fronts news long))) ∙ ap (λ (l : List ℕ). get_or l i 0) long ∙ get_or-map g fronts i front 0 inside ∙ sym (ap g is)
 
--- whether one more is left
+-- whether one more page is left
 pub left_more : (left more answer : Bool) → (left ≡ true) × (answer ≡ true) ⊎ ((left ≡ false) × (answer ≡ more)) → answer ≡ (left || more)
 left_more left more answer (inl both) = rw both.0 both.1
 left_more left more answer (inr both) = rw both.0 both.1

@@ -1,4 +1,4 @@
--- The table of a fat file whose slices rise, and the fronts of these.
+-- The table of a fat file whose slices rise, and the fronts of the slices.
 use Rattle.std.proofs.Common.{◌≡◌, ◌≤◌, ◌<◌, ◌^◌, ◌+◌, ◌*◌, ◌-◌, ◌∙◌, ◌&&◌, ℕ, zero, suc, inl, inr, Bool, true, false, nat_le, if◌then◌else◌, List, [], ◌∷◌, ◌++◌, length, take, drop, get_or, append_assoc, None, Option, Result, Ok, Err, refl, sym, ap, subst, arith}
 use Rattle.std.specs.List.{list_any}
 use Rattle.std.specs.Result.{is_err, is_ok}

@@ -262,7 +262,7 @@ keeps_either true calls old new made fat e is shows =
 pub edit_keeps : (calls : List Call) (old new : List ℕ) (made : MachoType) → container_step calls (first_container old) ≡ Ok made → new ≡ container_bytes made → ShowsFile made new → InEachPart IsKept old new
 edit_keeps calls old new made e is shows = keeps_either (begins_fat old) calls old new made refl e is shows
 
--- and the file's length
+-- an accepted batch keeps the file's length
 long_either : (fat : Bool) (calls : List Call) (old new : List ℕ) (made : MachoType) → container_step calls (if fat then Fat (fat_held_at_read old) else SingleArch (held_at_read old)) ≡ Ok made → ShowsFile made new → length new ≡ length old
 unfolding container_step first_fat_state first_state
 long_either false calls old new made e shows =

@@ -13,11 +13,11 @@ use Rattle.macho_signing.specs.declared.place.Place.{Place}
 abbrev pub layout_of : Directory → Directory
 layout_of d = record d { identifier_len = 0 }
 
--- its identifier, with the NUL behind it, stands in none of its slots
+-- the identifier of a directory, with the NUL behind it, stands in none of its slots
 abbrev pub IsNamedApart : Directory → Type 0
 IsNamedApart d = (d.identifier + d.identifier_len < d.slots) ⊎ (slots_end d ≤ d.identifier)
 
--- so it is in each directory of a part of a file, unless an identity signed it
+-- in each directory of a part of a file, unless an identity signed it, the identifier stands in none of the slots
 abbrev pub IsAdhocNamedApart : Found → Type 0
 IsAdhocNamedApart found = found.has_identity ≡ false → All IsNamedApart found.directories
 
@@ -25,13 +25,13 @@ IsAdhocNamedApart found = found.has_identity ≡ false → All IsNamedApart foun
 abbrev pub TellsSamePlace : List ℕ → List ℕ → Type 0
 TellsSamePlace old new = signature_place new ≡ signature_place old
 
--- and of the same directories, and by an identity or not
+-- two thin files tell of the same place of a signature and of the same directories, and by an identity or not
 pub record TellsSame (old new : List ℕ) : Type 0 where
   pub place : TellsSamePlace old new
   pub directories : thin_directories new ≡ thin_directories old
   pub identity : has_identity new ≡ has_identity old
 
--- and all bytes from where the signature begins are the same
+-- two thin files tell of the same signature, and all bytes from where it begins are the same
 pub record KeepsSignature (old new : List ℕ) : Type 0 where
   pub tells : TellsSame old new
   pub bytes : (place : Place) → signature_place old ≡ Ok (Some place) → drop place.dataoff new ≡ drop place.dataoff old

@@ -13,7 +13,7 @@ pub record IsThinFront (front : List ℕ) : Type 0 where
   pub accepted : file_fault front ≡ None
   pub content : first_content_of front < length front
 
--- such bytes are the first of a file below 4 GiB
+-- the front of a thin file is the first bytes of a file below 4 GiB
 pub record IsFrontOf (front file : List ℕ) : Type 0 where
   pub rest : List ℕ
   pub joined : front ++ rest ≡ file

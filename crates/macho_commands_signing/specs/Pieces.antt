@@ -9,7 +9,7 @@ pub record ArePiecesOf (file new : List ℕ) (pieces : List Piece) : Type 0 wher
   pub inside : All (LiesIn (length file)) (patches_of pieces)
   pub same : laid (patches_of pieces) file ≡ new
 
--- pieces that do, each of which stands in these
+-- pieces that lie in a file's bytes, and make of them these, and each of which stands in these
 pub record ArePartsOf (file new : List ℕ) (pieces : List Piece) : Type 0 where
   pub inside : All (LiesIn (length file)) (patches_of pieces)
   pub same : laid (patches_of pieces) file ≡ new

@@ -39,7 +39,7 @@ pub record IsFrontAt (known : Option (List ℕ)) (arch : FatArch) (front : Slice
   pub thin : IsThinFront front.bytes.items
   pub read : IsAt known arch.offset front.bytes.items
 
--- those of all slices
+-- the fronts of all slices
 abbrev pub AreFrontsOf : Option (List ℕ) → List FatArch → List SliceFront → Type 0
 AreFrontsOf known archs fronts = AllZip (IsFrontAt known) archs fronts
 

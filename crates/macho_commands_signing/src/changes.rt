@@ -115,8 +115,9 @@ fn put(bytes: &mut [u8], at: usize, part: &[u8])
     bytes[at..at + part.len()].copy_from_slice(part);
 }
 
-/// Pieces in the places of others, with what stands there in the bytes that those make of a file. So each of them stands in
-/// these, also where others are laid over one another. Error: `AllocError`.
+/// Pieces in the places of others, with what stands there in the bytes that those make of a file.
+/// So each piece stands in the bytes that all make, also where the others are laid over one
+/// another. Error: `AllocError`.
 pub fn standing_pieces<'a>(
     alloc: Global,
     bytes: &'a [u8],

@@ -13,13 +13,13 @@ use std::alloc::Global;
 /// How many bytes are read first where a front may be enough.
 pub(crate) const FRONT: usize = 1 << 16;
 
-/// How many are read next, where content begins behind those.
+/// How many bytes are read next, where content begins behind the ones that are read first.
 pub(crate) const LONG_FRONT: usize = 1 << 20;
 
 /// Bytes of a file that were read for an edit of it.
 #[derive(Drop)]
 pub struct Loaded {
-    /// Its first bytes.
+    /// The file's first bytes.
     pub bytes: Vec<u8>,
     /// How many bytes it has, if it has no more than `MOST_BYTES`.
     pub length: u64,

@@ -27,7 +27,7 @@ pub struct SliceFront {
     pub offset: u64,
     /// How many bytes it has.
     pub size: u32,
-    /// Its first bytes.
+    /// The slice's first bytes.
     pub bytes: Vec<u8>,
 }
 
@@ -157,7 +157,7 @@ fn are_rising(archs: &[FatArch], start: u64, size: u64) -> bool
     end <= size
 }
 
-/// The front of each slice; `None` where one of them has none.
+/// The front of each slice; `None` where a slice has none.
 fn fronts_of<S: Store>(
     alloc: Global,
     store: &mut S,
@@ -201,7 +201,7 @@ fn front_of<S: Store>(
     front_within(alloc, store, arch, LONG_FRONT)
 }
 
-/// The same of at most so many bytes.
+/// The front of a slice, of at most so many bytes; `None` where what was read of it is none.
 fn front_within<S: Store>(
     alloc: Global,
     store: &mut S,

@@ -77,7 +77,7 @@ pub length-text_behind : (order : ByteOrder2) (numbers text with_text : List ℕ
 length-text_behind order numbers text with_text e =
     omega (arith, ap length e, length-append (fields order numbers) text, length-fields order numbers)
 
--- and at last the zeros
+-- the zeros stand behind the text of a command
 pub zeros_behind : (order : ByteOrder2) (numbers text with_text whole : List ℕ) (size n : ℕ) → with_text ≡ fields order numbers ++ text → n ≡ length with_text → whole ≡ with_text ++ replicate (size - n) 0 → whole ≡ fields order numbers ++ padded_text size (4 * length numbers) text
 zeros_behind order numbers text with_text whole size n e l f =
     let P : ℕ → Type 0 = λ n. whole ≡ with_text ++ replicate (size - n) 0 in

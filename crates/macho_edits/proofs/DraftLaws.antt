@@ -16,7 +16,7 @@ pub replaced : (old new : List StringValue) (i : ℕ) (s : StringValue) (bytes :
 replaced old new i s bytes is owned =
     ap bytes_of_each is ∙ map-set (λ (x : StringValue). x.bytes) old i s ∙ ap (λ (x : StringValue). set (bytes_of_each old) i x.bytes) owned
 
--- one of them less
+-- one command less in a list
 pub removed : (old new : List StringValue) (i : ℕ) → new ≡ remove old i → remove (bytes_of_each old) i ≡ bytes_of_each new
 removed old new i is =
     let f : StringValue → List ℕ = λ x. x.bytes in

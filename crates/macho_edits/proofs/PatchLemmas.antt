@@ -19,7 +19,7 @@ put_mid-parts front part back filled a k la lk =
     let behind : drop a (front ++ (part ++ back)) ≡ part ++ back = drop_at front (part ++ back) a la in
     rw (take_at front (part ++ back) a la, behind, drop_at part back k lk) refl
 
--- so many bytes from `at` on, which are turned to the end of the part that ends at `end`
+-- bytes of a list from `at` on, which are turned to the end of the part that ends at `end`
 abbrev part_of : List ℕ → ℕ → ℕ → List ℕ
 part_of xs at end = take (end - at) (drop at xs)
 
@@ -58,7 +58,7 @@ length-turned_end xs rotated at size end order room e =
     let count : end - (end - size) ≡ size = omega arith in
     rw (e, is.whole, count, drop_at (front_of xs at size end) (take size (part_of xs at end) ++ drop end xs) (end - size) is.length_front, take_at (take size (part_of xs at end)) (drop end xs) size is.length_gone) is.length_gone
 
--- and the bytes behind the part's start close up where they are filled
+-- the bytes behind the part's start close up where they are filled
 pub closed_up : (xs rotated filled : List ℕ) (at size end : ℕ) → at + size ≤ end → end ≤ length xs → rotated ≡ turned xs at size end → put_mid (end - size) (end - (end - size)) (put_mid at (end - at) xs rotated) filled ≡ take at xs ++ (take (end - (at + size)) (drop (at + size) xs) ++ (filled ++ drop end xs))
 closed_up xs rotated filled at size end order room e =
     let is : IsTurned xs at size end = is_turned xs at size end order room in
@@ -152,7 +152,7 @@ inserted-made ctx bytes command at count size is counted sized =
     laid_over ctx bytes (take at bytes ++ behind) (area_with ctx bytes at command) count size (end + length command) (omega (arith, length-append (take at bytes) behind)) same (shown ∙ sym wanted) (sized ∙ sym area)
     ∙ ap (λ (n : ℕ). with_area ctx bytes n (area_with ctx bytes at command) (end + length command)) counted
 
--- and the header with them
+-- the header once the counts are written
 pub header_of-inserted : (ctx : Ctx) (bytes command : List ℕ) (at : ℕ) → InsertsAt ctx bytes at (length command) → ncmds_of ctx bytes + 1 < 2 ^ 32 → sizeofcmds_of ctx bytes + length command < 2 ^ 32 → header_of ctx (inserted_command ctx bytes at command) ≡ record (header_of ctx bytes) { ncmds = ncmds_of ctx bytes + 1; sizeofcmds = sizeofcmds_of ctx bytes + length command }
 unfolding inserted_command
 header_of-inserted ctx bytes command at is count size =

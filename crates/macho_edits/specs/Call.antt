@@ -1,4 +1,4 @@
--- The five edits of a list of load commands, and why one of them is refused, apart from memory.
+-- The five edits of a list of load commands, and why an edit is refused, apart from memory.
 use Rattle.std.specs.Prelude.{ℕ, List}
 
 -- what is asked

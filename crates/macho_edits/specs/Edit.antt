@@ -23,7 +23,7 @@ call_of (ChangeInstallName old new) = change_install_name old.now new.now
 abbrev pub calls_lent : List Edit → List Call
 calls_lent edits = map call_of edits
 
--- their new texts are bytes
+-- the new texts of edits are bytes
 abbrev pub AreTexts : List Edit → Type 0
 AreTexts edits = All TextsAreBytes (calls_lent edits)
 

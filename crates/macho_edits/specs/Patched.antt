@@ -84,7 +84,7 @@ abbrev pub id_in : CommandVariant → Option DylibCommand
 id_in (IdDylib fields) = Some fields
 id_in _ = None
 
--- such a command with its fields
+-- a command that holds an rpath, or the name of a library, with its fields
 abbrev pub as_rpath : LoadCommand → Option (LoadCommand × RpathCommand)
 as_rpath c = option_map (λ fields. (c, fields)) (rpath_in c.command)
 

@@ -78,7 +78,7 @@ fn text(string: &String) -> &str
 }
 
 impl MachoEdit {
-    // The same edit with lent texts.
+    // The edit with its texts lent.
     pub fn lend(&self) -> Edit<'_>
         ensures call { call_of result ≡ call_made self.now }
         ensures bytes { TextsAreBytes (call_of result) }
@@ -93,7 +93,7 @@ impl MachoEdit {
     }
 }
 
-/// The same edits with lent texts.
+/// The edits with their texts lent.
 pub fn lend_all(alloc: Global, edits: &[MachoEdit]) -> Result<Vec<Edit<'_>>, AllocError>
     ensures calls { IfOk result (λ lent. calls_lent lent.items ≡ calls_of edits.now) }
     ensures texts { IfOk result (λ lent. AreTexts lent.items) }

@@ -35,7 +35,7 @@ fields_fault-none order c is =
 pub cmdsize_of-append : (order : ByteOrder2) (c rest : List ℕ) → IsCommand order c → cmdsize_of order (c ++ rest) ≡ length c
 cmdsize_of-append order c rest is = number_at-append_left order 4 4 c rest is.header ∙ is.says_size
 
--- and passes its checks there
+-- a command at the head of bytes passes its checks there
 pub command_fault-none : (order : ByteOrder2) (c rest : List ℕ) → IsCommand order c → command_fault order (c ++ rest) ≡ None
 unfolding command_fault
 command_fault-none order c rest is =
@@ -61,7 +61,7 @@ area_fault-concat order (c ∷ cs) all =
     let left : drop (length c) (c ++ concat cs) ≡ concat cs = drop_at c (concat cs) (length c) refl in
     rw (passes, size, left) (area_fault-concat order cs (All-tail (IsCommand order) c cs all))
 
--- and are cut where they were joined
+-- commands end to end are cut where they were joined
 pub cut-concat : (order : ByteOrder2) (cs : List (List ℕ)) → All (IsCommand order) cs → cut_commands order (length cs) (concat cs) ≡ cs
 cut-concat order [] all = refl
 cut-concat order (c ∷ cs) all =

@@ -74,7 +74,7 @@ fields_pass order c pass =
     let text = passes outside BadNameOffset None size.1 in
     (ltb-false (length c) (least_size order c) size.0, λ kind. ltb-false (length c) (text_offset order c) (second_false _ _ text.0 kind))
 
--- and what those of a command show
+-- what the checks of a command show
 pub command_passes : (order : ByteOrder2) (rest : List ℕ) → command_fault order rest ≡ None → (8 ≤ cmdsize_of order rest) × (cmdsize_of order rest ≤ length rest) × (fields_fault order (take (cmdsize_of order rest) rest) ≡ None)
 unfolding command_fault
 command_passes order rest pass =

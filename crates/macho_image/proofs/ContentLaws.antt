@@ -27,7 +27,7 @@ least-le_each n (x ∷ xs) =
     let here = least-le (min n x) xs in
     All-cons (λ y. least (min n x) xs ≤ y) x xs (omega arith) (least-le_each (min n x) xs)
 
--- and is one of them
+-- the least of a number and others is one of them
 one_more : (n x : ℕ) (xs : List ℕ) → IsOneOf n xs → IsOneOf n (x ∷ xs)
 one_more n x xs one = record { index = suc one.index; within = let w = one.within in omega arith; is = one.is }
 
@@ -58,7 +58,7 @@ least_more_sections f order all so_far next count i rest within before is =
     let step = rw left at before in
     rw (take_rest rest f.section, is) (sym (least-append so_far (section_content f order rest) (sections_content f order (count - (i + 1)) (drop f.section rest))) ∙ step)
 
--- and the room for the others
+-- the room for the sections that are left
 pub room_for_more : (size count i : ℕ) (rest : List ℕ) → i < count → size * (count - i) ≤ length rest → size * (count - (i + 1)) ≤ length (take (length rest - size) (drop size rest))
 room_for_more size count i rest within room =
     let left : count - i ≡ suc (count - (i + 1)) = omega arith in

@@ -16,12 +16,12 @@ pub both_pass : (first next : Option MachFault) → or_else first next ≡ None 
 both_pass (Some fault) next pass = cc
 both_pass None next pass = (refl, pass)
 
--- as many commands as were asked for
+-- as many commands are cut as were asked for
 pub length-cut : (order : ByteOrder2) (n : ℕ) (area : List ℕ) → length (cut_commands order n area) ≡ n
 length-cut order zero area = refl
 length-cut order (suc n) area = ap suc (length-cut order n (drop (cmdsize_of order area) area))
 
--- they fill the area
+-- the commands that are cut fill the area
 pub concat-cut : (order : ByteOrder2) (n : ℕ) (area : List ℕ) → area_fault order n area ≡ None → concat (cut_commands order n area) ≡ area
 concat-cut order zero [] pass = refl
 concat-cut order zero (b ∷ rest) pass = cc
@@ -30,7 +30,7 @@ concat-cut order (suc n) area pass =
     let later = both_pass (command_fault order area) (area_fault order n (drop k area)) pass in
     ap (λ xs. take k area ++ xs) (concat-cut order n (drop k area) later.1) ∙ take-append-drop k area
 
--- and each is a command
+-- each part that is cut is a command
 pub cut_are_commands : (order : ByteOrder2) (n : ℕ) (area : List ℕ) → area_fault order n area ≡ None → All (IsCommand order) (cut_commands order n area)
 cut_are_commands order zero area pass = All-nil (IsCommand order)
 cut_are_commands order (suc n) area pass =

@@ -52,7 +52,7 @@ magic_passes : (told : Option Ctx) (other : Ctx) (bytes : List ℕ) → magic_fa
 magic_passes None other bytes pass = cc
 magic_passes (Some ctx) other bytes pass = (refl, pass)
 
--- and those of a file
+-- what the checks of a file show
 pub file_passes : (bytes : List ℕ) → file_fault bytes ≡ None → (length bytes < 2 ^ 32) × (form_of bytes ≡ Some (ctx_of bytes)) × (form_fault (ctx_of bytes) bytes ≡ None)
 unfolding file_fault ctx_of
 file_passes bytes pass =

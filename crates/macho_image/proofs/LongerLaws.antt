@@ -26,7 +26,7 @@ longer_file front rest ctx commands short is =
       each = is.each;
     }
 
--- it is accepted, and has the same form and the same commands
+-- a file that begins as an accepted one is accepted, and has the same form and the same commands
 pub accepts : (front rest : List ℕ) → length (front ++ rest) < 2 ^ 32 → file_fault front ≡ None → (file_fault (front ++ rest) ≡ None) × (ctx_of (front ++ rest) ≡ ctx_of front) × (commands_of (front ++ rest) ≡ commands_of front)
 accepts front rest short ok = only (front ++ rest) (ctx_of front) (commands_of front) (longer_file front rest (ctx_of front) (commands_of front) short (found front ok))
 
@@ -34,7 +34,7 @@ accepts front rest short ok = only (front ++ rest) (ctx_of front) (commands_of f
 pub least_length : (front : List ℕ) → file_fault front ≡ None → (28 ≤ header_size (ctx_of front).container) × (header_size (ctx_of front).container + length (concat (commands_of front)) ≤ length front)
 least_length front ok = (header_size-least (ctx_of front).container, (found front ok).room)
 
--- its commands end in it, and there in the longer file too
+-- the commands of an accepted file end in it, and there in a longer file too
 pub commands_within : (front : List ℕ) → file_fault front ≡ None → commands_end (ctx_of front) front ≤ length front
 commands_within front ok =
     let is : IsFile front (ctx_of front) (commands_of front) = found front ok in

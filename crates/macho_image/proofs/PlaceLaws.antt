@@ -114,7 +114,7 @@ pub record StandsAt (bytes : List ℕ) (i offset size : ℕ) : Type 0 where
   pub inside : offset + size ≤ length bytes
   pub stands : take size (drop offset bytes) ≡ get_or (commands_of bytes) i []
 
--- so does the one whose fields were kept
+-- the command whose fields were kept stands at its offset with its size
 pub found_stands : (bytes : List ℕ) (items : List LoadCommand) (i : ℕ) (found : LoadCommand) (size : ℕ) → file_fault bytes ≡ None → items ≡ load_commands_of bytes → i < length (commands_of bytes) → found ≡ get_or items i found → size ≡ variant_size found.command → StandsAt bytes i found.offset size
 found_stands bytes items i found size pass kept within read sized =
     let order = (ctx_of bytes).le in

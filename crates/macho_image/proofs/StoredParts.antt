@@ -79,7 +79,7 @@ take-with_area_front ctx old count area high fits =
     let parts : Lengths ctx old area high count (length area) = lengths ctx old area high count (length area) fits in
     take_at (take 16 old) _ 16 parts.front
 
--- and so are the fields behind the counts
+-- the fields behind the counts are as before
 drop-with_area_counts : (ctx : Ctx) (old : List ℕ) (count : ℕ) (area : List ℕ) (high : ℕ) → Fits ctx old area high → drop 24 (with_area ctx old count area high) ≡ fields_behind ctx old ++ behind_header ctx old area high
 unfolding with_area
 drop-with_area_counts ctx old count area high fits =
@@ -130,13 +130,13 @@ sizeofcmds-with_area ctx old count area high fits small =
     ∙ number_at-append_right ctx.le 4 4 0 (bytes_of ctx.le 4 count) (bytes_of ctx.le 4 (length area) ++ rest) parts.counts
     ∙ number_at-bytes_of ctx.le 4 (length area) rest small
 
--- the other numbers of the header are as before: those before the counts, in either order
+-- the numbers of the header before the counts are as before, in either order
 pub number_at-with_area_front : (order : ByteOrder2) (n pos : ℕ) (ctx : Ctx) (old : List ℕ) (count : ℕ) (area : List ℕ) (high : ℕ) → Fits ctx old area high → pos + n ≤ 16 → number_at order n pos (with_area ctx old count area high) ≡ number_at order n pos old
 number_at-with_area_front order n pos ctx old count area high fits small =
     let new : List ℕ = with_area ctx old count area high in
     sym (number_at-take order n 16 pos new small) ∙ ap (number_at order n pos) (take-with_area_front ctx old count area high fits) ∙ number_at-take order n 16 pos old small
 
--- and those behind the counts
+-- the numbers of the header behind the counts are as before
 pub number_at-with_area_fields : (order : ByteOrder2) (n pos : ℕ) (ctx : Ctx) (old : List ℕ) (count : ℕ) (area : List ℕ) (high : ℕ) → Fits ctx old area high → 24 + pos + n ≤ header_size ctx.container → number_at order n (24 + pos) (with_area ctx old count area high) ≡ number_at order n (24 + pos) old
 number_at-with_area_fields order n pos ctx old count area high fits small =
     let new : List ℕ = with_area ctx old count area high in

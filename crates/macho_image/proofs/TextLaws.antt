@@ -52,7 +52,7 @@ before_nul-all (b ∷ text) none =
     let left : before_nul text ≡ text = before_nul-all text (All-tail P b text none) in
     rw (here, left) refl
 
--- and before zeros
+-- the text before zeros
 pub before_nul-zeros : (text : List ℕ) (n : ℕ) → HoldsNoNul text → before_nul (text ++ replicate n 0) ≡ text
 before_nul-zeros text zero none = ap before_nul (append-nil text) ∙ before_nul-all text none
 before_nul-zeros text (suc n) none = before_nul-append text (replicate n 0) none

@@ -34,7 +34,7 @@ abbrev pub is_load_kind : ℕ → Bool
 is_load_kind cmd =
     cmd == LC_LOAD_DYLIB || cmd == LC_LOAD_UPWARD_DYLIB || cmd == LC_REEXPORT_DYLIB || cmd == LC_LOAD_WEAK_DYLIB || cmd == LC_LAZY_LOAD_DYLIB
 
--- those and the library's own name
+-- the kinds that load a library, and that of the library's own name
 abbrev pub is_dylib_kind : ℕ → Bool
 is_dylib_kind cmd = is_load_kind cmd || cmd == LC_ID_DYLIB
 

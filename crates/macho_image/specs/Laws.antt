@@ -12,17 +12,17 @@ use Rattle.macho_image.specs.Form.{ctx_of}
 abbrev pub AcceptedIsFile : Type 0
 AcceptedIsFile = (bytes : List ℕ) → file_fault bytes ≡ None → IsFile bytes (ctx_of bytes) (commands_of bytes)
 
--- it has no fault, this form and these commands
+-- bytes have no fault, and this form and these commands
 pub record ShowsCommands (bytes : List ℕ) (ctx : Ctx) (commands : List (List ℕ)) : Type 0 where
   pub accepted : file_fault bytes ≡ None
   pub form : ctx_of bytes ≡ ctx
   pub list : commands_of bytes ≡ commands
 
--- so has every file of a form with commands
+-- every file of a form with commands has no fault, and that form and those commands
 abbrev pub FileIsAccepted : Type 0
 FileIsAccepted = (bytes : List ℕ) (ctx : Ctx) (commands : List (List ℕ)) → IsFile bytes ctx commands → ShowsCommands bytes ctx commands
 
--- the same of fat files, up to where their slices are looked into
+-- a table without a fault is that of a fat file, and the other way round, up to where its slices are looked into
 abbrev pub AcceptedIsFatFile : Type 0
 AcceptedIsFatFile = (bytes : List ℕ) → table_fault bytes ≡ None → IsFatFile bytes (archs_of bytes)
 

@@ -16,7 +16,7 @@ pub record NewArea : Type 0 where
 abbrev pub copy_for : Image → Option (List ℕ)
 copy_for image = if image.is_edited then None else Some image.bytes
 
--- it was made for an image like this one, with this area
+-- the area was made for an image like this one, with these bytes
 pub record IsMadeFor (image : Image) (count : ℕ) (area : List ℕ) (made : NewArea) : Type 0 where
   pub same_form : made.form ≡ ctx_of image.bytes
   pub same_count : made.count ≡ count

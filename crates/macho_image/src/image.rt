@@ -68,7 +68,8 @@ impl<'a> MachO<'a> {
         })
     }
 
-    /// The same for bytes that the file then owns; where it is refused they are dropped.
+    /// Parses bytes that the file then owns, by the checks of `parse`; where it is refused they are
+    /// dropped.
     pub fn parse_owned(alloc: Global, bytes: Vec<u8>) -> Result<MachO<'a>, MachFault>
         ensures { MatchResult result
             (λ m. (file_fault bytes.items ≡ None) × (m ≡ fresh_image bytes.items))

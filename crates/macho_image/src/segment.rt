@@ -9,10 +9,10 @@ use patch_bytes::{ByteOrder2, Wide};
 // A type of section that has no bytes in the file: zeros.
 const S_ZEROFILL: u32 = 0x1;
 
-// Another: zeros, of which there can be more than 4 GiB.
+// A type of section that has no bytes in the file: zeros, of which there can be more than 4 GiB.
 const S_GB_ZEROFILL: u32 = 0xc;
 
-// Another: zeros of each thread.
+// A type of section that has no bytes in the file: zeros of each thread.
 const S_THREAD_LOCAL_ZEROFILL: u32 = 0x12;
 
 /// Where the fields of a segment command and of its sections stand, in one width.
@@ -118,7 +118,8 @@ impl SegmentLayout {
         self.lower_by_sections(order, nsects, &command[self.fixed..], first)
     }
 
-    // The same for sections that stand one behind the other.
+    // The lesser of a position and of where the content of sections begins that stand one behind
+    // the other. Takes no memory.
     fn lower_by_sections(
         self,
         order: ByteOrder2,
@@ -139,7 +140,7 @@ impl SegmentLayout {
         first
     }
 
-    // The same for one section.
+    // The lesser of a position and of where the content of one section begins. Takes no memory.
     #[tactic(auto, unfolding(crate::specs::Command::section_content))]
     fn lower_by_section(self, order: ByteOrder2, section: &[u8], so_far: usize) -> usize
         requires { self.section ≤ length section.now }

@@ -9,7 +9,7 @@ pub header_fault : (n : ℕ) (d : List ℕ) → is_header_bad d ≡ true → dir
 unfolding directory_fault
 header_fault n d bad = rw bad refl
 
--- they are, and the slots don't lie behind them
+-- a directory that has its fields, and whose slots don't lie behind them
 pub slots_fault : (n : ℕ) (d : List ℕ) (fixed : ℕ) (answer : Bool) → is_header_bad d ≡ false → fixed ≡ fixed_size (version_of d) → answer ≡ are_slots_outside fixed d → answer ≡ true → directory_fault n d ≡ Some BadDirectory
 unfolding directory_fault
 slots_fault n d fixed answer good size told bad =

@@ -52,7 +52,7 @@ none_bad_of len end len' end' n s made first second is good =
 pub all_blobs : (s : List ℕ) (i n : ℕ) (made : List Blob) → i ≤ n → n ≤ i → made ≡ first_blobs s i → made ≡ first_blobs s n
 all_blobs s i n made below above is = let e : i ≡ n = omega arith in is ∙ ap (first_blobs s) e
 
--- what it is to be good, in numbers
+-- what it is for a blob to be good, in numbers
 pub good_blob : (len end : ℕ) (b : Blob) → is_bad_blob len end b ≡ false → (end ≤ b.offset) × (8 ≤ b.size) × (b.offset + b.size ≤ len)
 good_blob len end b good =
     let third = nat_lt b.size 8 || nat_lt len (b.offset + b.size) in

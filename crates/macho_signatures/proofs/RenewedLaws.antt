@@ -219,7 +219,7 @@ fits_laid start ds touched old k page e placed here inside touches =
     let size : hash_size d.hash ≡ length (hash_bytes (page_hash d page old)) = sym (length-page_hash d page old) in
     ap (λ (n : ℕ). take n (drop (slot_place d page) new)) size ∙ reads ∙ ap hash_bytes (sym same)
 
--- so what is laid is made anew
+-- what is laid over the file is made anew
 pub is_renewed : (start : ℕ) (ds : List Directory) (touched : List ByteRange) (old new : List ℕ) → ArePlaced start (length old) ds → new ≡ laid (renewed_slots ds touched old) old → IsRenewed ds touched old new
 is_renewed start ds touched old new placed made =
     let slots : List Slot = renewed_slots ds touched old in

@@ -92,7 +92,7 @@ answers_bytes start s blobs (Err e) pass are all told = λ other. rw pass (told 
 pub super_fault : (start : ℕ) (s : List ℕ) (e : SignatureFault) → or_else (header_fault s) (blobs_fault s) ≡ Some e → bytes_fault start s ≡ Some e
 super_fault start s e fault = rw fault refl
 
--- and to the file
+-- what is answered to a file with the bytes of a signature
 abbrev pub Answers : ℕ → ℕ → List ℕ → Result Signature SignatureFault → Type 0
 Answers start size bytes r =
     MatchResult r

@@ -92,7 +92,7 @@ pub record HasFields (d : List ℕ) : Type 0 where
 
 -- ## Checks
 
--- it is too short for its version's fields, or has another magic, or a version that isn't known
+-- a directory is too short for its version's fields, or has another magic, or a version that isn't known
 unfoldable pub is_header_bad : List ℕ → Bool
 is_header_bad d =
     nat_lt (length d) 12 || (not (number32 0 d == DIRECTORY_MAGIC)

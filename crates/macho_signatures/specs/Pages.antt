@@ -16,7 +16,7 @@ abbrev pub hash_of : HashKind → List ℕ → PageHash
 hash_of Sha1 bytes = PageHash.Sha1 (sha1 bytes)
 hash_of Sha256 bytes = PageHash.Sha256 (sha256 bytes)
 
--- its bytes
+-- the bytes of a hash
 abbrev pub hash_bytes : PageHash → List ℕ
 hash_bytes (PageHash.Sha1 hash) = hash
 hash_bytes (PageHash.Sha256 hash) = hash
@@ -28,7 +28,7 @@ page_start d page = page * d.page_size
 abbrev pub page_end : Directory → ℕ → ℕ
 page_end d page = min (page * d.page_size + d.page_size) d.limit
 
--- its bytes
+-- the bytes of a page
 abbrev pub page_of : Directory → ℕ → List ℕ → List ℕ
 page_of d page bytes = take (page_end d page - page_start d page) (drop (page_start d page) bytes)
 
@@ -51,11 +51,11 @@ is_fit d bytes page = bytes_eq (slot_of d page bytes) (hash_bytes (page_hash d p
 abbrev pub pages_of : Directory → List ℕ
 pages_of d = range_with_len 0 d.count
 
--- those whose slots don't hold their hashes, with the number of the directory
+-- the pages of a directory whose slots don't hold their hashes, with the number of the directory
 unfoldable pub unfit_in : ℕ → Directory → List ℕ → List UnfitPage
 unfit_in number d bytes = map (λ page. record { directory = number; page = page }) (filter (λ page. not (is_fit d bytes page)) (pages_of d))
 
--- those of several directories, the first of which has this number
+-- the pages of several directories whose slots don't hold their hashes; the first directory has this number
 abbrev pub unfit_from : ℕ → List Directory → List ℕ → List UnfitPage
 unfit_from number [] bytes = []
 unfit_from number (d ∷ ds) bytes = unfit_in number d bytes ++ unfit_from (number + 1) ds bytes
@@ -64,7 +64,7 @@ unfit_from number (d ∷ ds) bytes = unfit_in number d bytes ++ unfit_from (numb
 unfoldable pub do_pages_fit : List Directory → List ℕ → Bool
 do_pages_fit ds bytes = list_all (λ d. list_all (is_fit d bytes) (pages_of d)) ds
 
--- the same as a statement
+-- the slot of a page holds the hash of the page
 unfoldable pub Fits : Directory → List ℕ → ℕ → Type 0
 Fits d bytes page = slot_of d page bytes ≡ hash_bytes (page_hash d page bytes)
 

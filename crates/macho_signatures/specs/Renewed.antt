@@ -23,7 +23,7 @@ slot_for d bytes page = record { place = slot_place d page; hash = page_hash d p
 unfoldable pub slots_in : Directory → List ByteRange → List ℕ → List Slot
 slots_in d touched bytes = map (slot_for d bytes) (filter (is_touched d touched) (pages_of d))
 
--- those of each directory
+-- the slots of the pages of each directory that are touched
 abbrev pub renewed_slots : List Directory → List ByteRange → List ℕ → List Slot
 renewed_slots ds touched bytes = flat_map (λ d. slots_in d touched bytes) ds
 

@@ -36,7 +36,7 @@ pub record Fields : Type 0 where
   pub hash_type : ℕ
   pub exponent : ℕ
 
--- its bytes: the fields, and what stands behind them
+-- the bytes of a directory: the fields, and what stands behind them
 abbrev pub directory : Fields → List ℕ → List ℕ
 directory f rest =
     word f.magic ++ (word 78 ++ (word f.version ++ (word 2 ++ (word f.hash_offset ++ (word f.ident_offset ++ (word f.special ++ (word f.count

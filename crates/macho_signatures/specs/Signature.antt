@@ -90,7 +90,7 @@ pub record LiesIn (len : ℕ) (d : Directory) : Type 0 where
   pub limit : d.limit ≤ len
   pub within : slots_end d ≤ len
 
--- the same where the signature begins at this place: pages end before it, and slots lie in it
+-- a directory in a file of this length where the signature begins at this place: pages end before it, and slots lie in it
 pub record IsPlaced (start len : ℕ) (d : Directory) : Type 0 where
   pub lies : LiesIn len d
   pub before : d.limit ≤ start

@@ -8,9 +8,9 @@ use std::fmt;
 /// Why the bytes that `LC_CODE_SIGNATURE` names are no code signature that is read here: the first check that fails.
 #[derive(Clone, Copy, Debug, PartialEq, Eq)]
 pub enum SignatureFault {
-    /// They end past the file's end.
+    /// The bytes end past the file's end.
     Outside,
-    /// They don't begin with a SuperBlob.
+    /// The bytes don't begin with a SuperBlob.
     NoSuperBlob,
     /// The SuperBlob's length is less than its header's, or more than there is.
     BadLength,

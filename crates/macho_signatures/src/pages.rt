@@ -1,4 +1,4 @@
-//! Pages, their hashes, and whether their slots hold these.
+//! Pages, their hashes, and whether their slots hold the hashes.
 ghost use Rattle.std.specs.Prelude.{◌≡◌, ◌+◌, ◌-◌, ◌*◌, ◌^◌, ◌<◌, ◌≤◌, ◌++◌, All, IfOk, OnOk, length};
 ghost use Rattle.std.specs.List.{list_all};
 ghost use Rattle.macho_signatures.specs.Directory.{hash_size};
@@ -21,7 +21,7 @@ pub enum PageHash {
 }
 
 impl PageHash {
-    /// Its bytes, as they stand in a slot.
+    /// The bytes of the hash, as they stand in a slot.
     pub fn as_slice(&self) -> &[u8]
         ensures { result.now ≡ hash_bytes self.now }
     {

@@ -31,7 +31,7 @@ pub const CMS_MAGIC: u32 = 0xfade_0b01;
 pub struct Signature {
     /// Where it begins in the thin file.
     pub start: usize,
-    /// Its code directories, in the order of its index.
+    /// The signature's code directories, in the order of its index.
     pub directories: Vec<Directory>,
     /// Whether an identity signed. If not, the signature is ad hoc.
     pub is_signed: bool,

@@ -49,7 +49,7 @@ page_within d page front rest begins ends =
     let room : n ≤ length (drop start front) = omega (arith, begins, ends, length-drop start front) in
     ap (take n) (drop-append-le start front rest begins) ∙ take-append-le n (drop start front) rest room
 
--- and its hash
+-- the hash of a page in the front
 pub hash_within : (d : Directory) (page start end : ℕ) (front rest : List ℕ) (hash : PageHash) → start ≡ page_start d page → end ≡ page_end d page → start ≤ length front → end ≤ length front → hash ≡ hash_of d.hash (take (end - start) (drop start front)) → hash ≡ page_hash d page (front ++ rest)
 unfolding page_hash
 hash_within d page start end front rest hash first last begins ends told =

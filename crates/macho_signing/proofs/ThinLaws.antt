@@ -97,7 +97,7 @@ pub held_slots : (pages : Pages) (bytes : List ℕ) (found : Signature) → Hold
 unfolding thin_slots
 held_slots pages bytes found holds is = ap (λ (ds : List Directory). renewed_slots ds (touched_by pages bytes) bytes) (sym (held_directories bytes found holds is))
 
--- it begins in the file
+-- a signature begins in the file
 inside_of : (start size : ℕ) (bytes : List ℕ) → signature_fault start size bytes ≡ None → start ≤ length bytes
 unfolding signature_fault
 inside_of start size bytes none =
@@ -125,7 +125,7 @@ none_touch pages bytes is = rw is refl
 
 -- ## Slots
 
--- they lie in the file
+-- the slots of a thin file lie in the file
 pub thin_slots_lie : (pages : Pages) (bytes : List ℕ) → AreSlotsPlaced bytes → All (SlotLies (length bytes)) (thin_slots pages bytes)
 unfolding thin_slots
 thin_slots_lie pages bytes are = slots_lie are.start (length bytes) (adhoc_directories bytes) (touched_by pages bytes) bytes are.placed

@@ -26,7 +26,7 @@ part_checked bytes part = record {
   unfit = unfit_from 0 (thin_directories (part_bytes bytes part)) (part_bytes bytes part);
 }
 
--- the same of each part
+-- what is found of each part of a file
 unfoldable pub parts_checked : List ℕ → List Found
 parts_checked bytes = map (part_checked bytes) (parts_of bytes)
 

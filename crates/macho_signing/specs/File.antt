@@ -53,7 +53,7 @@ pub record AreParts (len : ℕ) (parts : List Part) : Type 0 where
 
 -- ## Slots
 
--- the other bytes, if there are any, have the part too
+-- the bytes that pages are compared with, if there are any, have the part too
 abbrev pub HasPart : Pages → Part → Type 0
 HasPart all part = ⊤
 HasPart (since old) part = IsInside (length old) part

@@ -9,7 +9,7 @@ use Rattle.macho_signing.specs.Thin.{AreSlotsPlaced, Pages, has_identity, renewa
 use Rattle.macho_signing.specs.declared.place.Place.{Place}
 use Rattle.macho_signing.specs.declared.thin.ThinSlots.{ThinSlots}
 
--- it holds of all files with the same bytes behind these first ones, before and after an edit of them
+-- a relation holds of all files with the same bytes behind these first ones, before and after an edit of them
 abbrev pub AreEdits : List ℕ → List ℕ → (List ℕ → List ℕ → Type 0) → Type 0
 AreEdits old new Holds = (rest : List ℕ) → Holds (old ++ rest) (new ++ rest)
 

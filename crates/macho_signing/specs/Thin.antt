@@ -107,7 +107,7 @@ abbrev pub pages_of : Scope → Pages
 pages_of scope.All = all
 pages_of (scope.Since old) = since old.now
 
--- the other bytes are as many
+-- the bytes that pages are compared with are as many
 abbrev pub AreAsLong : Pages → List ℕ → Type 0
 AreAsLong all bytes = ⊤
 AreAsLong (since old) bytes = length old ≡ length bytes

@@ -17,7 +17,7 @@ use std::alloc::{AllocError, Global};
 pub struct Checked {
     /// The part.
     pub part: Part,
-    /// Its signature, if it has one.
+    /// The part's signature, if it has one.
     pub signature: Option<Signature>,
     /// The pages whose slots don't hold their hashes, by directories and then by pages; none without a signature.
     pub unfit: Vec<UnfitPage>,
@@ -40,7 +40,7 @@ pub fn check_file(alloc: Global, bytes: &[u8]) -> Result<Vec<Checked>, SigningFa
     check_parts(alloc, bytes, &parts)
 }
 
-// The same of some parts.
+// What is found of the signature of each of some parts of a file.
 fn check_parts(alloc: Global, bytes: &[u8], parts: &[Part]) -> Result<Vec<Checked>, SigningFault>
     requires { All (IsInside (length bytes.now)) parts.now }
     ensures { MatchResult result
@@ -57,7 +57,7 @@ fn check_parts(alloc: Global, bytes: &[u8], parts: &[Part]) -> Result<Vec<Checke
     Ok(all)
 }
 
-// The same of one.
+// What is found of the signature of a part of a file.
 fn check_part(alloc: Global, bytes: &[u8], part: Part) -> Result<Checked, SigningFault>
     requires { IsInside (length bytes.now) part }
     ensures { MatchResult result

@@ -80,7 +80,7 @@ fn do_pages_end(directories: &[Directory], len: usize) -> bool
     true
 }
 
-// The same of one.
+// Whether each page of a directory that begins in so many first bytes ends in them.
 fn do_end(directory: &Directory, len: usize) -> bool
     requires { HasPages directory.now }
     ensures { IsTrue result → EndsWithin len directory.now }

@@ -8,7 +8,7 @@ use crate::file::Part;
 pub enum Scope<'a> {
     /// All of them.
     All,
-    /// Those in which a byte differs from these bytes, which are as many as those of the file.
+    /// The pages in which a byte differs from these bytes, which are as many as those of the file.
     Since(&'a [u8]),
 }
 
@@ -16,7 +16,7 @@ impl<'a> Scope<'a> {
     ghost use Rattle.macho_signing.specs.File.{HasPart, pages_in};
     ghost use Rattle.macho_signing.specs.Thin.{pages_of};
 
-    /// The same of a part of the file.
+    /// Which pages of a part of the file get their slots made anew.
     pub(crate) fn part(self, part: Part) -> Scope<'a>
         requires { HasPart (pages_of self) part }
         ensures { pages_of result ≡ pages_in (pages_of self.entry) part }

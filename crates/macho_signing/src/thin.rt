@@ -93,7 +93,8 @@ pub(crate) fn thin_slots(
     }
 }
 
-// The same of the signature that a thin file has.
+// The slots of the chosen pages, in each directory of an ad-hoc signature that a thin file has,
+// with the hashes of these bytes.
 fn adhoc_slots(
     alloc: Global,
     signature: &Signature,

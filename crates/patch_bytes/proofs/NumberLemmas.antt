@@ -28,7 +28,7 @@ little_number-field n pos bytes h =
     let P : ℕ → Type 0 = λ m. little_from 0 m (field n pos bytes) ≡ low_first_value (field n pos bytes) in
     subst P (length-field n pos bytes h) (little_from-all (field n pos bytes))
 
--- the same, the highest byte first
+-- what `byteorder` reads in a field, the highest byte first
 pub big_number-field : (n pos : ℕ) (bytes : List ℕ) → pos + n ≤ length bytes → big_number n (field n pos bytes) ≡ number_at Big n pos bytes
 unfolding number_at
 big_number-field n pos bytes h =

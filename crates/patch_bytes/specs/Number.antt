@@ -12,7 +12,7 @@ abbrev pub low_first_value : List ℕ → ℕ
 low_first_value [] = 0
 low_first_value (b ∷ bs) = b + 256 * low_first_value bs
 
--- the same, the first byte the highest
+-- the sum of the bytes times powers of 256, the first byte the highest
 abbrev pub high_first_value : List ℕ → ℕ
 high_first_value [] = 0
 high_first_value (b ∷ bs) = b * 256 ^ length bs + high_first_value bs

@@ -74,7 +74,7 @@ impl<'data> ByteString<'data> {
         Ok(self.copy.insert(copy))
     }
 
-    /// The same bytes: borrowed ones are lent again, owned ones copied.
+    /// A copy of the bytes: borrowed ones are lent again, owned ones copied.
     pub fn try_clone(&self, alloc: Global) -> Result<ByteString<'data>, AllocError>
         ensures { IfOk result (λ copy. copy ≡ self.now) }
     {

@@ -22,11 +22,11 @@ pub(crate) struct Composition {
 // What is done to a store.
 #[derive(Clone, Copy)]
 pub(crate) enum Task<'a> {
-    // It is to hold other bytes.
+    // The store is to hold other bytes.
     Replace(&'a [u8]),
-    // It is opened. It gets bytes behind its end, pieces, and another length.
+    // The store is opened. It gets bytes behind its end, pieces, and another length.
     Change(&'static [u8], &'static [Piece<'static>], u64),
-    // It is to hold bytes that are composed of its own.
+    // The store is to hold bytes that are composed of its own.
     Compose(Composition),
 }
 
@@ -70,7 +70,7 @@ fn is_each_inside(size: u64, pieces: &[Piece<'_>]) -> bool
         && piece.bytes.len() as u64 <= size - piece.offset)
 }
 
-// The same, of what they lay.
+// Whether what each of these pieces lays lies within so many bytes.
 fn are_inside(size: u64, pieces: &[Piece<'_>]) -> bool
     ensures { IsTrue result → All (LiesIn size) (patches_of pieces.now) }
 {
@@ -125,7 +125,8 @@ fn done(alloc: Global, store: &mut TrialStore, old: &[u8], task: Task<'_>) -> &'
     }
 }
 
-// The same. A call that was refused memory leaves the store as it was, and is made again.
+// Does a task to a store. A call that was refused memory leaves the store as it was, and is made
+// again.
 fn retried(rt: &impl Runtime, store: &mut TrialStore, old: &[u8], task: Task<'_>) -> &'static str {
     let word = done(rt.alloc(), store, old, task);
     if word != MEMORY {

@@ -13,7 +13,7 @@ use test_cases_files::{put_no_edits, put_refused};
 pub(crate) enum Way {
     /// By edits in one batch.
     Batch,
-    /// The same, and the dynamic symbols are shown too.
+    /// By edits in one batch, and the dynamic symbols are shown too.
     BatchWithSymbols,
     /// By edits, each by its own call.
     Calls,

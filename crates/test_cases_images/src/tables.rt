@@ -37,14 +37,15 @@ pub(crate) fn print_table(rt: &HostRuntime, words: &str) -> io::Result<()> {
     print_with_texts(rt, form_of(class, order), &texts, words)
 }
 
-/// The same of a table with these texts.
+/// Prints the symbols of a table with these texts, or that a name is missing.
 fn print_with_texts(rt: &HostRuntime, form: Form, texts: &[u8], words: &str) -> io::Result<()> {
     let (records, versions) = first(words);
     let records = bytes_again(rt.alloc(), records)?;
     print_with_records(rt, form, (texts, &records), versions)
 }
 
-/// The same of a table with these texts and records, without versions where there is no word.
+/// Prints the symbols of a table with these texts and records, without versions where there is no
+/// word.
 fn print_with_records(
     rt: &HostRuntime,
     form: Form,
@@ -58,7 +59,7 @@ fn print_with_records(
     print_parts(rt, form, (texts, records), Some(&versions))
 }
 
-/// The same of a table in parts.
+/// Prints the symbols of a table in parts.
 fn print_parts<'a>(
     rt: &HostRuntime,
     form: Form,

@@ -24,7 +24,7 @@ pairs_spelled bytes =
     let half : length (hex_digits bytes) / 2 ≡ length bytes = omega arith in
     ap (λ (count : ℕ). first_chunks 2 count (hex_digits bytes)) half ∙ pairs_of bytes
 
--- these are the bytes that digits, or a word, spell
+-- the bytes that are made are those that digits, or a word, spell
 abbrev pub ReadsDigits : List ℕ → List ℕ → Type 0
 ReadsDigits digits made = (bytes : List ℕ) → AreBytes bytes → digits ≡ hex_digits bytes → made ≡ bytes
 

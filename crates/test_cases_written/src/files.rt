@@ -80,7 +80,7 @@ pub fn put(bytes: &mut [u8], offset: usize, part: &[u8])
     }
 }
 
-/// So many bytes: the first of these, and zeros behind them.
+/// So many bytes: the first of some bytes, and zeros behind them.
 pub fn resized(alloc: Global, bytes: &[u8], length: usize) -> Result<Vec<u8>, AllocError>
     ensures { IfOk result (λ made. made.items ≡ resized_to length bytes.now) }
 {

@@ -60,7 +60,7 @@ fn made_by(
     ])
 }
 
-/// Whether the bytes by a plan are these.
+/// Whether the bytes that are made by a plan are these.
 fn do_bytes_agree(
     alloc: Global,
     image: &Builder<'_>,
@@ -102,7 +102,8 @@ fn do_pieces_of_read_agree(
     do_pieces_from_read_agree(alloc, &read, image, plan, new)
 }
 
-/// The same, where its source was read as this image.
+/// Whether the pieces by a plan make these bytes, with the image as its source was read, which is
+/// lent.
 fn do_pieces_from_read_agree<'d>(
     alloc: Global,
     read: &Builder<'d>,

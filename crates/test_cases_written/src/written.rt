@@ -33,7 +33,7 @@ fn image_bytes(alloc: Global, file: &Writer<'_>) -> Result<Vec<u8>, ElfError>
     }
 }
 
-/// The same, of its container.
+/// The bytes that are written of a container, made again where memory was refused.
 pub(crate) fn container_bytes(alloc: Global, file: &ElfContainer<'_>) -> Result<Vec<u8>, ElfError>
     ensures { AnswersBytes file.now.inner result }
 {

@@ -10,7 +10,7 @@ use Rattle.elf_layout_plan.specs.MovedBlocks.{IsApart, Overlap, Pair, StayApart,
 abbrev pub Below : (blocks : List Block) → (Pair blocks → Type 0) → ℕ → Type 0
 Below blocks P i = (p : Pair blocks) → p.first < i → P p
 
--- and of each pair of the block there and one before a second place
+-- a fact of each pair whose first block stands before a place, and of each pair of the block there and one before a second place
 pub record Within (blocks : List Block) (P : Pair blocks → Type 0) (i j : ℕ) : Type 0 where
   pub rows : Below blocks P i
   pub row : (p : Pair blocks) → p.first ≡ i → p.second < j → P p
@@ -60,7 +60,7 @@ module _ (blocks : List Block) (Q : Block → Block → Type 0) (i j : ℕ) (a b
   pub each_so_far : yes ≡ true → Within blocks (λ p. Q p.earlier p.later) i j → Within blocks (λ p. Q p.earlier p.later) i (j + 1)
   each_so_far is w = row_more blocks (λ p. Q p.earlier p.later) i j w (at_pair blocks Q i j a b at_i at_j (told.0 is))
 
-  -- it isn't so of these two
+  -- what the test asks isn't so of these two blocks
   not_these : yes ≡ false → Q a b → ⊥
   not_these isnt q =
       let is : yes ≡ true = told.1 q in

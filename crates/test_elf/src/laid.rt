@@ -72,9 +72,10 @@ static ROWS: [Row; 3] = [
         has_more: false,
         want: ((30_002, 60_001), Some((30_002, 60_001, 1))),
     },
-    // Fewer of them, which may become two each, room for these, and one header more, for which notes have to move. The table
-    // of program headers reaches over 14 notes with each header that it gains, and 25, 375 and 5,275 headers are wanted until
-    // it reaches over all notes; then one is enough, of the segment that they move to.
+    // Fewer program headers, which may become two each, room for these, and one header more, for
+    // which notes have to move. The table of program headers reaches over 14 notes with each header
+    // that it gains, and 25, 375 and 5,275 headers are wanted until it reaches over all notes; then
+    // one is enough, of the segment that they move to.
     Row {
         what: "many program headers over moving notes",
         counts: Counts {

@@ -27,7 +27,7 @@ fn has_texts(needs: &VersionNeed<'_>, table: &Finished<'_>) -> bool
     table.offset_of(needs.file.as_slice()).is_some() && has_all(&needs.versions, table)
 }
 
-// Whether a table has the texts of each of these.
+// Whether a table has the names of each of these libraries and of the versions needed of them.
 fn has_each(records: &[VersionNeed<'_>], table: &Finished<'_>) -> bool
     ensures { result ≡ list_all (λ n. is_some (place_of table.now n.file.bytes)
         && list_all (λ v. is_some (place_of table.now v.name.bytes)) n.versions.items) records.now }
@@ -35,7 +35,7 @@ fn has_each(records: &[VersionNeed<'_>], table: &Finished<'_>) -> bool
     records.iter().all(|needs| has_texts(needs, table))
 }
 
-// The same, of what is kept of them.
+// Whether a table has the names that are kept of libraries and of the versions needed of them.
 fn has_names(records: &[VersionNeed<'_>], table: &Finished<'_>) -> bool
     ensures { result ≡ has_needs_texts table.now (map needs_model records.now) }
 {

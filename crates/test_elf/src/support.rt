@@ -66,7 +66,7 @@ fn finished<'t>(rt: &impl Runtime, texts: &[&'t [u8]]) -> Result<Finished<'t>, T
     table.finish(rt.alloc())
 }
 
-// The same, made again where there was no memory.
+// The table of these texts, made again where there was no memory.
 pub(crate) fn table_of<'t>(rt: &impl Runtime, texts: &[&'t [u8]]) -> Finished<'t> {
     match finished(rt, texts) {
         Ok(table) => table,

@@ -29,7 +29,7 @@ impl TrialWriter {
         }
     }
 
-    /// What it took.
+    /// What the writer took.
     pub(crate) fn bytes(&self) -> &[u8] {
         self.held.get(..self.length).unwrap_or(&[])
     }

@@ -86,7 +86,7 @@ fn has_each(records: &[VersionDef<'_>], table: &Finished<'_>) -> bool
     records.iter().all(|version| has_all(&version.names, table))
 }
 
-// The same, of what is kept of them.
+// Whether the table has the names that are kept of these versions.
 fn has_names(records: &[VersionDef<'_>], table: &Finished<'_>) -> bool
     ensures { result ≡ has_definition_texts table.now (map definition_model records.now) }
 {

@@ -42,7 +42,7 @@ no_interpreter = usual_segment 3 4 680 8 1
 abbrev pub header_table : SegmentHeader
 header_table = usual_segment 6 4 64 224 8
 
--- a large library with these, its first segment changed
+-- a large library with further segments, sections and entries, its first segment changed
 abbrev pub large_changed : (SegmentHeader → SegmentHeader) → List SegmentHeader → List SectionHeader → List (ℕ × ℕ) → List ℕ
 large_changed change segments sections entries =
     let large = large_with segments [] sections entries in

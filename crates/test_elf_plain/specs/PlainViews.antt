@@ -76,7 +76,7 @@ needs_model n = record { file = n.file.items; versions = map name_model n.versio
 abbrev pub symbol_model : ShownSymbol → NamedSymbol
 symbol_model y = record { name = y.name.items; st_info = y.st_info; st_other = y.st_other; st_shndx = y.st_shndx; st_value = y.st_value; st_size = y.st_size; version = y.version }
 
--- lists of these, in the order in which they stand in a `Vec`
+-- lists of texts, in the order in which they stand in a `Vec`
 abbrev pub texts_model : Vec (Vec ℕ) → List (List ℕ)
 texts_model v = map text_model v.items
 

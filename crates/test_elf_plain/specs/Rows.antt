@@ -20,7 +20,7 @@ IsRefused file fault = fault_of file ≡ Some fault
 
 -- ## The small library
 
--- what it shows: it needs libc.so.6, and has the run path /a
+-- what the small library shows: it needs libc.so.6, and has the run path /a
 abbrev pub small_view : View
 small_view = record {
   os_abi = 0;
@@ -32,7 +32,7 @@ small_view = record {
   needs = None;
 }
 
--- it is accepted, and shows that in both views
+-- the small library is accepted, and shows its view both ways
 pub record SmallRows (s : Small) (size : ℕ) : Type 0 where
   pub size_is : length (small_file s) ≡ size
   pub accepted : IsAccepted (small_file s)
@@ -210,7 +210,7 @@ versioned_view = record {
   needs = Some (record { file = 108 ∷ 105 ∷ 98 ∷ 120 ∷ []; versions = record { index = 3; name = 86 ∷ 49 ∷ []; flags = 0 } ∷ [] } ∷ []);
 }
 
--- it is accepted, and shows all that in both views
+-- the library with versions is accepted, and shows them in both views
 pub record VersionedRows (file : List ℕ) : Type 0 where
   pub accepted : IsAccepted file
   pub shown : section_view file ≡ Some versioned_view

@@ -162,7 +162,7 @@ pub record DynamicRows : Type 0 where
   pub longer_segment : IsAccepted (with_list_segment (λ p. record p { p_filesz = 96 }))
   pub end_past_the_segment : IsRefused (with_list_segment (λ p. record p { p_filesz = 79 })) (Disagree 7)
   pub end_past_the_section : IsRefused (small_file (record small_library { list_section = record small_library.list_section { sh_size = 64 } })) (Disagree 7)
-  -- neither the segment nor the section
+  -- neither the segment nor the section of the dynamic list
   pub no_list : IsAccepted (small_file (record small_library { list_segment = record small_library.list_segment { p_type = 4 }; list_section = record small_library.list_section { sh_type = 1; sh_link = 0 } }))
 
 -- ## 8: interpreter agrees
@@ -176,7 +176,7 @@ pub record InterpreterRows : Type 0 where
   pub agrees : IsAccepted (interpreter_at 1 680 8 8)
   pub another_place : IsRefused (interpreter_at 1 681 8 8) (Disagree 8)
   pub another_size : IsRefused (interpreter_at 1 680 7 8) (Disagree 8)
-  -- its size in memory isn't looked at
+  -- the interpreter's size in memory isn't looked at
   pub another_size_in_memory : IsAccepted (interpreter_at 1 680 8 9)
   pub another_type : IsRefused (interpreter_at 7 680 8 8) (Disagree 8)
 

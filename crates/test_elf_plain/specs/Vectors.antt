@@ -183,7 +183,7 @@ small_at form places =
 abbrev pub small_library : Small
 small_library = small_at little64 (record { strings = 176; list = 240; names = 320; table = 352 })
 
--- its twin in 32 bits, the highest byte first: 364 bytes
+-- the small library in 32 bits, the highest byte first: 364 bytes
 abbrev pub small_twin : Small
 small_twin = small_at big32 (record { strings = 120; list = 136; names = 176; table = 204 })
 
@@ -198,8 +198,8 @@ pub record Large : Type 0 where
   pub sections : List SectionHeader
   pub entries : List (ℕ × ℕ)
 
--- its strings stand at 352, its list at 368, the section names at 640; pieces stand from 672 on, the section
--- headers at 1024; the further sections have the numbers from 4 on
+-- the strings of a large library stand at 352, its list at 368, the section names at 640; pieces stand from 672 on, the section headers at
+-- 1024; the further sections have the numbers from 4 on
 abbrev pub large_file : Large → List ℕ
 large_file l =
     let size = length l.entries * by_class l.form.wide 8 16 in
@@ -226,6 +226,6 @@ large_with segments pieces sections entries = record {
   entries = large_entries ++ entries ++ (0, 0) ∷ [];
 }
 
--- the same with sections alone, whose bytes are zeros
+-- a large library with further sections alone, whose bytes are zeros
 abbrev pub large_of : List SectionHeader → List ℕ
 large_of sections = large_file (large_with [] [] sections [])

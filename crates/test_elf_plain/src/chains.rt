@@ -38,7 +38,7 @@ pub(crate) trait Chained: Drop {
 
     ghost step: { TheForm → Memory → ℕ → Option (Step Self) };
 
-    // It, and how far behind the next one stands.
+    // The record, and how far behind it the next one stands.
     fn read(
         alloc: Global,
         form: Form,

@@ -25,7 +25,7 @@ pub(crate) trait Shown: Drop {
 
     ghost Shape: { Type 0 };
 
-    // It, seen without where copies of texts lie.
+    // What is shown of a raw value, without where copies of texts lie.
     ghost shape: { Self → Shape };
 
     ghost shown: { ℕ → Memory → Self.Raw → Option Shape };

@@ -17,7 +17,7 @@ use std::alloc::Global;
 pub struct Loaded<'a> {
     /// The file's bytes.
     pub file: &'a [u8],
-    /// Its program headers.
+    /// The file's program headers.
     pub segments: &'a [SegmentHeader],
     /// The address of the first byte; without one nothing is there.
     pub start: Option<u64>,

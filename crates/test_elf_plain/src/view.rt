@@ -14,7 +14,7 @@ pub enum EntryView {
 /// A dynamic symbol, with its name and its version.
 #[derive(Debug, Drop)]
 pub struct ShownSymbol {
-    /// Its name, without the NUL.
+    /// The symbol's name, without the NUL.
     pub name: Vec<u8>,
     /// Binding and type.
     pub st_info: u8,
@@ -22,11 +22,11 @@ pub struct ShownSymbol {
     pub st_other: u8,
     /// The section that it is defined in.
     pub st_shndx: u16,
-    /// Its value, mostly an address.
+    /// The symbol's value, mostly an address.
     pub st_value: u64,
     /// How many bytes it has.
     pub st_size: u64,
-    /// Its version, where there is a table of versions.
+    /// The symbol's version, where there is a table of versions.
     pub version: Option<VersionId>,
 }
 
@@ -35,9 +35,9 @@ pub struct ShownSymbol {
 pub struct ShownDefinition {
     /// The index by which symbols name it.
     pub index: u16,
-    /// Its flags.
+    /// The version's flags.
     pub flags: u16,
-    /// Its own name, and those of the versions that it follows.
+    /// The version's own name, and those of the versions that it follows.
     pub names: Vec<Vec<u8>>,
 }
 
@@ -46,9 +46,9 @@ pub struct ShownDefinition {
 pub struct ShownName {
     /// The index by which symbols name it.
     pub index: u16,
-    /// Its name, without the NUL.
+    /// The version's name, without the NUL.
     pub name: Vec<u8>,
-    /// Its flags.
+    /// The version's flags.
     pub flags: u16,
 }
 

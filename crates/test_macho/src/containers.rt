@@ -97,7 +97,7 @@ fn list_thin(lines: &mut String, file: &MachO<'_>) -> Result<(), AllocError> {
     write!(lines, "{}\n", file.first_content())
 }
 
-// The same of each slice.
+// Puts the list and the counts of each slice of a fat file behind lines.
 fn list_fat(lines: &mut String, file: &FatMachoContainer<'_>) -> Result<(), AllocError> {
     for slice in file.archs() {
         list_thin(lines, slice.inner().inner())?;
@@ -105,7 +105,7 @@ fn list_fat(lines: &mut String, file: &FatMachoContainer<'_>) -> Result<(), Allo
     Ok(())
 }
 
-// The same of each thin file in a container.
+// Puts the list and the counts of each thin file in a container behind lines.
 fn list(lines: &mut String, file: &File<'_>) -> Result<(), AllocError> {
     match file {
         File::Single(single) => list_thin(lines, single.inner()),

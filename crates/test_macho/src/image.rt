@@ -61,21 +61,21 @@ const WITH_EMPTY_PATH: &[u8; 64] =
 // What is looked at in a file.
 #[derive(Clone, Copy)]
 pub(crate) enum What {
-    // That it is accepted.
+    // That the file is accepted.
     Nothing,
-    // Its header.
+    // The file's header.
     Header,
-    // Its form, its length, and where its content begins.
+    // The file's form, its length, and where its content begins.
     Measures,
     // Where its content begins.
     Content,
-    // Its load commands.
+    // The file's load commands.
     Commands,
-    // Its header, its load commands, and where its content begins.
+    // The file's header, its load commands, and where its content begins.
     Lists,
-    // Its own name.
+    // The file's own name.
     Name,
-    // Its run paths.
+    // The file's run paths.
     Paths,
     // The names of the libraries that it loads.
     Libraries,
@@ -105,7 +105,7 @@ pub(crate) fn shown(alloc: Global, file: &MachO<'_>, what: What) -> Result<Strin
     }
 }
 
-// The same of a file that owns its bytes, or of one whose bytes are lent.
+// What a file shows that owns its bytes, or one whose bytes are lent.
 fn shown_in(alloc: Global, bytes: &[u8], owns: bool, what: What) -> Result<String, MachFault> {
     let file = if owns {
         MachO::parse_owned(alloc, Vec::from_slice(alloc, bytes)?)?
@@ -602,7 +602,8 @@ fn with_sections(form: &Form, numbers: &[u32; 6]) -> [u8; 640] {
     bytes
 }
 
-// Those numbers, and where the content of a file begins that has them.
+// The numbers of a segment and of its sections, and where the content of a file begins that has
+// them.
 const FIRST_CONTENT: &[([u32; 6], &str)] = &[
     ([0, 640, 0, 0, 0, 0], "600"),
     ([590, 8, 0, 0, 0, 0], "590"),

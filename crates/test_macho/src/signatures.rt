@@ -11,7 +11,7 @@ use std::alloc::Global;
 // What is looked at in a signature.
 #[derive(Clone, Copy)]
 enum What {
-    // That it is accepted.
+    // That the signature is accepted.
     Nothing,
     // All of it.
     Whole,

@@ -17,7 +17,8 @@ pub(crate) const PLAIN: &[u8; 128] =
 \x0c\0\0\0\x20\0\0\0\x18\0\0\0\x02\0\0\0\0\0\x02\0\0\0\x01\0b.dylib\0\
 \0\0\0\0\0\0\0\0\0\0\0\0\0\0\0\0\0\0\0\0\0\0\0\0content!";
 
-// The same with a run path between the two.
+// A library with its own name, a run path, and a library that it loads, zeros behind its commands,
+// and content at the end.
 pub(crate) const WITH_RPATH: &[u8; 128] =
     b"\xcf\xfa\xed\xfe\x07\0\0\x01\x03\0\0\0\x06\0\0\0\x03\0\0\0\x50\0\0\0\x85\0\0\0\x09\0\0\0\
 \x0d\0\0\0\x20\0\0\0\x18\0\0\0\x01\0\0\0\x03\x02\x01\0\0\0\x01\0a.dylib\0\

@@ -17,38 +17,38 @@ use std::alloc::{AllocError, Global};
 pub struct Part {
     /// Where it stands among the sections of the edited image, from 0.
     pub position: usize,
-    /// Its number at read.
+    /// The section's number at read.
     pub(crate) number: usize,
-    /// Its type (gABI, Sections).
+    /// The section's type (gABI, Sections).
     pub sh_type: u32,
-    /// Its flags (gABI, Sections).
+    /// The section's flags (gABI, Sections).
     pub sh_flags: u64,
     pub(crate) link: u32,
     pub(crate) address: u128,
     pub(crate) offset: u128,
-    /// Its size at read.
+    /// The section's size at read.
     pub(crate) old: u128,
     pub(crate) size: u128,
     pub(crate) align: u128,
 }
 
 impl Part {
-    /// It is in memory when the program runs.
+    /// The section is in memory when the program runs.
     pub(crate) fn is_loaded(&self) -> bool {
         self.sh_flags & SHF_ALLOC != 0
     }
 
-    /// It is one of those that have bytes in the file.
+    /// The section is one of those that have bytes in the file.
     pub(crate) fn is_in_file(&self) -> bool {
         self.sh_type != SHT_NULL && self.sh_type != SHT_NOBITS
     }
 
-    /// It had bytes in the file.
+    /// The section had bytes in the file.
     pub(crate) fn had_bytes(&self) -> bool {
         self.is_in_file() && self.old != 0
     }
 
-    /// It takes memory of its own.
+    /// The section takes memory of its own.
     pub(crate) fn takes_memory(&self) -> bool {
         let of_threads = self.sh_type == SHT_NOBITS && self.sh_flags & SHF_TLS != 0;
         self.is_loaded() && self.sh_type != SHT_NULL && !of_threads
@@ -58,21 +58,21 @@ impl Part {
 /// A program header (gABI, Program Header).
 #[derive(Clone, Copy)]
 pub struct Piece {
-    /// Its type.
+    /// The segment's type.
     pub p_type: u32,
-    /// Its flags.
+    /// The segment's flags.
     pub p_flags: u32,
     /// Where its bytes begin in the file.
     pub offset: u128,
     /// Where they are loaded.
     pub address: u128,
-    /// Its physical address.
+    /// The segment's physical address.
     pub physical: u128,
     /// How many bytes it has in the file.
     pub in_file: u128,
     /// How many bytes it has in memory.
     pub in_memory: u128,
-    /// Its alignment.
+    /// The segment's alignment.
     pub align: u128,
 }
 
@@ -81,13 +81,13 @@ impl Piece {
         self.p_type == PT_LOAD
     }
 
-    /// Its part of the file has all of a range.
+    /// The segment's part of the file has all of a range.
     pub(crate) fn has(&self, offset: u128, size: u128) -> bool {
         self.offset <= offset
             && offset.saturating_add(size) <= self.offset.saturating_add(self.in_file)
     }
 
-    /// It has the range, and shows it at the address.
+    /// The segment has the range, and shows it at the address.
     pub(crate) fn shows(&self, offset: u128, size: u128, address: u128) -> bool {
         self.has(offset, size)
             && address.saturating_add(self.offset) == self.address.saturating_add(offset)

@@ -144,7 +144,7 @@ fn does_piece_fit(plain: &Plain, piece: &Piece) -> bool
     do_fit(plain, &numbers)
 }
 
-/// Whether those of all program headers fit.
+/// Whether the numbers of all program headers fit their fields, types and flags apart.
 fn do_pieces_fit(plain: &Plain, pieces: &[Piece]) -> bool
     ensures { IsTrue result ↔ All (DoesPieceFit plain.now) pieces.now }
 {

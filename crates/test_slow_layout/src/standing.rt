@@ -13,13 +13,13 @@ use std::alloc::{AllocError, Global};
 /// Where a section stands.
 #[derive(Clone, Copy)]
 pub struct Slot {
-    /// Its position among the sections of the edited image, from 0.
+    /// The section's position among the sections of the edited image, from 0.
     pub position: usize,
     /// Where its bytes begin in the file.
     pub offset: u128,
-    /// Its address.
+    /// The section's address.
     pub address: u128,
-    /// Its size in bytes.
+    /// The section's size in bytes.
     pub size: u128,
 }
 

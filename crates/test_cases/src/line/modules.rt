@@ -11,7 +11,7 @@ pub(crate) fn execute(rt: &HostRuntime, command: Command) -> Result<(), ArwenErr
     }
 }
 
-/// One of those that take a path alone and edit the file, or another.
+/// Does a command that takes a path alone and edits the file, or another one.
 fn execute_mark(rt: &HostRuntime, command: ElfCommand) -> Result<(), ElfCommandError> {
     match command {
         ElfCommand::AddDebugTag(args) => elf::add_debug_tag::execute(rt, args),
@@ -24,7 +24,7 @@ fn execute_mark(rt: &HostRuntime, command: ElfCommand) -> Result<(), ElfCommandE
     }
 }
 
-/// One of those that take a value, or another.
+/// Does a command that takes a value, or another one.
 fn execute_value(rt: &HostRuntime, command: ElfCommand) -> Result<(), ElfCommandError> {
     match command {
         ElfCommand::AddRpath(args) => elf::add_rpath::execute(rt, args),
@@ -38,7 +38,7 @@ fn execute_value(rt: &HostRuntime, command: ElfCommand) -> Result<(), ElfCommand
     }
 }
 
-/// One of those that take any number of words, or another.
+/// Does a command that takes any number of words, or another one.
 fn execute_words(rt: &HostRuntime, command: ElfCommand) -> Result<(), ElfCommandError> {
     match command {
         ElfCommand::AddNeeded(args) => elf::add_needed::execute(rt, args),
@@ -56,7 +56,7 @@ fn execute_words(rt: &HostRuntime, command: ElfCommand) -> Result<(), ElfCommand
     }
 }
 
-/// One of those that print; any other is done by the function for all of them.
+/// Does a command that prints; any other is done by the function for all commands.
 fn execute_print(rt: &HostRuntime, command: ElfCommand) -> Result<(), ElfCommandError> {
     match command {
         ElfCommand::PrintRpath(args) => elf::print_rpath::execute(rt, args),

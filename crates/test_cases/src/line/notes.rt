@@ -76,7 +76,7 @@ fn done(alloc: Global, file: &MemoryFile<'_>, command: &Command, notes: Notes) -
     }
 }
 
-/// The same of a command for Mach-O files.
+/// What comes of a command for Mach-O files on a file.
 fn macho_done(alloc: Global, file: &MemoryFile<'_>, command: &MachoCommand, notes: Notes) -> Done {
     match patch_path(alloc, file, command, notes, Signing::Left) {
         Ok(done) => Ok(done),
@@ -84,7 +84,7 @@ fn macho_done(alloc: Global, file: &MemoryFile<'_>, command: &MachoCommand, note
     }
 }
 
-/// The same of an edit of ELF files.
+/// What comes of an edit of ELF files on a file.
 fn elf_done(alloc: Global, file: &MemoryFile<'_>, command: &ElfCommand, notes: Notes) -> Done {
     match edit_path(alloc, file, command, notes) {
         Ok(done) => Ok(done),
@@ -95,7 +95,7 @@ fn elf_done(alloc: Global, file: &MemoryFile<'_>, command: &ElfCommand, notes: N
     }
 }
 
-/// The same of a command that prints.
+/// What comes of a command for ELF files that prints, on a file.
 fn elf_printed(alloc: Global, file: &MemoryFile<'_>, command: &ElfCommand) -> Done {
     let mut out = Sink::new(Vec::new(alloc));
     match print_path(alloc, file, command, &mut out) {

@@ -26,19 +26,19 @@ pub(crate) fn command_of(rt: &HostRuntime, words: &[&str]) -> Result<Command, Ar
 /// What is done with a command that was read.
 #[derive(Clone, Copy)]
 pub(crate) enum Use {
-    /// It is printed.
+    /// The command is printed.
     Show,
-    /// Its notes are printed.
+    /// The command's notes are printed.
     ShowNotes,
     /// The text is printed with which the line was answered.
     ShowText,
-    /// It is done to bytes; a command that prints prints on a page.
+    /// The command is done to bytes; one that prints prints on a page.
     OnPage,
-    /// It is done to bytes; what a command prints is printed as text.
+    /// The command is done to bytes; what it prints is printed as text.
     AsText,
-    /// It is done to a file in memory.
+    /// The command is done to a file in memory.
     InMemory(Notes),
-    /// It is done to stores that fail.
+    /// The command is done to stores that fail.
     OnStores,
 }
 

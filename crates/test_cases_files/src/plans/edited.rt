@@ -11,7 +11,7 @@ use std::alloc::{AllocError, Global};
 /// What is put down of an edited file.
 #[derive(Clone, Copy)]
 pub(crate) enum Shown {
-    /// Its plan.
+    /// The plan of the edited file.
     Plan,
     /// What each call on the way to a plan answers, and the plan.
     Steps,

@@ -12,7 +12,8 @@ const WIDE: &[u8] = b"\0\0\0\0\0\0\0\0\0\0\0\0\0\0\0\0\0\0\0\0\0\0\0\0\
     \x01\0\0\0\x12\0\x05\0\0\0\0\0\0\0\0\0\0\0\0\0\0\0\0\0\
     \x03\0\0\0\x12\0\x05\0\0\0\0\0\0\0\0\0\0\0\0\0\0\0\0\0";
 
-// The same in a 32-bit file of the other byte order, `f` being weak.
+// Symbol 0, `f` and `g`, as global functions but for `f`, which is weak, in a 32-bit file of the
+// other byte order.
 const NARROW: &[u8] = b"\0\0\0\0\0\0\0\0\0\0\0\0\0\0\0\0\
     \0\0\0\x01\0\0\0\0\0\0\0\0\x22\0\0\x05\
     \0\0\0\x03\0\0\0\0\0\0\0\0\x12\0\0\x05";
@@ -37,7 +38,7 @@ const ONE: GnuSizes = GnuSizes {
     filter_shift: 6,
 };
 
-// These symbols, without versions.
+// Symbol 0, `f` and `g` in a 64-bit file, without versions.
 const TWO_SYMBOLS: Source<'static> = Source {
     form: LITTLE_64,
     texts: TEXTS,

@@ -99,7 +99,7 @@ const WITH_PATH: Sample<'static> = Sample {
 // A text of 51 bytes, whose command fills that file.
 const FILLING: &str = "/123456789/123456789/123456789/123456789/123456789/";
 
-// The same and a byte.
+// A text of 52 bytes, one more than fits.
 const TOO_LONG: &str = "/123456789/123456789/123456789/123456789/123456789/a";
 
 const CHANGE_PATH: [Step<'static>; 5] = [

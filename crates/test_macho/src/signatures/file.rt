@@ -23,7 +23,7 @@ a\0\
 \xfa\xde\x0b\x01\0\0\0\x08\
 \x07\x07\x07\x07\x07\x07\x07\x07\x07\x07\x07\x07\x07\x07\x07\x07\x07\x07\x07\x07\x07\x07";
 
-// The same with the hashes of "0123", "4567" and "89" in their slots.
+// The signed file with the hashes of "0123", "4567" and "89" in the slots of its signature.
 pub(crate) const FITTING: &[u8; 378] = b"0123456789AB\
 \xfa\xde\x0c\xc0\0\0\x01\x6e\0\0\0\x03\
 \0\0\0\0\0\0\0\x24\0\0\x10\0\0\0\0\xa2\0\x01\0\0\0\0\x01\x50\

@@ -1,4 +1,4 @@
--- The first symbol has none, and behind it stand those of the others.
+-- The first symbol has no hash, and behind it stand the hashes of the others.
 use Rattle.std.proofs.Common.{ℕ, ◌≡◌, ◌-◌, ◌<◌, List, length, drop, take, ◌∷◌, [], ◌++◌, Option, None, ap, ◌∙◌, sym, subst, arith}
 use Rattle.std.specs.Prelude.{All, option_map, slice_get}
 use Rattle.std.specs.List.{filter_map}

@@ -8,7 +8,7 @@ use Rattle.elf_format.specs.Records.{symbol_numbers, symbols_in}
 use Rattle.elf_image_rules.proofs.KindSteps.{run_passes}
 use Rattle.elf_image_rules.proofs.kind.are_numbers_plain.Given as goal
 
--- those so far pass, and so does what was looked at last
+-- the tables so far pass, and so does what was looked at last
 abbrev pub invariant-loop-table : goal.invariant-loop-table
 invariant-loop-table l =
     let passes = λ (s : SectionHeader). list_all (λ y. not (y.st_shndx == SHN_XINDEX)) (symbols_in l.form (section_bytes l.file s)) in

@@ -1,4 +1,4 @@
--- As many sections are lent.
+-- As many sections are lent as the image has.
 use Rattle.elf_image_uses.proofs.KeptSteps.{lent_long}
 use Rattle.elf_image_uses.proofs.kept.kept_count.Goals as goal
 

@@ -3,7 +3,7 @@ use Rattle.elf_tables.specs.ImageModel.{entry_model}
 use Rattle.elf_layout_plan.specs.Staying.{staying_entries}
 use Rattle.elf_layout_plan.proofs.entries.count_staying.Given as goal
 
--- those so far and those that stay of what is left
+-- the entries so far and those that stay of what is left
 abbrev pub invariant-loop-entry : goal.invariant-loop-entry
 invariant-loop-entry l =
     (l.count ≤ l.entry-index)

@@ -3,7 +3,7 @@ use Rattle.elf_tables.specs.ImageModel.{needs_model}
 use Rattle.elf_layout_plan.specs.Staying.{unmarked_needs}
 use Rattle.elf_layout_plan.proofs.records.count_needs.Given as goal
 
--- those so far and those that stay of what is left
+-- the needed libraries so far and those that stay of what is left
 abbrev pub invariant-loop-need : goal.invariant-loop-need
 invariant-loop-need l =
     (l.count ≤ l.need-index)

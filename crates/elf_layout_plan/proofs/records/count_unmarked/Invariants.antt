@@ -3,7 +3,7 @@ use Rattle.elf_tables.specs.ImageModel.{name_model}
 use Rattle.elf_layout_plan.specs.Staying.{unmarked_names}
 use Rattle.elf_layout_plan.proofs.records.count_unmarked.Given as goal
 
--- those so far and those that stay of what is left
+-- the names so far and those that stay of what is left
 abbrev pub invariant-loop-name : goal.invariant-loop-name
 invariant-loop-name l =
     (l.count ≤ l.name-index)

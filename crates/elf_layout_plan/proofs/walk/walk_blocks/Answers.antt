@@ -6,7 +6,7 @@ use Rattle.elf_layout_plan.proofs.WalkSteps.{IsWalked, none_stuck, walk_ends, wa
 use Rattle.elf_layout_plan.proofs.walk.walk_blocks.Goals as goal
 use Rattle.elf_layout_plan.proofs.walk.walk_blocks.Goals.{in-Apart, in-Later, in-Earlier}
 
--- the same of what equals these marks and this place
+-- what is known of marks and a place is known of what equals them
 carried : (blocks : List Block) (moves marks : List Bool) (last place next : ℕ) → marks ≡ moves → place ≡ last
     → IsWalked blocks moves last next → IsWalked blocks marks place next
 carried blocks moves marks last place next same there w =

@@ -4,7 +4,7 @@ use Rattle.elf_image_symbols.specs.Loan.{symbols_now}
 use Rattle.elf_layout_plan.specs.Sizes.{is_found}
 use Rattle.elf_layout_sizes.proofs.tables.count_found.Given as goal
 
--- those so far and those of what is left
+-- the symbols so far and those of what is left
 abbrev pub invariant-loop-i : goal.invariant-loop-i
 invariant-loop-i l =
     (l.count ≤ l.i)

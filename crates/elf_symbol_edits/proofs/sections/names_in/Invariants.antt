@@ -4,7 +4,7 @@ use Rattle.elf_image.specs.ImageModel.{section_model, text_model}
 use Rattle.elf_symbol_edits.specs.Named.{section_name}
 use Rattle.elf_symbol_edits.proofs.sections.names_in.Given as goal
 
--- those so far, and those of the sections that are left
+-- the names so far, and those of the sections that are left
 abbrev pub invariant-loop-i : goal.invariant-loop-i
 invariant-loop-i l =
     (1 ≤ l.i)

@@ -1,4 +1,4 @@
--- Those that are left may be put in place, since the first is among them and no relocation names one that went.
+-- The symbols that are left may be put in place, since the first is among them and no relocation names one that went.
 use Rattle.std.proofs.Common.{◌≡◌, ◌∙◌, ap, not, sym, true, false}
 use Rattle.std.proofs.lemmas.Bool.{cond-true, cond-false}
 use Rattle.elf_edits.specs.Texts.{has_some}

@@ -2,6 +2,6 @@ use Rattle.std.proofs.Common.{◌≡◌, map, take}
 use Rattle.elf_write.specs.PieceSteps.{span_in}
 use Rattle.elf_write.proofs.spans.spans_of.Given as goal
 
--- those of the ranges so far
+-- the spans of the ranges so far
 abbrev pub invariant-loop-range : goal.invariant-loop-range
 invariant-loop-range l = l.spans.items ≡ map (span_in l.len) (take l.range-index l.ranges)

@@ -4,7 +4,7 @@ use Rattle.elf_write_spec.specs.Renumbered.{do_relocations_fit, does_relocation_
 use Rattle.elf_write_spec.proofs.TableSteps.{AllPass, count_of}
 use Rattle.elf_write_spec.proofs.relocations.do_relocations_fit.Given as goal
 
--- those that are left are there, name symbols, and fit just where all do
+-- the relocations that are left are there, name symbols, and fit just where all do
 abbrev pub invariant-loop : goal.invariant-loop
 invariant-loop l =
     let left = count_of l.form l.kind l.content - l.counter in

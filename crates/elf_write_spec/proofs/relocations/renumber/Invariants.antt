@@ -4,7 +4,7 @@ use Rattle.elf_write_spec.specs.Renumbered.{does_relocation_fit, is_symbol_below
 use Rattle.elf_write_spec.proofs.TableSteps.{AllPass, IsMade, count_of}
 use Rattle.elf_write_spec.proofs.relocations.renumber.Given as goal
 
--- those that are left are there, name symbols, and fit; with what was made they give the whole
+-- the relocations that are left are there, name symbols, and fit; with what was made they give the whole
 abbrev pub invariant-loop : goal.invariant-loop
 invariant-loop l =
     let left = count_of l.form l.kind l.content - l.counter in

@@ -1,4 +1,4 @@
--- Either both are kept, and the bytes are those that were read, or they are spelled anew.
+-- Either the symbols and their strings are kept, and the bytes are those that were read, or they are spelled anew.
 use Rattle.std.proofs.Common.{◌∙◌, ◌*◌, ℕ, List, length, sym, ap, subst}
 use Rattle.std.specs.Prelude.{◌&&◌}
 use Rattle.std.proofs.lemmas.Bool.{and_parts, both_ways}

@@ -1,4 +1,4 @@
--- It is as long as the plan says, anew or as it was read.
+-- The table is as long as the plan says, anew or as it was read.
 use Rattle.std.proofs.Common.{Option, ap, sym, subst, refl, length, ◌∙◌}
 use Rattle.patch_bytes.specs.ByteString.{StringValue}
 use Rattle.elf_format.specs.declared.constants.TheConstants.{SHT_GNU_HASH}

@@ -1,4 +1,4 @@
--- As many sections are lent.
+-- As many sections are lent as the image has.
 use Rattle.std.proofs.Common.{ap, sym, length, ◌∙◌}
 use Rattle.std.proofs.lemmas.List.{length-map}
 use Rattle.elf_format.specs.Image.{Image}

@@ -1,4 +1,4 @@
--- Each piece lies in the bytes, and all of them make these.
+-- Each piece lies in the bytes, and all of them make the new bytes.
 use Rattle.std.proofs.Common.{List, [], ap, arith, length, map, ℕ, ◌∙◌}
 use Rattle.std.proofs.lemmas.List.{take_all}
 use Rattle.byte_store.specs.declared.pieces.Piece.{Piece}

@@ -1,4 +1,4 @@
--- Those so far.
+-- The slots so far.
 use Rattle.std.proofs.Common.{◌≡◌, ◌++◌, map, take}
 use Rattle.macho_signing.specs.File.{slot_in}
 use Rattle.macho_signing.proofs.file.push_shifted.Given as goal

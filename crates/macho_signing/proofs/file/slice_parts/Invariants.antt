@@ -1,4 +1,4 @@
--- Those so far.
+-- The parts of the slices so far.
 use Rattle.std.proofs.Common.{◌≡◌, map, take}
 use Rattle.macho_signing.specs.File.{slice_part}
 use Rattle.macho_signing.proofs.file.slice_parts.Given as goal

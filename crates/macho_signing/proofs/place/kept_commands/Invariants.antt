@@ -1,4 +1,4 @@
--- Those so far.
+-- The commands so far.
 use Rattle.std.proofs.Common.{◌≡◌, map, take}
 use Rattle.patch_bytes.specs.ByteString.{bytes_of_each}
 use Rattle.macho_signing.specs.Place.{signature_commands}

@@ -1,4 +1,4 @@
--- Those that were written, or those of the image.
+-- The symbols that were written, or those of the image.
 use Rattle.std.proofs.Common.{sym}
 use Rattle.elf_apply.proofs.DraftLaws.{symbols_of_draft, symbols_of_image}
 use Rattle.elf_apply.proofs.draft.Draft.symbols.Goals as goal

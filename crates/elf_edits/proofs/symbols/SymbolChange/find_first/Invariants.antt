@@ -4,7 +4,7 @@ use Rattle.elf_image_symbols.specs.Loan.{symbols_now}
 use Rattle.elf_edits.specs.SymbolChanges.{changed_to, is_changed}
 use Rattle.elf_edits.proofs.symbols.SymbolChange.find_first.Given as goal
 
--- it is about no symbol so far
+-- the change is about no symbol so far
 abbrev pub invariant-loop-i : goal.invariant-loop-i
 invariant-loop-i l =
     (1 ≤ l.i)

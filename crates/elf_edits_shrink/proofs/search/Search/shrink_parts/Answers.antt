@@ -1,4 +1,4 @@
--- A directory stays and is put behind the others, or goes and is noted.
+-- A directory stays and is put behind those that stay, or goes and is noted.
 use Rattle.std.proofs.Common.{◌≡◌, ◌∙◌, Bor, List, [], ap, get_or, map, not, sym, ℕ}
 use Rattle.std.proofs.lemmas.List.{get_or_default}
 use Rattle.elf_edits_shrink.specs.ShrinkModel.{search_model, removal_model}

@@ -1,4 +1,4 @@
--- The image with that version was read and edited; the symbols that were read stay those.
+-- The image with that version was read and edited; the symbols that were read stay as they were.
 use Rattle.std.proofs.Common.{subst, sym, true}
 use Rattle.elf_image_symbols.specs.EditedList.{EditedList}
 use Rattle.elf_image.specs.BuilderModel.{image_model}

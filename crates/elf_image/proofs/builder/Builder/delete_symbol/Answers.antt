@@ -1,4 +1,4 @@
--- The image without the symbol was read and edited; the symbols that were read stay those.
+-- The image without the symbol was read and edited; the symbols that were read stay as they were.
 use Rattle.std.proofs.Common.{subst, sym, true}
 use Rattle.std.specs.Prelude.{slice_index}
 use Rattle.elf_format.specs.declared.constants.TheConstants.{SHT_SYMTAB}

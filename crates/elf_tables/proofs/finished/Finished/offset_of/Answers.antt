@@ -16,7 +16,7 @@ returns-in-Some-clause-place c =
     sym (lookup-front (bytes_eq text) (by_bytes c.self.inside.placed.entries) (with_places c.self.inside.texts.items c.self.inside.places.items) c.in-Some.place placed)
     ∙ ap (λ table. lookup (bytes_eq text) table.places) c.self.view_is
 
--- it was laid, or it isn't there
+-- the text was laid, or it isn't there
 pub returns-in-None-clause-place : goal.returns-in-None-clause-place
 returns-in-None-clause-place c =
     let text : List ℕ = c.args.text.now in

@@ -1,4 +1,4 @@
--- Both lists, or none where a name isn't there.
+-- Both lists of symbols, or none where a name isn't there.
 use Rattle.std.proofs.Common.{sym, ◌∙◌}
 use Rattle.elf_image_versions.specs.Read.{parts_model}
 use Rattle.elf_image.proofs.SymbolLists.{lists_missing, lists_missing_dynamic, lists_there}
