@@ -4,13 +4,13 @@ ghost use Rattle.elf_image.specs.Answers.{borrowed};
 ghost use Rattle.elf_image.specs.Image.{image_of, shown};
 ghost use Rattle.elf_image.specs.ImageModel.{entry_model, name_model, needs_model, section_model};
 ghost use Rattle.arwen_elf.specs.Causes.{RefusesRead};
-ghost use Rattle.arwen_elf.specs.Prints.{before_nul as bytes_before_nul, lossily};
+ghost use Rattle.arwen_elf.specs.Prints.{lossily};
 ghost use Rattle.arwen_elf.specs.Reads.{entries_shown, needed_shown, soname_shown, text_if as text_if_told};
 ghost use Rattle.arwen_cli_facts.specs.ElfFacts.{AreElfFacts, NamesOf, elf_facts, elf_model, flags_1_of, has_pie_flag, kind_of as kind_told, library_facts, library_model, number_if_tagged, number_tagged, size_of_type as size_told, spare_entries as spare_told, text_tagged, versions_if, versions_needed as versions_told};
 ghost use Rattle.arwen_cli_facts.specs.Texts.{texts_model};
 
 use crate::text::{text_if, text_of};
-use arwen_elf::elf::{ElfError, Writer};
+use arwen_elf::elf::{ElfError, Writer, before_nul};
 use elf_image::constants::{DT_FLAGS_1, DT_RPATH, DT_RUNPATH, ET_EXEC, SHT_DYNAMIC};
 use elf_image::version::{VersionNeed, VersionNeedName};
 use elf_image::{Builder, Dynamic, Form, Section};
@@ -253,18 +253,6 @@ fn names_of(alloc: Global, writer: &Writer<'_>) -> Result<ElfNames, AllocError>
         rpath,
         runpath,
     })
-}
-
-/// The bytes before the first NUL, all where there is none.
-fn before_nul(bytes: &[u8]) -> &[u8]
-    ensures { result.now ≡ bytes_before_nul bytes.now }
-{
-    for (i, byte) in bytes.iter().enumerate() {
-        if *byte == 0 {
-            return &bytes[..i];
-        }
-    }
-    bytes
 }
 
 /// The libraries that an image needs.

@@ -4,7 +4,7 @@ pub mod changes;
 pub mod container;
 pub mod rewriter;
 
-pub use crate::elf::container::ElfContainer;
+pub use crate::elf::container::{ElfContainer, before_nul};
 pub use crate::elf::rewriter::{
     BuilderExt, ElfBatchError, ElfEdit, ElfError, ModifyCause, Needed, NotWritten, ProbeAnswer,
     Reason, Removed, SymbolEdit, Task, Writer,

@@ -2,7 +2,6 @@
 #![tactic(auto)]
 
 mod edits;
-pub mod machines;
 pub mod new_file;
 mod output;
 mod symbols;

@@ -3,16 +3,14 @@ ghost use Rattle.elf_image.specs.Image.{image_of, shown};
 ghost use Rattle.elf_image.specs.ImageModel.{entry_model};
 ghost use Rattle.elf_image.specs.Answers.{borrowed};
 ghost use Rattle.elf_apply.specs.Causes.{RefusesRead};
-ghost use Rattle.arwen_elf_writer.specs.PageSizes.{page_size_for, page_size_of};
+ghost use Rattle.arwen_elf_writer.specs.PageSizes.{page_size_for};
 ghost use Rattle.arwen_elf_writer.specs.Reads.{entries_shown, text_if, first_of, needed_shown, runpath_shown, searched_shown, soname_shown, texts_tagged};
 ghost use Rattle.arwen_elf_writer.specs.WriterModel.{ShowsBothViews, needed_left};
 
-use crate::machines::{
-    EM_AARCH64, EM_ALPHA, EM_IA_64, EM_LOONGARCH, EM_PPC, EM_PPC64, EM_SPARC, EM_SPARCV9, EM_TILEGX,
-};
 use elf_apply::error::ElfError;
 use elf_apply::ext::BuilderExt;
-use elf_image::constants::{DT_NEEDED, DT_RPATH, DT_RUNPATH, DT_SONAME, EM_MIPS};
+use elf_format::machine::default_page_size;
+use elf_image::constants::{DT_NEEDED, DT_RPATH, DT_RUNPATH, DT_SONAME};
 use elf_image::{Builder, Dynamic, Header};
 use std::alloc::Global;
 use std::marker::Model;
@@ -177,17 +175,5 @@ impl<'data> Writer<'data> {
             Some(size) => size,
             None => default_page_size(self.builder.header().e_machine),
         }
-    }
-}
-
-// The page size that files of a machine are laid out for where none is set.
-fn default_page_size(machine: u16) -> u32
-    ensures { result ≡ page_size_of machine }
-{
-    match machine {
-        EM_ALPHA | EM_IA_64 | EM_MIPS | EM_PPC | EM_PPC64 | EM_AARCH64 | EM_TILEGX | EM_LOONGARCH =>
-            { 65536 }
-        EM_SPARC | EM_SPARCV9 => 8192,
-        _ => 4096,
     }
 }

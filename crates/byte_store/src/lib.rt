@@ -21,7 +21,7 @@ pub use crate::failures::Failures;
 pub use crate::file::{FileStore, RuntimeFiles};
 pub use crate::memory::{MemoryFile, MemoryFolder, MemoryStore};
 pub use crate::opens::{Creates, Opens};
-pub use crate::pieces::Piece;
+pub use crate::pieces::{Piece, put};
 pub use crate::reading::{ReadError, load_up_to, load_whole, read_up_to, read_whole};
 pub use crate::stores::Store;
 pub use crate::writing::{Changes, Left, WriteError, write_changes, write_pieces};

@@ -2,6 +2,7 @@
 use Rattle.std.specs.Prelude.{ℕ, List, [], ◌∷◌, ◌++◌, Bool, true, false, Option, Some, None, ◌==◌, if◌then◌else◌}
 use Rattle.std.specs.List.{list_any, slice_split, join_with_byte}
 use Rattle.std.specs.Str.{bytes_eq}
+pub use Rattle.elf_image.specs.DynamicList.{holds_nul}
 use Rattle.elf_image.specs.Options.{first_there}
 use Rattle.elf_edits.specs.declared.constants.TheConstants.{COLON}
 
@@ -13,9 +14,6 @@ is_among texts text = list_any (λ other. bytes_eq text other) texts
 abbrev pub value_of : List (List ℕ × List ℕ) → List ℕ → Option (List ℕ)
 value_of [] text = None
 value_of (pair ∷ pairs) text = first_there (value_of pairs text) (if bytes_eq text pair.0 then Some pair.1 else None)
-
-abbrev pub holds_nul : List ℕ → Bool
-holds_nul text = list_any (λ byte. byte == 0) text
 
 -- the directories of a run path: its parts between colons; the empty text has one, which is empty
 abbrev pub directories_in : List ℕ → List (List ℕ)

@@ -2,6 +2,7 @@
 use Rattle.std.specs.Prelude.{ℕ, List, [], ◌∷◌, Bool, true, false, Option, Some, None, ◌==◌, if◌then◌else◌}
 use Rattle.std.specs.List.{list_any}
 use Rattle.patch_bytes.specs.Memory.{◌>>=◌}
+pub use Rattle.patch_bytes.specs.Memory.{first_there}
 
 -- a value is there, and passes the test
 abbrev pub is_some_and : {A : Type 0} → (A → Bool) → Option A → Bool
@@ -24,11 +25,6 @@ are_both_or_neither test (Some x) (Some y) = test x y
 abbrev pub kept_if : {A : Type 0} → (A → Bool) → Option A → Option A
 kept_if test None = None
 kept_if test (Some x) = if test x then Some x else None
-
--- the first, or where it isn't there the second
-abbrev pub first_there : {A : Type 0} → Option A → Option A → Option A
-first_there None other = other
-first_there (Some x) other = Some x
 
 -- the list that belongs to a value, where that is there
 abbrev pub list_at : {A B : Type 0} → (A → List B) → Option A → List B

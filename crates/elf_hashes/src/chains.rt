@@ -57,15 +57,6 @@ fn chain(firsts: &mut [u32], nexts: &mut [u32], hashes: &[Option<u32>])
     }
 }
 
-// So many zeros.
-fn zeros(alloc: Global, count: usize) -> Result<Vec<u32>, AllocError>
-    ensures { IfOk result (λ numbers. numbers.items ≡ replicate count 0) }
-{
-    let mut numbers = Vec::new(alloc);
-    numbers.resize(count, 0)?;
-    Ok(numbers)
-}
-
 // The buckets and chains of symbols with these hashes.
 pub(crate) fn make_chains(
     alloc: Global,
@@ -78,8 +69,8 @@ pub(crate) fn make_chains(
         (made.firsts.items ≡ heads buckets (in_buckets buckets hashes.now))
         × (made.nexts.items ≡ chains 0 (in_buckets buckets hashes.now))) }
 {
-    let mut firsts = zeros(alloc, buckets as usize)?;
-    let mut nexts = zeros(alloc, hashes.len())?;
+    let mut firsts = vec![in alloc; 0; buckets as usize]?;
+    let mut nexts = vec![in alloc; 0; hashes.len()]?;
     chain(firsts.as_mut_slice(), nexts.as_mut_slice(), hashes);
     Ok(Chained { firsts, nexts })
 }

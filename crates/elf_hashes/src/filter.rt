@@ -66,15 +66,6 @@ fn set_bits(words: &mut [u64], form: Form, sizes: GnuSizes, hashes: &[Option<u32
     }
 }
 
-// So many zeros.
-fn zeros(alloc: Global, count: usize) -> Result<Vec<u64>, AllocError>
-    ensures { IfOk result (λ numbers. numbers.items ≡ replicate count 0) }
-{
-    let mut numbers = Vec::new(alloc);
-    numbers.resize(count, 0)?;
-    Ok(numbers)
-}
-
 // The words of the filter.
 fn filter_words(
     alloc: Global,
@@ -86,7 +77,7 @@ fn filter_words(
     requires shift { sizes.filter_shift < 32 }
     ensures { IfOk result (λ words. words.items ≡ filter_words_of form sizes hashes.now) }
 {
-    let mut words = zeros(alloc, sizes.filter_words as usize)?;
+    let mut words = vec![in alloc; 0; sizes.filter_words as usize]?;
     set_bits(words.as_mut_slice(), form, sizes, hashes);
     Ok(words)
 }

@@ -21,6 +21,7 @@ is_text_tag tag = is_one_of text_tags tag
 abbrev pub is_number_tag : ℕ → Bool
 is_number_tag tag = not (is_table_tag tag || is_text_tag tag)
 
+-- a text has a NUL in it
 abbrev pub holds_nul : List ℕ → Bool
 holds_nul text = list_any (λ byte. byte == 0) text
 

@@ -288,7 +288,7 @@ abbrev pub IsPlannedSo : (Plan → Bool) → Image → Bool → Type 0
 IsPlannedSo test edited passes = (plan : Plan) × IsPlan (resized edited) plan × (test plan ≡ passes)
 
 -- A note is told just where it may be so, and the plan passes the test. An image has no more than one plan.
-abbrev pub TellsPlanned : Bool → (Layout → Bool) → Image → Bool → Type 0
+abbrev pub TellsPlanned : Bool → (Plan → Bool) → Image → Bool → Type 0
 TellsPlanned may_be test edited true = (may_be ≡ true) × IsPlannedSo test edited true
 TellsPlanned may_be test edited false = (may_be ≡ false) ⊎ (IsPlannedSo test edited false ⊎ IsUnplanned edited)
 

@@ -3,12 +3,9 @@ use Rattle.std.specs.Prelude.{ℕ, ◌+◌, ◌<◌, ◌≡◌, ◌≢◌, List,
 use Rattle.std.specs.Map.{lookup}
 use Rattle.std.specs.List.{ends_with, list_all, list_any}
 use Rattle.std.specs.Str.{bytes_eq}
+pub use Rattle.elf_image.specs.DynamicList.{holds_nul}
 use Rattle.patch_bytes.specs.Memory.{memory_of, text_at}
 use Rattle.patch_bytes.specs.Number.{field}
-
--- a text has a NUL in it
-abbrev pub holds_nul : List ℕ → Bool
-holds_nul text = list_any (λ byte. byte == 0) text
 
 -- no text has a NUL in it
 abbrev pub HoldNoNul : List (List ℕ) → Type 0

@@ -1,7 +1,6 @@
 //! The bytes of an edited ELF file: what differs from its source, laid over that.
-ghost use Rattle.std.specs.Prelude.{◌≡◌, ◌+◌, ◌++◌, ◌≤◌, length, All, IfErr, IfOk, IsTrue};
+ghost use Rattle.std.specs.Prelude.{◌≡◌, ◌++◌, length, All, IfErr, IfOk, IsTrue};
 ghost use Rattle.byte_store.specs.Composed.{IsDifference, made_of, owned_patches};
-ghost use Rattle.byte_store.specs.Known.{put_at};
 ghost use Rattle.byte_store.specs.Laid.{LiesIn, laid};
 ghost use Rattle.elf_layout_plan.specs.Plan.{IsPlan, resized};
 ghost use Rattle.elf_layout_plan.specs.Refusals.{do_sizes_of_image_fit};
@@ -9,18 +8,10 @@ ghost use Rattle.elf_write_contents.specs.WrittenFile.{IsWrittenByPlan, IsWritte
 ghost use Rattle.elf_write.specs.Refused.{AreNoBytes};
 
 use crate::difference::image_pieces;
-use byte_store::{Difference, OwnedPiece};
+use byte_store::{Difference, OwnedPiece, put};
 use elf_image::Builder;
 use elf_layout_plan::{LayoutFault, Plan};
 use std::alloc::{AllocError, Global};
-
-// Writes a part over bytes from a position on.
-fn put(bytes: &mut [u8], at: usize, part: &[u8])
-    requires { at + length part.now ≤ length bytes.old }
-    ensures { bytes.new ≡ put_at at part.now bytes.old }
-{
-    bytes[at..at + part.len()].copy_from_slice(part);
-}
 
 // Writes pieces over bytes.
 fn lay(bytes: &mut [u8], pieces: &[OwnedPiece])

@@ -87,7 +87,7 @@ are_raw read image plan made is list at raw are =
     }
 
 -- the entries that were made by the places of their texts
-pub made_raw : (read image : Image) (plan : Layout) (made : List Made) (s : Staying) → IsEditedReady read image → AreWritten read image s
+pub made_raw : (read image : Image) (plan : Plan) (made : List Made) (s : Staying) → IsEditedReady read image → AreWritten read image s
     → (list : ℕ) → type_position image SHT_DYNAMIC ≡ Some list → (es : List Entry) → Some es ≡ image.entries
     → (texts : List (List ℕ)) (places : List ℕ) → texts ≡ list_at texts_of_entries (written_entries read image)
     → TextsStand (strings_at image made (link_at image list)) texts places → (raw : List EntryNumbers)

@@ -26,7 +26,7 @@ pub record IsBytesAt (image : Image) (plan : Plan) (made : List Made) (raw : Lis
       → IsMadeContent (resized image) plan made raw k place bytes
 
 -- the bytes of each of the first sections are there
-pub record AreBytesOf (image : Image) (plan : Layout) (made : List Made) (raw : List EntryNumbers) (contents : List (List ℕ)) : Type 0 where
+pub record AreBytesOf (image : Image) (plan : Plan) (made : List Made) (raw : List EntryNumbers) (contents : List (List ℕ)) : Type 0 where
   pub each : (i : ℕ) (bytes : List ℕ) → slice_get contents i ≡ Some bytes → IsBytesAt image plan made raw i bytes
 
 -- ## Sections that number the dynamic symbols

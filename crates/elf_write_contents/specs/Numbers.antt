@@ -48,7 +48,7 @@ do_header_numbers_fit image plan =
 
 -- Each number of the headers and of the dynamic list fits its field; so do the offsets of texts, where texts move in dynamic strings that
 -- are copied, and the new numbers of dynamic symbols in hash tables and in relocations.
-unfoldable pub do_numbers_fit : Image → Layout → Bool
+unfoldable pub do_numbers_fit : Image → Plan → Bool
 do_numbers_fit image plan =
     let read = image_at_read image in
     do_header_numbers_fit image plan

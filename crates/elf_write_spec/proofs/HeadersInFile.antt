@@ -20,7 +20,7 @@ use Rattle.elf_layout_plan.proofs.ForCallers.PlacedSegments.{before_kept_end, en
 use Rattle.elf_layout_plan.proofs.ForCallers.PlacedStays.{table_kept_in}
 
 -- both headers in front end before the section header table
-pub record EndBefore (r : Resized) (plan : Layout) : Type 0 where
+pub record EndBefore (r : Resized) (plan : Plan) : Type 0 where
   pub header : file_header_size r.image.form ≤ plan.e_shoff
   pub table : plan.e_phoff + length plan.segments * segment_header_size r.image.form ≤ plan.e_shoff
 

@@ -7,15 +7,6 @@ ghost use Rattle.elf_write_spec.specs.Inverse.{IsInverse};
 use elf_tables::TableFault;
 use std::alloc::{AllocError, Global};
 
-// So many zeros.
-fn zeros(alloc: Global, count: usize) -> Result<Vec<u32>, AllocError>
-    ensures { IfOk result (λ numbers. length numbers.items ≡ count) }
-{
-    let mut numbers = Vec::new(alloc);
-    numbers.resize(count, 0)?;
-    Ok(numbers)
-}
-
 // Puts at each position of an order where that stands in it.
 fn invert(numbers: &mut [u32], order: &[usize])
     requires long { length numbers.old ≡ length order.now }
@@ -40,7 +31,7 @@ pub fn new_numbers(alloc: Global, order: &[usize]) -> Result<Vec<u32>, TableFaul
     if order.len() as u64 > 0x1_0000_0000 {
         return Err(TableFault::NumberTooLarge);
     }
-    let mut numbers = zeros(alloc, order.len())?;
+    let mut numbers = vec![in alloc; 0; order.len()]?;
     invert(numbers.as_mut_slice(), order);
     Ok(numbers)
 }

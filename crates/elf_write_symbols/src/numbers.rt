@@ -15,15 +15,6 @@ pub struct NewNumbers {
     pub numbers: Vec<u32>,
 }
 
-// So many zeros.
-fn zeros(alloc: Global, count: usize) -> Result<Vec<u32>, AllocError>
-    ensures { IfOk result (λ numbers. numbers.items ≡ replicate count 0) }
-{
-    let mut numbers = Vec::new(alloc);
-    numbers.resize(count, 0)?;
-    Ok(numbers)
-}
-
 // Puts at the number at read of each dynamic symbol its place in the new order.
 fn number_dynamic(numbers: &mut [u32], read: &Builder<'_>, image: &Builder<'_>, order: &[usize])
     requires ready { IsEditedReady read.now image.now }
@@ -51,7 +42,7 @@ pub(crate) fn dynamic_numbers(
     requires few { length image.now.dynamic_symbols < 2 ^ 32 }
     ensures { IfOk result (λ numbers. numbers.items ≡ new_dynamic_symbols read.now image.now) }
 {
-    let mut numbers = zeros(alloc, read.dynamic_symbols().len())?;
+    let mut numbers = vec![in alloc; 0; read.dynamic_symbols().len()]?;
     number_dynamic(numbers.as_mut_slice(), read, image, order);
     Ok(numbers)
 }
@@ -80,7 +71,7 @@ pub(crate) fn static_numbers(
     requires few { length image.now.symbols < 2 ^ 32 }
     ensures { IfOk result (λ numbers. numbers.items ≡ new_static_symbols read.now image.now) }
 {
-    let mut numbers = zeros(alloc, read.symbols().len())?;
+    let mut numbers = vec![in alloc; 0; read.symbols().len()]?;
     number_static(numbers.as_mut_slice(), read, image);
     Ok(numbers)
 }

@@ -15,15 +15,6 @@ pub struct NewSections {
     pub numbers: Vec<u16>,
 }
 
-// So many zeros.
-fn zeros(alloc: Global, count: usize) -> Result<Vec<u16>, AllocError>
-    ensures { IfOk result (λ numbers. numbers.items ≡ replicate count 0) }
-{
-    let mut numbers = Vec::new(alloc);
-    numbers.resize(count, 0)?;
-    Ok(numbers)
-}
-
 // Puts at the number at read of each section where it stands.
 fn number_sections(numbers: &mut [u16], read: &Builder<'_>, image: &Builder<'_>)
     requires ready { IsEditedReady read.now image.now }
@@ -45,7 +36,7 @@ pub fn new_sections(
     requires { IsEditedReady read.now image.now }
     ensures { IfOk result (AreNewSections read.now image.now) }
 {
-    let mut numbers = zeros(alloc, read.sections().len())?;
+    let mut numbers = vec![in alloc; 0; read.sections().len()]?;
     number_sections(numbers.as_mut_slice(), read, image);
     Ok(NewSections { numbers })
 }

@@ -23,7 +23,7 @@ use Rattle.macho_signatures.specs.declared.directory.Directory.{Directory}
 use Rattle.macho_signatures.specs.declared.renewal.Slot.{Slot}
 use Rattle.macho_signing.specs.File.{IsInside, IsSignedPart, first_fault, has_identity_in, pages_in, part_bytes, part_fault, part_slots, parts_fault, parts_of, signed_slots, slice_part, slot_in}
 use Rattle.macho_signing.specs.Front.{SignsThin}
-use Rattle.macho_signing.specs.Thin.{AreSlotsPlaced, Pages, adhoc_directories, or_else, since, thin_slots, touched_by}
+use Rattle.macho_signing.specs.Thin.{AreSlotsPlaced, Pages, adhoc_directories, first_there, since, thin_slots, touched_by}
 use Rattle.macho_signing.specs.declared.fault.SigningFault.{SigningFault}
 use Rattle.macho_signing.specs.declared.file.Part.{Part as FilePart}
 use Rattle.macho_signatures.proofs.HashLengths.{length-page_hash}
@@ -151,7 +151,7 @@ first_passes file edited [] [] each = refl
 first_passes file edited [] (s ∷ signs) each = absurd each
 first_passes file edited (arch ∷ archs) [] each = absurd each
 first_passes file edited (arch ∷ archs) (s ∷ signs) each =
-    ap (λ (f : Option SigningFault). or_else f (first_fault (part_fault (since file) edited) (map slice_part archs))) each.0.1.passes ∙ first_passes file edited archs signs each.1
+    ap (λ (f : Option SigningFault). first_there f (first_fault (part_fault (since file) edited) (map slice_part archs))) each.0.1.passes ∙ first_passes file edited archs signs each.1
 
 all_placed : (file edited : List ℕ) (archs : List FatArch) (signs : List SignedFront) → AllZip (SignsSlice file edited) archs signs → All (ArePlacedIn edited) (map slice_part archs)
 all_placed file edited [] [] each = All-nil (ArePlacedIn edited)

@@ -12,7 +12,7 @@ use Rattle.macho_signatures.specs.Signature.{blob_bytes, blob_directory, blob_fa
 use Rattle.macho_signatures.specs.declared.directory.Directory.{Directory}
 use Rattle.macho_signatures.specs.declared.fault.SignatureFault.{SignatureFault}
 use Rattle.macho_signatures.specs.declared.fault.SignatureFault.TheVariants.{BadDirectory, NoDirectory, Outside}
-use Rattle.macho_signatures.proofs.PlaceLaws.{or_else_none, passes}
+use Rattle.macho_signatures.proofs.PlaceLaws.{neither_there, passes}
 use Rattle.macho_commands_signing.specs.Kept.{IsNamedApart}
 use Rattle.macho_commands_signing.proofs.RenewedSignature.{AgreeOnFields, Each, IsResigned, all_numbered, blob_byte, blobs_kept, count_kept, field_kept, fields_kept, fixed_least, good, index_number, inside_kept, limit_kept, long_blob, moved, signature_byte}
 
@@ -211,7 +211,7 @@ module _ (start : ℕ) (s t : List ℕ) (is : IsResigned start s t) (apart : All
   contents_again =
       let same : blobs_of t ≡ blobs_of s = blobs_kept start s t is in
       let pass : first_fault (blob_fault start t) (directory_blobs s) ≡ None = all_pass (blob_fault start t) (directory_blobs s) each_passes in
-      let main = (or_else_none (first_fault (blob_fault start s) (directory_blobs s)) (if has_main s then None else Some NoDirectory) is.contents).1 in
+      let main = (neither_there (first_fault (blob_fault start s) (directory_blobs s)) (if has_main s then None else Some NoDirectory) is.contents).1 in
       rw (same, pass) main
 
 pub signature_again : (start size : ℕ) (old new : List ℕ) → signature_fault start size old ≡ None → length new ≡ length old → IsResigned start (signature_bytes start size old) (signature_bytes start size new) → All IsNamedApart (directories_of start (signature_bytes start size old)) → signature_fault start size new ≡ None

@@ -9,7 +9,7 @@ use Rattle.std.proofs.lemmas.List.FromFn.{get_or-map-range_with_len, length-map-
 use Rattle.patch_bytes.specs.declared.number.ByteOrder2.TheVariants.{Big}
 use Rattle.patch_bytes.specs.Number.{number_at}
 use Rattle.patch_bytes.proofs.NumberLaws.{number_at-same}
-use Rattle.macho_signatures.specs.Blobs.{AreBlobs, blob_at, blob_count, blobs_fault, blobs_of, header_fault, index_end, is_bad_blob, number32, or_else, overlap, signature_bytes, some_overlap, super_length}
+use Rattle.macho_signatures.specs.Blobs.{AreBlobs, blob_at, blob_count, blobs_fault, blobs_of, header_fault, index_end, is_bad_blob, number32, first_there, overlap, signature_bytes, some_overlap, super_length}
 use Rattle.macho_signatures.specs.Directory.{are_slots_outside, code_limit, directory_fault, directory_of, fixed_size, hash_offset, is_header_bad, slot_size, special_count, version_of}
 use Rattle.macho_signatures.specs.Renewed.{IsRenewed, LiesInSlot}
 use Rattle.macho_signatures.specs.Signature.{blob_bytes, blob_directory, blob_fault, contents_fault, directories_of, directory_blobs, first_fault, has_main, is_directory, is_message, is_signed, signature_fault, slots_end}
@@ -19,7 +19,7 @@ use Rattle.macho_signatures.specs.declared.renewal.ByteRange.{ByteRange}
 use Rattle.macho_signatures.proofs.IndexLaws.{are_blobs}
 use Rattle.macho_signatures.proofs.LaidLaws.{same_field}
 use Rattle.macho_signatures.proofs.PageLaws.{slot-within}
-use Rattle.macho_signatures.proofs.PlaceLaws.{first_fault_at, has_slots, or_else_none, passes}
+use Rattle.macho_signatures.proofs.PlaceLaws.{first_fault_at, has_slots, neither_there, passes}
 use Rattle.macho_commands_signing.specs.Kept.{layout_of}
 
 -- ## What checks show
@@ -46,7 +46,7 @@ contents_pass : (start : ℕ) (s : List ℕ) → contents_fault start s ≡ None
 unfolding contents_fault
 contents_pass start s none =
     first_fault_at (blob_fault start s) (directory_blobs s)
-    (or_else_none (first_fault (blob_fault start s) (directory_blobs s)) (if has_main s then None else Some NoDirectory) none).0
+    (neither_there (first_fault (blob_fault start s) (directory_blobs s)) (if has_main s then None else Some NoDirectory) none).0
 
 -- the fields of a directory stand before its slots, and in it
 record HasRoom (d : List ℕ) : Type 0 where
@@ -175,8 +175,8 @@ unfolding signature_fault
 is_resigned start size old new touched none is =
     let s : List ℕ = signature_bytes start size old in
     let outer = passes (nat_lt (length old) (start + size)) Outside _ none in
-    let both = or_else_none (or_else (header_fault s) (blobs_fault s)) (contents_fault start s) outer.1 in
-    let parts = or_else_none (header_fault s) (blobs_fault s) both.0 in
+    let both = neither_there (first_there (header_fault s) (blobs_fault s)) (contents_fault start s) outer.1 in
+    let parts = neither_there (header_fault s) (blobs_fault s) both.0 in
     record {
       long = length-signature start size old new is.long;
       header = parts.0;

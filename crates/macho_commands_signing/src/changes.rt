@@ -12,7 +12,7 @@ ghost use Rattle.macho_signatures.specs.Renewed.{SlotLies, laid as slots_on};
 ghost use Rattle.macho_commands_signing.specs.Pieces.{ArePartsOf, ArePiecesOf, LaysOn, LiesOn};
 
 use arwen_macho::macho::Front;
-use byte_store::{OwnedPiece, Piece, Store, write_pieces};
+use byte_store::{OwnedPiece, Piece, Store, put, write_pieces};
 use macho_signatures::Slot;
 use std::alloc::{AllocError, Global};
 use std::io;
@@ -105,14 +105,6 @@ fn stands_in(bytes: &[u8], at: usize, part: &[u8]) -> bool
     ensures { IsTrue result → put_at at part.now bytes.now ≡ bytes.now }
 {
     &bytes[at..][..part.len()] == part
-}
-
-/// Writes a part over the bytes from a position on.
-fn put(bytes: &mut [u8], at: usize, part: &[u8])
-    requires { at + length part.now ≤ length bytes.old }
-    ensures { bytes.new ≡ put_at at part.now bytes.old }
-{
-    bytes[at..at + part.len()].copy_from_slice(part);
 }
 
 /// Pieces in the places of others, with what stands there in the bytes that those make of a file.

@@ -6,13 +6,13 @@ use Rattle.std.proofs.lemmas.List.Elements.{All-cons, All-nil}
 use Rattle.patch_bytes.specs.declared.number.ByteOrder2.{ByteOrder2}
 use Rattle.macho_image.specs.declared.command.LoadCommand.{LoadCommand}
 use Rattle.macho_image.specs.declared.format.MachFault.{MachFault}
-use Rattle.macho_image.specs.Checks.{area_fault, command_fault, or_else}
+use Rattle.macho_image.specs.Checks.{area_fault, command_fault, first_there}
 use Rattle.macho_image.specs.Command.{IsCommand, cmdsize_of, variant_of}
 use Rattle.macho_image.specs.Commands.{cut_commands, located_commands}
 use Rattle.macho_image.proofs.CommandLaws.{is_command}
 
 -- two checks that are passed
-pub both_pass : (first next : Option MachFault) → or_else first next ≡ None → (first ≡ None) × (next ≡ None)
+pub both_pass : (first next : Option MachFault) → first_there first next ≡ None → (first ≡ None) × (next ≡ None)
 both_pass (Some fault) next pass = cc
 both_pass None next pass = (refl, pass)
 

@@ -6,7 +6,7 @@ use Rattle.patch_bytes.specs.declared.number.ByteOrder2.{ByteOrder2}
 use Rattle.macho_image.specs.declared.command.CommandVariant.{CommandVariant}
 use Rattle.macho_image.specs.declared.command.LoadCommand.{LoadCommand}
 use Rattle.macho_image.specs.declared.format.MachFault.{MachFault}
-use Rattle.macho_image.specs.Checks.{area_fault, command_fault, or_else}
+use Rattle.macho_image.specs.Checks.{area_fault, command_fault, first_there}
 use Rattle.macho_image.specs.Command.{cmdsize_of, contents_of, variant_of}
 use Rattle.macho_image.specs.Commands.{cut_commands, least, located_commands}
 use Rattle.macho_image.proofs.CommandLaws.{command_passes}
@@ -18,7 +18,7 @@ fails_first order count i rest all fault within before fails =
     let left : count - i ≡ suc (count - (i + 1)) = omega arith in
     let later = area_fault order (count - (i + 1)) (drop (cmdsize_of order rest) rest) in
     let step = rw left at before in
-    sym step ∙ ap (λ o. or_else o later) fails
+    sym step ∙ ap (λ o. first_there o later) fails
 
 -- the command that was read has the size that it says, and what is left lies behind it
 pub length_command : (order : ByteOrder2) (rest command : List ℕ) → command_fault order rest ≡ None → command ≡ take (cmdsize_of order rest) rest → length command ≡ cmdsize_of order rest
@@ -38,7 +38,7 @@ checked_more order count i rest command all within pass is before =
     let left : count - i ≡ suc (count - (i + 1)) = omega arith in
     let later = area_fault order (count - (i + 1)) (drop (cmdsize_of order rest) rest) in
     let step = rw left at before in
-    ap (area_fault order (count - (i + 1))) (rest_behind order rest command pass is) ∙ sym (ap (λ o. or_else o later) pass) ∙ step
+    ap (area_fault order (count - (i + 1))) (rest_behind order rest command pass is) ∙ sym (ap (λ o. first_there o later) pass) ∙ step
 
 -- the commands that are left, with the next of them apart
 cut_more : (order : ByteOrder2) (count i : ℕ) (rest command : List ℕ) → i < count → command_fault order rest ≡ None → command ≡ take (cmdsize_of order rest) rest → cut_commands order (count - i) rest ≡ command ∷ cut_commands order (count - (i + 1)) (take (length rest - length command) (drop (length command) rest))

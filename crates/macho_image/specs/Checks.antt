@@ -7,11 +7,7 @@ use Rattle.macho_image.specs.declared.format.MachFault.{MachFault}
 use Rattle.macho_image.specs.declared.format.MachFault.TheVariants.{BadCommandSize, BadMagic, BadNameOffset, CountsDisagree, TooLong, Truncated}
 use Rattle.macho_image.specs.Command.{cmd_of, cmdsize_of, is_text_kind, least_size, text_offset}
 use Rattle.macho_image.specs.Form.{area_of, commands_end, form_of, header_size, ncmds_of}
-
--- the first of two checks that fails
-abbrev pub or_else : Option MachFault → Option MachFault → Option MachFault
-or_else (Some fault) next = Some fault
-or_else None next = next
+pub use Rattle.patch_bytes.specs.Memory.{first_there}
 
 -- the checks of a command that has as many bytes as it says
 unfoldable pub fields_fault : ByteOrder2 → List ℕ → Option MachFault
@@ -30,7 +26,7 @@ command_fault order rest =
 abbrev pub area_fault : ByteOrder2 → ℕ → List ℕ → Option MachFault
 area_fault order zero [] = None
 area_fault order zero (b ∷ rest) = Some CountsDisagree
-area_fault order (suc n) rest = or_else (command_fault order rest) (area_fault order n (drop (cmdsize_of order rest) rest))
+area_fault order (suc n) rest = first_there (command_fault order rest) (area_fault order n (drop (cmdsize_of order rest) rest))
 
 -- the checks of a file of a known form
 unfoldable pub form_fault : Ctx → List ℕ → Option MachFault

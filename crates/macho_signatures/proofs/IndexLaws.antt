@@ -6,7 +6,7 @@ use Rattle.std.proofs.lemmas.List.Elements.{All-push}
 use Rattle.std.proofs.lemmas.List.Folds.{list_any_at, list_any_none}
 use Rattle.std.proofs.lemmas.List.FromFn.{get_or-map-range_with_len, length-map-range_with_len, map-range_with_len_more}
 use Rattle.macho_signatures.specs.declared.blobs.Blob.{Blob}
-use Rattle.macho_signatures.specs.Blobs.{AreBlobs, blob_at, blob_count, blobs_fault, blobs_of, first_blobs, header_fault, index_end, or_else, is_bad_blob, some_overlap, super_length}
+use Rattle.macho_signatures.specs.Blobs.{AreBlobs, blob_at, blob_count, blobs_fault, blobs_of, first_blobs, header_fault, index_end, first_there, is_bad_blob, some_overlap, super_length}
 use Rattle.macho_signatures.proofs.OverlapLaws.{apart_blobs}
 
 -- one blob more
@@ -90,7 +90,7 @@ filled_seen s len end n blobs seen same read good =
     subst P (sym (same ∙ read)) (filled_blobs len end (first_blobs s n) good)
 
 -- a SuperBlob that passes all checks
-pub super_found : (s : List ℕ) (n : ℕ) (blobs seen : List Blob) (answer : Bool) → header_fault s ≡ None → n ≡ blob_count s → 12 ≤ length s → super_length s ≤ length s → blobs ≡ first_blobs s n → list_any (is_bad_blob (super_length s) (index_end n)) (first_blobs s n) ≡ false → seen ≡ blobs → answer ≡ some_overlap seen → answer ≡ false → (or_else (header_fault s) (blobs_fault s) ≡ None) × (blobs ≡ blobs_of s) × AreBlobs s blobs
+pub super_found : (s : List ℕ) (n : ℕ) (blobs seen : List Blob) (answer : Bool) → header_fault s ≡ None → n ≡ blob_count s → 12 ≤ length s → super_length s ≤ length s → blobs ≡ first_blobs s n → list_any (is_bad_blob (super_length s) (index_end n)) (first_blobs s n) ≡ false → seen ≡ blobs → answer ≡ some_overlap seen → answer ≡ false → (first_there (header_fault s) (blobs_fault s) ≡ None) × (blobs ≡ blobs_of s) × AreBlobs s blobs
 unfolding blobs_fault blobs_of
 super_found s n blobs seen answer pass count header within read good same told none =
     let P : ℕ → Type 0 = λ m. list_any (is_bad_blob (super_length s) (index_end m)) (first_blobs s m) ≡ false in

@@ -13,7 +13,7 @@ use Rattle.macho_signatures.specs.declared.directory.HashKind.{HashKind}
 use Rattle.macho_signatures.specs.declared.directory.HashKind.TheVariants.{Sha1, Sha256}
 use Rattle.macho_signatures.specs.declared.fault.SignatureFault.{SignatureFault}
 use Rattle.macho_signatures.specs.declared.fault.SignatureFault.TheVariants.{BadDirectory, BadLimit, BadPageSize, BadSlots, Scattered, UnknownHash}
-use Rattle.macho_signatures.specs.Blobs.{AreBlobs, or_else, overlap, super_length}
+use Rattle.macho_signatures.specs.Blobs.{AreBlobs, first_there, overlap, super_length}
 use Rattle.macho_signatures.specs.Directory.{are_slots_outside, code_count, code_limit, directory_fault, directory_of, fixed_size, hash_kind_of, hash_offset, hash_size, hash_type, is_header_bad, is_identifier_outside, is_scattered, page_count, page_exponent, page_size, pages_fault, slot_size, special_count, version_of}
 use Rattle.macho_signatures.specs.Signature.{AreApart, ArePlaced, IsPlaced, blob_bytes, blob_directory, blob_fault, first_fault, is_directory, slots_end}
 use Rattle.macho_signatures.proofs.OverlapLaws.{overlaps}
@@ -23,9 +23,9 @@ pub passes : (b : Bool) (fault : SignatureFault) (next : Option SignatureFault) 
 passes true fault next pass = cc
 passes false fault next pass = (refl, pass)
 
-pub or_else_none : (a b : Option SignatureFault) → or_else a b ≡ None → (a ≡ None) × (b ≡ None)
-or_else_none None b pass = (refl, pass)
-or_else_none (Some fault) b pass = cc
+pub neither_there : (a b : Option SignatureFault) → first_there a b ≡ None → (a ≡ None) × (b ≡ None)
+neither_there None b pass = (refl, pass)
+neither_there (Some fault) b pass = cc
 
 -- what is known of a kind of hash
 some_kind : (o : Option HashKind) → is_none o ≡ false → (kind : HashKind) × (o ≡ Some kind)
@@ -111,7 +111,7 @@ apart_or a b none =
 
 pub first_fault_at : {X : Type 0} (f : X → Option SignatureFault) (xs : List X) → first_fault f xs ≡ None → All (λ x. f x ≡ None) xs
 first_fault_at f [] pass = λ k d inside. absurd (omega (arith, inside))
-first_fault_at f (x ∷ xs) pass = let p = or_else_none (f x) (first_fault f xs) pass in All-cons (λ y. f y ≡ None) x xs p.0 (first_fault_at f xs p.1)
+first_fault_at f (x ∷ xs) pass = let p = neither_there (f x) (first_fault f xs) pass in All-cons (λ y. f y ≡ None) x xs p.0 (first_fault_at f xs p.1)
 
 length-blob_bytes : (s : List ℕ) (b : Blob) → b.offset + b.size ≤ length s → length (blob_bytes s b) ≡ b.size
 length-blob_bytes s b inside = let long = length-drop b.offset s in length-take-le b.size (drop b.offset s) (omega (arith, long, inside))

@@ -10,9 +10,9 @@ use Rattle.macho_signatures.specs.declared.directory.Directory.{Directory}
 use Rattle.macho_signatures.specs.declared.fault.SignatureFault.{SignatureFault}
 use Rattle.macho_signatures.specs.declared.fault.SignatureFault.TheVariants.{Memory, NoDirectory, Outside}
 use Rattle.macho_signatures.specs.declared.signature.Signature.{Signature}
-use Rattle.macho_signatures.specs.Blobs.{AreBlobs, blobs_fault, blobs_of, header_fault, or_else, signature_bytes}
+use Rattle.macho_signatures.specs.Blobs.{AreBlobs, blobs_fault, blobs_of, header_fault, first_there, signature_bytes}
 use Rattle.macho_signatures.specs.Signature.{ArePlaced, Tells, blob_directory, blob_fault, bytes_fault, contents_fault, directories_of, directory_blobs, first_fault, has_main, is_directory, is_message, is_signed, signature_fault}
-use Rattle.macho_signatures.proofs.PlaceLaws.{are_placed, or_else_none}
+use Rattle.macho_signatures.proofs.PlaceLaws.{are_placed, neither_there}
 
 -- blobs of which each lies in the signature
 pub inside_blobs : (s : List ℕ) (blobs : List Blob) → AreBlobs s blobs → All (λ b. b.offset + b.size ≤ length s) blobs
@@ -56,7 +56,7 @@ pub fault_outside : (start size : ℕ) (bytes : List ℕ) → length bytes < sta
 unfolding signature_fault
 fault_outside start size bytes outside = rw (lt-ltb (length bytes) (start + size) outside) refl
 
-fault_within : (start size : ℕ) (bytes : List ℕ) → start + size ≤ length bytes → signature_fault start size bytes ≡ or_else (or_else (header_fault (signature_bytes start size bytes)) (blobs_fault (signature_bytes start size bytes))) (contents_fault start (signature_bytes start size bytes))
+fault_within : (start size : ℕ) (bytes : List ℕ) → start + size ≤ length bytes → signature_fault start size bytes ≡ first_there (first_there (header_fault (signature_bytes start size bytes)) (blobs_fault (signature_bytes start size bytes))) (contents_fault start (signature_bytes start size bytes))
 unfolding signature_fault
 fault_within start size bytes within = rw (le-ltb (length bytes) (start + size) within) refl
 
@@ -74,7 +74,7 @@ unfolding contents_fault directories_of
 placed_directories start len s blobs ds room are all pass made =
     let P : List Blob → Type 0 = λ xs. AreBlobs s xs in
     let Q : List Directory → Type 0 = λ xs. ArePlaced start len xs in
-    let first = or_else_none (first_fault (blob_fault start s) (directory_blobs s)) (if has_main s then None else Some NoDirectory) pass in
+    let first = neither_there (first_fault (blob_fault start s) (directory_blobs s)) (if has_main s then None else Some NoDirectory) pass in
     subst Q (sym made) (are_placed start len s (blobs_of s) room (subst P all are) first.0)
 
 -- what is answered to the bytes of a signature
@@ -84,12 +84,12 @@ AnswersBytes start s r =
     (λ found. (bytes_fault start s ≡ None) × Tells start s found × ((len : ℕ) → start + length s ≤ len → ArePlaced start len found.directories.items))
     (λ e. e ≢ Memory → bytes_fault start s ≡ Some e)
 
-pub answers_bytes : (start : ℕ) (s : List ℕ) (blobs : List Blob) (r : Result Signature SignatureFault) → or_else (header_fault s) (blobs_fault s) ≡ None → AreBlobs s blobs → blobs ≡ blobs_of s → MatchResult r (λ found. (contents_fault start s ≡ None) × Tells start s found) (λ e. e ≢ Memory → contents_fault start s ≡ Some e) → AnswersBytes start s r
+pub answers_bytes : (start : ℕ) (s : List ℕ) (blobs : List Blob) (r : Result Signature SignatureFault) → first_there (header_fault s) (blobs_fault s) ≡ None → AreBlobs s blobs → blobs ≡ blobs_of s → MatchResult r (λ found. (contents_fault start s ≡ None) × Tells start s found) (λ e. e ≢ Memory → contents_fault start s ≡ Some e) → AnswersBytes start s r
 answers_bytes start s blobs (Ok found) pass are all told =
     (rw pass told.0, told.1, λ len room. placed_directories start len s blobs found.directories.items room are all told.0 told.1.directories)
 answers_bytes start s blobs (Err e) pass are all told = λ other. rw pass (told other)
 
-pub super_fault : (start : ℕ) (s : List ℕ) (e : SignatureFault) → or_else (header_fault s) (blobs_fault s) ≡ Some e → bytes_fault start s ≡ Some e
+pub super_fault : (start : ℕ) (s : List ℕ) (e : SignatureFault) → first_there (header_fault s) (blobs_fault s) ≡ Some e → bytes_fault start s ≡ Some e
 super_fault start s e fault = rw fault refl
 
 -- what is answered to a file with the bytes of a signature

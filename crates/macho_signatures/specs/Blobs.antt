@@ -8,6 +8,7 @@ use Rattle.macho_signatures.specs.declared.blobs.Blob.{Blob}
 use Rattle.macho_signatures.specs.declared.blobs.TheConstants.{BLOB_HEADER, INDEX_ENTRY, SUPER_BLOB_HEADER, SUPER_BLOB_MAGIC}
 use Rattle.macho_signatures.specs.declared.fault.SignatureFault.{SignatureFault}
 use Rattle.macho_signatures.specs.declared.fault.SignatureFault.TheVariants.{BadBlob, BadIndex, BadLength, NoSuperBlob}
+pub use Rattle.patch_bytes.specs.Memory.{first_there}
 
 -- the number in the 4 bytes, or in the 8 bytes, from a position on
 abbrev pub number32 : ℕ → List ℕ → ℕ
@@ -62,11 +63,6 @@ overlap a b = nat_lt a.offset (b.offset + b.size) && nat_lt b.offset (a.offset +
 abbrev pub some_overlap : List Blob → Bool
 some_overlap [] = false
 some_overlap (a ∷ rest) = list_any (overlap a) rest || some_overlap rest
-
--- the first fault of two
-abbrev pub or_else : Option SignatureFault → Option SignatureFault → Option SignatureFault
-or_else (Some fault) next = Some fault
-or_else None next = next
 
 -- the checks of the SuperBlob's header
 unfoldable pub header_fault : List ℕ → Option SignatureFault

@@ -2,7 +2,7 @@
 -- its bytes).
 use Rattle.std.specs.Prelude.{ℕ, ◌+◌, ◌*◌, ◌==◌, ◌≡◌, ◌≤◌, ◌<◌, ◌⊎◌, ◌||◌, ◌&&◌, Bool, nat_le, nat_lt, List, [], ◌∷◌, length, map, filter, take, drop, Option, Some, None, if◌then◌else◌}
 use Rattle.std.specs.List.{All, AllPairs, list_any}
-use Rattle.macho_signatures.specs.Blobs.{blobs_fault, blobs_of, header_fault, number32, or_else, signature_bytes}
+use Rattle.macho_signatures.specs.Blobs.{blobs_fault, blobs_of, header_fault, number32, first_there, signature_bytes}
 use Rattle.macho_signatures.specs.Directory.{directory_fault, directory_of, hash_size, page_count}
 use Rattle.macho_signatures.specs.declared.blobs.Blob.{Blob}
 use Rattle.macho_signatures.specs.declared.directory.Directory.{Directory}
@@ -33,7 +33,7 @@ blob_directory start signature blob = directory_of (start + blob.offset) (blob_b
 -- the first fault of some
 abbrev pub first_fault : {X : Type 0} → (X → Option SignatureFault) → List X → Option SignatureFault
 first_fault fault [] = None
-first_fault fault (x ∷ xs) = or_else (fault x) (first_fault fault xs)
+first_fault fault (x ∷ xs) = first_there (fault x) (first_fault fault xs)
 
 -- there is a code directory in the main slot
 abbrev pub has_main : List ℕ → Bool
@@ -49,12 +49,12 @@ is_signed signature = list_any (is_message signature) (blobs_of signature)
 -- the checks of what the blobs hold
 unfoldable pub contents_fault : ℕ → List ℕ → Option SignatureFault
 contents_fault start signature =
-    or_else (first_fault (blob_fault start signature) (directory_blobs signature))
+    first_there (first_fault (blob_fault start signature) (directory_blobs signature))
     (if has_main signature then None else Some NoDirectory)
 
 -- the checks of a signature's bytes, which begin at this place of the file
 abbrev pub bytes_fault : ℕ → List ℕ → Option SignatureFault
-bytes_fault start signature = or_else (or_else (header_fault signature) (blobs_fault signature)) (contents_fault start signature)
+bytes_fault start signature = first_there (first_there (header_fault signature) (blobs_fault signature)) (contents_fault start signature)
 
 -- the checks of a signature
 unfoldable pub signature_fault : ℕ → ℕ → List ℕ → Option SignatureFault

@@ -2,7 +2,7 @@ ghost use Rattle.std.specs.Prelude.{◌≡◌, ◌≢◌, ◌+◌, ◌*◌, ◌<
 ghost use Rattle.std.specs.List.{list_any};
 ghost use Rattle.std.specs.List.Sorted.{IsNonDecreasingBy};
 ghost use Rattle.std.specs.Option.{MatchOption};
-ghost use Rattle.macho_signatures.specs.Blobs.{AreBlobs, blob_at, blob_count, blobs_fault, blobs_of, first_blobs, header_fault, index_end, is_bad_blob, or_else, some_overlap, super_length};
+ghost use Rattle.macho_signatures.specs.Blobs.{AreBlobs, blob_at, blob_count, blobs_fault, blobs_of, first_blobs, header_fault, index_end, is_bad_blob, first_there, some_overlap, super_length};
 ghost use Rattle.macho_signatures.specs.declared.fault.SignatureFault.TheVariants.{BadBlob, Memory};
 
 use crate::fault::SignatureFault;
@@ -129,7 +129,7 @@ fn read_index(alloc: Global, signature: &[u8], count: usize) -> Result<Vec<Blob>
 // The blobs of a SuperBlob, in the order of its index, or the first check that fails.
 #[tactic(auto, unfolding(crate::specs::Blobs::blobs_fault, crate::specs::Blobs::blobs_of))]
 pub(crate) fn read_blobs(alloc: Global, signature: &[u8]) -> Result<Vec<Blob>, SignatureFault>
-    ensures { let fault = or_else (header_fault signature.now) (blobs_fault signature.now) in
+    ensures { let fault = first_there (header_fault signature.now) (blobs_fault signature.now) in
         MatchResult result
         (λ blobs. (fault ≡ None) × (blobs.items ≡ blobs_of signature.now)
         × AreBlobs signature.now blobs.items)

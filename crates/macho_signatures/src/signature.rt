@@ -1,7 +1,7 @@
 //! Signatures: the code directories of a file, and whether an identity signed.
 ghost use Rattle.std.specs.Prelude.{ℕ, ◌≡◌, ◌≢◌, ◌+◌, ◌<◌, ◌≤◌, ◌^◌, ◌==◌, All, IfOk, MatchResult, None, Some, filter, length, map, not};
 ghost use Rattle.std.specs.List.{list_any};
-ghost use Rattle.macho_signatures.specs.Blobs.{AreBlobs, blobs_fault, blobs_of, header_fault, or_else, signature_bytes};
+ghost use Rattle.macho_signatures.specs.Blobs.{AreBlobs, blobs_fault, blobs_of, header_fault, first_there, signature_bytes};
 ghost use Rattle.macho_signatures.specs.Signature.{ArePlaced, Tells, blob_directory, blob_fault, blob_bytes, bytes_fault, contents_fault, first_fault, is_directory, is_message, signature_fault};
 ghost use Rattle.macho_signatures.specs.declared.fault.SignatureFault.TheVariants.{Memory, Outside};
 

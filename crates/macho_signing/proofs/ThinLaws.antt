@@ -15,11 +15,11 @@ use Rattle.macho_signatures.proofs.RenewedLaws.{slots_lie}
 use Rattle.macho_signing.specs.declared.fault.SigningFault.{SigningFault}
 use Rattle.macho_signing.specs.declared.fault.SigningFault.TheVariants as fault
 use Rattle.macho_signing.specs.Place.{signature_place}
-use Rattle.macho_signing.specs.Thin.{AreSlotsPlaced, HoldsSignature, Pages, adhoc_directories, file_check, has_identity, held_fault, is_changed_from, or_else, renewal_fault, thin_directories, thin_fault, thin_slots, touch_fault, touched_by}
+use Rattle.macho_signing.specs.Thin.{AreSlotsPlaced, HoldsSignature, Pages, adhoc_directories, file_check, has_identity, held_fault, is_changed_from, first_there, renewal_fault, thin_directories, thin_fault, thin_slots, touch_fault, touched_by}
 
 -- ## Faults
 
-pub first_none : (a b : Option SigningFault) → or_else a b ≡ None → (a ≡ None) × (b ≡ None)
+pub first_none : (a b : Option SigningFault) → first_there a b ≡ None → (a ≡ None) × (b ≡ None)
 first_none None b none = (refl, none)
 first_none (Some found) b none = absurd (let e : Some found ≡ None = none in cc)
 

@@ -5,7 +5,7 @@ use Rattle.macho_signatures.specs.declared.directory.Directory.{Directory}
 use Rattle.macho_signatures.specs.declared.pages.UnfitPage.{UnfitPage}
 use Rattle.macho_signatures.specs.declared.signature.Signature.{Signature}
 use Rattle.macho_signing.specs.File.{first_fault, part_bytes, parts_fault, parts_of}
-use Rattle.macho_signing.specs.Thin.{has_identity, or_else, thin_directories, thin_fault}
+use Rattle.macho_signing.specs.Thin.{has_identity, first_there, thin_directories, thin_fault}
 use Rattle.macho_signing.specs.declared.check.Checked.{Checked}
 use Rattle.macho_signing.specs.declared.fault.SigningFault.{SigningFault}
 use Rattle.macho_signing.specs.declared.file.Part.{Part}
@@ -49,4 +49,4 @@ checked_model checked = record {
 
 -- why it tells nothing: what is found first in the table of a fat file, or else in the parts
 unfoldable pub checking_fault : List ℕ → Option SigningFault
-checking_fault bytes = or_else (parts_fault bytes) (first_fault (λ p. thin_fault (part_bytes bytes p)) (parts_of bytes))
+checking_fault bytes = first_there (parts_fault bytes) (first_fault (λ p. thin_fault (part_bytes bytes p)) (parts_of bytes))

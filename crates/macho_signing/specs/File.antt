@@ -5,7 +5,7 @@ use Rattle.macho_image.specs.Fat.{archs_of, has_fat_magic, table_fault}
 use Rattle.macho_image.specs.declared.fat.FatArch.{FatArch}
 use Rattle.macho_signatures.specs.Renewed.{IsRenewed}
 use Rattle.macho_signatures.specs.declared.renewal.Slot.{Slot}
-use Rattle.macho_signing.specs.Thin.{Pages, adhoc_directories, file_check, has_identity, or_else, renewal_fault, thin_slots, touched_by}
+use Rattle.macho_signing.specs.Thin.{Pages, adhoc_directories, file_check, has_identity, first_there, renewal_fault, thin_slots, touched_by}
 use Rattle.macho_signing.specs.Thin.Pages.{all, since}
 use Rattle.macho_signing.specs.declared.fault.SigningFault.{SigningFault}
 use Rattle.macho_signing.specs.declared.file.Part.{Part}
@@ -66,14 +66,14 @@ pages_in (since old) part = since (part_bytes old part)
 -- the first fault of some
 abbrev pub first_fault : {X : Type 0} → (X → Option SigningFault) → List X → Option SigningFault
 first_fault fault [] = None
-first_fault fault (x ∷ xs) = or_else (fault x) (first_fault fault xs)
+first_fault fault (x ∷ xs) = first_there (fault x) (first_fault fault xs)
 
 -- why no slots of a file are made anew: what is found first in its table, or else in its parts
 abbrev pub part_fault : Pages → List ℕ → Part → Option SigningFault
 part_fault pages bytes part = renewal_fault (pages_in pages part) (part_bytes bytes part)
 
 unfoldable pub signing_fault : Pages → List ℕ → Option SigningFault
-signing_fault pages bytes = or_else (parts_fault bytes) (first_fault (part_fault pages bytes) (parts_of bytes))
+signing_fault pages bytes = first_there (parts_fault bytes) (first_fault (part_fault pages bytes) (parts_of bytes))
 
 -- an identity signed a part
 abbrev pub has_identity_in : List ℕ → Part → Bool

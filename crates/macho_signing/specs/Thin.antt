@@ -19,13 +19,9 @@ use Rattle.macho_signing.specs.declared.fault.SigningFault.TheVariants as fault
 use Rattle.macho_signing.specs.declared.place.Place.{Place}
 use Rattle.macho_signing.specs.declared.scope.Scope.{Scope}
 use Rattle.macho_signing.specs.declared.scope.Scope.TheVariants as scope
+pub use Rattle.patch_bytes.specs.Memory.{first_there}
 
 -- ## Checks
-
--- the first of two checks that fails
-abbrev pub or_else : Option SigningFault → Option SigningFault → Option SigningFault
-or_else (Some fault) next = Some fault
-or_else None next = next
 
 -- a check of the file, and one of its signature
 abbrev pub file_check : Option MachFault → Option SigningFault
@@ -52,7 +48,7 @@ held_fault bytes (Ok (Some place)) = place_fault bytes place
 
 -- the checks of a thin file and of its signature, where it has one
 unfoldable pub thin_fault : List ℕ → Option SigningFault
-thin_fault bytes = or_else (file_check (file_fault bytes)) (held_fault bytes (signature_place bytes))
+thin_fault bytes = first_there (file_check (file_fault bytes)) (held_fault bytes (signature_place bytes))
 
 -- ## Directories
 
@@ -139,7 +135,7 @@ touch_fault pages bytes place = None
 
 -- why no slots are made anew
 unfoldable pub renewal_fault : Pages → List ℕ → Option SigningFault
-renewal_fault pages bytes = or_else (thin_fault bytes) (touch_fault pages bytes (signature_place bytes))
+renewal_fault pages bytes = first_there (thin_fault bytes) (touch_fault pages bytes (signature_place bytes))
 
 -- the slots that are made anew, each with the hash of its page
 unfoldable pub thin_slots : Pages → List ℕ → List Slot

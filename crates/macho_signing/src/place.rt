@@ -5,7 +5,7 @@ ghost use Rattle.macho_image.specs.Checks.{file_fault};
 ghost use Rattle.macho_image.specs.Command.{IsCommand};
 ghost use Rattle.macho_image.specs.Form.{commands_end, ctx_of};
 ghost use Rattle.macho_signing.specs.Place.{place_in, signature_commands, signature_place};
-ghost use Rattle.macho_signing.specs.Thin.{file_check, or_else, place_check};
+ghost use Rattle.macho_signing.specs.Thin.{file_check, first_there, place_check};
 ghost use Rattle.macho_signing.specs.declared.fault.SigningFault.TheVariants.{Memory};
 
 use crate::fault::SigningFault;
@@ -108,7 +108,7 @@ pub fn find_place(alloc: Global, bytes: &[u8]) -> Result<Found, SigningFault>
         (λ found. (file_fault bytes.now ≡ None)
         × (signature_place bytes.now ≡ Ok found.place)
         × (found.commands_end ≡ commands_end (ctx_of bytes.now) bytes.now))
-        (λ e. e ≢ Memory → or_else (file_check (file_fault bytes.now))
+        (λ e. e ≢ Memory → first_there (file_check (file_fault bytes.now))
         (place_check (signature_place bytes.now)) ≡ Some e) }
 {
     let macho = MachO::parse(alloc, bytes)?;

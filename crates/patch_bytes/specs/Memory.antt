@@ -13,6 +13,11 @@ abbrev pub ◌>>=◌ : {A B : Type 0} → Option A → (A → Option B) → Opti
 (Some x) >>= f = f x
 None >>= f = None
 
+-- the first, or where it isn't there the second
+abbrev pub first_there : {A : Type 0} → Option A → Option A → Option A
+first_there None other = other
+first_there (Some x) other = Some x
+
 -- the bytes of a list, the first at 0
 abbrev pub memory_of : List ℕ → Memory
 memory_of bytes = λ a. slice_get bytes a

@@ -109,8 +109,8 @@ fn number_line(alloc: Global, number: u8) -> std::result::Result<String, AllocEr
     Ok(made)
 }
 
-// The bytes before the first NUL, all where there is none.
-fn before_nul(bytes: &[u8]) -> &[u8]
+/// The bytes before the first NUL, all where there is none. Takes no memory.
+pub fn before_nul(bytes: &[u8]) -> &[u8]
     ensures { result.now ≡ bytes_before_nul bytes.now }
 {
     for (i, byte) in bytes.iter().enumerate() {
