@@ -4,7 +4,7 @@ use Rattle.command_words.specs.declared.edits.EditKind.{EditKind}
 use Rattle.command_words.specs.declared.edits.EditKind.TheVariants as words
 use Rattle.elf_commands.specs.ElfCommandError.{ElfCommandError}
 use Rattle.elf_commands.specs.ElfCommandError.TheVariants as elf
-use Rattle.elf_commands.specs.ElfError.{ElfError}
+use Rattle.elf_apply.specs.declared.error.ElfError.{ElfError}
 use Rattle.elf_commands.specs.ElfError.TheVariants as fault
 use Rattle.elf_apply.specs.declared.error.ModifyCause.{ModifyCause}
 use Rattle.elf_apply.specs.declared.error.ModifyCause.TheVariants as modify

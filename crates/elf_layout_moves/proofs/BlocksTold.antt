@@ -9,7 +9,7 @@ use Rattle.elf_format.specs.Ranges.{range}
 use Rattle.elf_format.specs.declared.range.Range.{Range}
 use Rattle.elf_format.specs.Records.{file_header_size}
 use Rattle.elf_format.specs.declared.records.SegmentHeader.{SegmentHeader}
-use Rattle.elf_layout_plan.specs.Kept.{kept_from}
+use Rattle.elf_image.specs.Kept.{kept_from}
 use Rattle.elf_layout_plan.specs.Blocks.{Block, rank}
 use Rattle.elf_layout_plan.specs.Memory.{Resized, SizedSection, block_in_load, blocks_with, edge_blocks, fixed_block, header_blocks, loaded_over, section_block, sized_from, sized_sections, table_at_read, table_load, table_size_with, takes_memory}
 use Rattle.elf_layout_plan.proofs.ForCallers.ApartLists.{Each, each-append, each-at, each-filter, each-from, each-map, each-more, same_at}

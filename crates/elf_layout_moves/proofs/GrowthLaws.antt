@@ -14,7 +14,7 @@ use Rattle.elf_format.specs.declared.records.SegmentHeader.{SegmentHeader}
 use Rattle.elf_layout_plan.specs.Blocks.{Block, have_causes, is_block_of, is_stuck, movers, moving_sections, stay_apart}
 use Rattle.elf_layout_plan.specs.Memory.{Resized, block_in_load, blocks_with, edge_blocks, fixed_block, is_movable, loaded_over, section_block, sized_sections, table_at_read, table_load, table_size_with, takes_memory}
 use Rattle.elf_layout_plan.specs.Rounds.{are_in_old_order, do_move, sections_at}
-use Rattle.elf_layout_plan.specs.Kept.{interpreter_number, is_numbered}
+use Rattle.elf_image.specs.Kept.{interpreter_number, is_numbered}
 use Rattle.elf_layout_plan.proofs.ForCallers.ApartLists.{Each, all-at, each-more}
 use Rattle.elf_layout_moves.specs.Growth.{IsGrowth, LongerTablesFit, LongerTablesMayMove, LongerTablesMove, does_swallow, other_blocks}
 use Rattle.elf_layout_moves.proofs.BlocksTold.{each_block}

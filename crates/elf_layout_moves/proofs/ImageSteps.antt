@@ -4,10 +4,10 @@ use Rattle.std.specs.Prelude.{Some, slice_get, slice_index}
 use Rattle.std.proofs.lemmas.List.{length-map}
 use Rattle.std.proofs.lemmas.Option.{slice_get-get_or, slice_get-map, slice_get_read}
 use Rattle.elf_format.specs.Image.{Image, ImageSection}
-use Rattle.elf_layout_plan.specs.ImageModel.{section_model}
-use Rattle.elf_layout_plan.specs.Section.{Section}
+use Rattle.elf_image.specs.ImageModel.{section_model}
+use Rattle.elf_image.specs.declared.section.Section.{Section}
 use Rattle.elf_layout_plan.specs.Blocks.{Block}
-use Rattle.elf_layout_plan.specs.Kept.{KeptSection, dynamic_strings_number, interpreter_number}
+use Rattle.elf_image.specs.Kept.{KeptSection, dynamic_strings_number, interpreter_number}
 use Rattle.elf_layout_plan.specs.Memory.{Resized, SizedSection, sized_from, takes_memory}
 use Rattle.elf_layout_moves.specs.ImageBlocks.{AreNumbered, kept_behind, made_block, section_blocks_from, sized_at}
 use Rattle.elf_layout_moves.proofs.MoverLaws.{drop_here}

@@ -3,7 +3,7 @@ use Rattle.std.proofs.Common.{◌≡◌, ℕ, List, true, sym, ap, subst, ◌∙
 use Rattle.elf_format.specs.Image.{Image}
 use Rattle.elf_layout_plan.specs.declared.fault.LayoutFault.{LayoutFault}
 use Rattle.elf_layout_plan.specs.declared.fault.LayoutFault.TheVariants as faults
-use Rattle.elf_layout_plan.specs.Kept.{image_at_read}
+use Rattle.elf_image.specs.Kept.{image_at_read}
 use Rattle.elf_layout_plan.specs.Memory.{Resized}
 use Rattle.elf_layout_plan.specs.Plan.{resized}
 use Rattle.elf_layout_plan.specs.Refusals.{IsStuckBy}

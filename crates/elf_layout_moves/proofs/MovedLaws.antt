@@ -13,7 +13,7 @@ use Rattle.elf_format.specs.declared.range.Range.{Range}
 use Rattle.elf_format.specs.Records.{file_header_size}
 use Rattle.elf_format.specs.declared.records.SegmentHeader.{SegmentHeader}
 use Rattle.elf_layout_plan.specs.Blocks.{Block, are_moving, earlier_moves, has_cause, have_causes, is_block_of, later_moves, moving_sections, overlaps, some_two, stay_apart}
-use Rattle.elf_layout_plan.specs.Kept.{kept_from, kept_sections}
+use Rattle.elf_image.specs.Kept.{kept_from, kept_sections}
 use Rattle.elf_layout_plan.specs.Memory.{Resized, SizedSection, block_in_load, blocks_with, edge_blocks, fixed_block, header_blocks, loaded_over, section_block, sized_from, sized_sections, table_at_read, table_load, table_size_with, takes_memory}
 use Rattle.elf_layout_plan.specs.Rounds.{are_in_old_order, do_move, sections_at}
 use Rattle.elf_layout_plan.specs.Sizes.{new_size, new_sizes}

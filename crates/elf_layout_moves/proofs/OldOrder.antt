@@ -16,9 +16,9 @@ use Rattle.std.proofs.lemmas.List.Sorted.{All-permutation, list_any-IsPermutatio
 use Rattle.std.proofs.lemmas.Option.{same_Some, slice_get_cases, slice_get_within}
 use Rattle.elf_format.specs.Image.{Image, ImageSection}
 use Rattle.elf_format.specs.Options.{is_one_of}
-use Rattle.elf_layout_plan.specs.ImageModel.{section_model}
-use Rattle.elf_layout_plan.specs.Section.{Section}
-use Rattle.elf_layout_plan.specs.Kept.{kept_from}
+use Rattle.elf_image.specs.ImageModel.{section_model}
+use Rattle.elf_image.specs.declared.section.Section.{Section}
+use Rattle.elf_image.specs.Kept.{kept_from}
 use Rattle.elf_layout_plan.specs.Memory.{Resized, SizedSection, sized_from, sized_sections}
 use Rattle.elf_layout_plan.specs.Rounds.{are_in_old_order, comes_before, sections_at}
 use Rattle.elf_layout_moves.specs.BlockSteps.{key_at, old_key}

@@ -7,7 +7,7 @@ use Rattle.elf_format.specs.Options.{is_some_and}
 use Rattle.elf_format.specs.Placement.{is_stored}
 use Rattle.elf_format.specs.declared.records.SegmentHeader.{SegmentHeader}
 use Rattle.elf_layout_plan.specs.Blocks.{Block}
-use Rattle.elf_layout_plan.specs.Kept.{KeptSection, kept_from, place_at_read}
+use Rattle.elf_image.specs.Kept.{KeptSection, kept_from, place_at_read}
 pub use Rattle.elf_layout_plan.specs.Memory.{is_movable_type}
 use Rattle.elf_layout_plan.specs.Memory.{Resized, SizedSection, is_out_of_loads, is_displaced, section_block, sized_from, takes_memory}
 

@@ -4,7 +4,7 @@ use Rattle.elf_format.specs.Image.{counted}
 use Rattle.elf_format.specs.Options.{is_one_of}
 use Rattle.elf_layout_plan.specs.declared.fault.LayoutFault.{LayoutFault}
 use Rattle.elf_layout_plan.specs.declared.fault.LayoutFault.TheVariants as faults
-use Rattle.elf_layout_plan.specs.Kept.{image_at_read}
+use Rattle.elf_image.specs.Kept.{image_at_read}
 use Rattle.elf_layout_plan.specs.Memory.{Resized}
 use Rattle.elf_layout_plan.specs.Rounds.{is_stuck_with}
 use Rattle.elf_layout_plan.specs.Sizes.{new_sizes}

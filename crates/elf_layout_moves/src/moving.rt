@@ -1,5 +1,5 @@
 ghost use Rattle.std.specs.Prelude.{◌≡◌, IfErr, IfOk, IsTrue, OnOk, false};
-ghost use Rattle.elf_layout_plan.specs.Kept.{image_at_read};
+ghost use Rattle.elf_image.specs.Kept.{image_at_read};
 ghost use Rattle.elf_layout_plan.specs.Plan.{resized};
 ghost use Rattle.elf_layout_plan.specs.Refusals.{IsStuckBy, sizes_of_image};
 ghost use Rattle.elf_layout_plan.specs.Rounds.{are_chosen, do_move, is_stuck_with};

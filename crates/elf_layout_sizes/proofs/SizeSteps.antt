@@ -9,10 +9,10 @@ use Rattle.std.proofs.lemmas.List.{append-nil, drop_all, drop_more, length-map}
 use Rattle.std.proofs.lemmas.Option.{get_or_from_slice_get, slice_get-map, slice_get_read}
 use Rattle.elf_format.specs.declared.constants.TheConstants.{SHT_DYNAMIC, SHT_STRTAB}
 use Rattle.elf_format.specs.Image.{Image, ImageSection}
-use Rattle.elf_layout_plan.specs.Section.{Section}
-use Rattle.elf_layout_plan.specs.Edited.{IsEdited}
-use Rattle.elf_layout_plan.specs.ImageModel.{section_model}
-use Rattle.elf_layout_plan.specs.Kept.{KeptSection, interpreter_number, is_numbered, kept_from}
+use Rattle.elf_image.specs.declared.section.Section.{Section}
+use Rattle.elf_image.specs.Edited.{IsEdited}
+use Rattle.elf_image.specs.ImageModel.{section_model}
+use Rattle.elf_image.specs.Kept.{KeptSection, interpreter_number, is_numbered, kept_from}
 use Rattle.elf_layout_plan.specs.Sizes.{do_sizes_fit, do_texts_fit, fits_field, interpreter_size, new_size, new_sizes, table_size}
 use Rattle.elf_layout_plan.specs.Texts.{is_table_copied}
 use Rattle.elf_layout_sizes.specs.Inner.{Edit, do_all_fit, do_strings_fit, does_size_fit, fits_class, lists_size, size_by, sizes_by, strings_length}

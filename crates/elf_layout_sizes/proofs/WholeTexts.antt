@@ -16,12 +16,12 @@ use Rattle.elf_format.specs.Image.{Image, definitions_read, entry_tag, needs_rea
 use Rattle.elf_format.specs.Options.{each, is_one_of, is_some_and, list_at}
 use Rattle.elf_format.specs.Rules.{definition_steps, file_of, linked_texts, need_steps}
 use Rattle.elf_format.specs.Versions.{DefinitionNumbers, NeedNumbers, VersionDefinition, VersionName, VersionNeeds, shown_definition, shown_need, shown_need_name, values_of}
-use Rattle.elf_layout_plan.specs.DynamicList.{IsListed}
-use Rattle.elf_layout_plan.specs.Edited.{AreEntriesOf, AreSameNeeds, IsEdited, IsEditOf, IsName, IsSameNeed}
+use Rattle.elf_image.specs.DynamicList.{IsListed}
+use Rattle.elf_image.specs.Edited.{AreEntriesOf, AreSameNeeds, IsEdited, IsEditOf, IsName, IsSameNeed}
 use Rattle.elf_layout_plan.proofs.ForCallers.EditedLaws.{text_whole}
 use Rattle.elf_layout_plan.proofs.ForCallers.ReadImageLaws.{read_images_hold_parts}
 use Rattle.elf_layout_plan.specs.Strings.{HoldNoNul, holds_nul}
-use Rattle.elf_layout_plan.specs.Kept.{link_of_type}
+use Rattle.elf_image.specs.Kept.{link_of_type}
 use Rattle.elf_layout_plan.specs.Needs.{are_needs_gone, do_needs_stay, is_version_dropped, lists_needs, staying_needs, with_staying_names, written_entries, written_needs}
 use Rattle.elf_layout_plan.specs.Texts.{if_linked, if_names, texts_in_use, texts_of_definitions, texts_of_entries, texts_of_needs, texts_of_symbols}
 

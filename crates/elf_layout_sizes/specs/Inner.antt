@@ -11,7 +11,7 @@ use Rattle.elf_format.specs.Options.{is_some_and}
 use Rattle.elf_format.specs.Records.{symbol_size}
 use Rattle.elf_format.specs.Views.{NamedSymbol}
 use Rattle.elf_layout_plan.specs.Strings.{table_length}
-use Rattle.elf_layout_plan.specs.Kept.{interpreter_number, link_of_type}
+use Rattle.elf_image.specs.Kept.{interpreter_number, link_of_type}
 use Rattle.elf_layout_plan.specs.Sizes.{definitions_size, dynamic_size, gnu_table_size, hash_size, interpreter_size, needs_size}
 use Rattle.elf_layout_plan.specs.Texts.{is_table_copied, texts_in_use}
 use Rattle.elf_layout_plan.specs.Needs.{written_needs}

@@ -1,7 +1,7 @@
 -- What is known of a string table before the sizes are computed.
 use Rattle.std.specs.Prelude.{ℕ, ◌≡◌, Some, IsTrue, MatchOption}
 use Rattle.elf_format.specs.Image.{Image}
-use Rattle.elf_layout_plan.specs.Kept.{dynamic_strings_number}
+use Rattle.elf_image.specs.Kept.{dynamic_strings_number}
 use Rattle.elf_layout_plan.specs.Texts.{is_table_copied}
 use Rattle.elf_layout_sizes.specs.MadeTables.{IsMade}
 use Rattle.elf_layout_sizes.specs.declared.known.Known.{Known}

@@ -2,7 +2,7 @@
 use Rattle.std.specs.Prelude.{ℕ, ◌≡◌, ◌≤◌, ◌<◌, ◌^◌, false, Some}
 use Rattle.elf_format.specs.Image.{Image}
 use Rattle.elf_layout_plan.specs.Strings.{IsTableOf, PlacesStand, Strings, table_length}
-use Rattle.elf_layout_plan.specs.Kept.{dynamic_strings_number}
+use Rattle.elf_image.specs.Kept.{dynamic_strings_number}
 use Rattle.elf_layout_plan.specs.Texts.{is_table_copied, texts_in_use}
 
 -- The table that had that number isn't copied, and this one holds the texts that the image uses of it.

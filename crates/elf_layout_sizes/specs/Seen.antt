@@ -2,7 +2,7 @@
 use Rattle.std.specs.Prelude.{◌≡◌}
 use Rattle.elf_format.specs.declared.constants.TheConstants.{SHT_DYNAMIC, SHT_DYNSYM, SHT_GNU_VERDEF, SHT_GNU_VERNEED, SHT_SYMTAB}
 use Rattle.elf_format.specs.Image.{Image}
-use Rattle.elf_layout_plan.specs.Kept.{link_of_type}
+use Rattle.elf_image.specs.Kept.{link_of_type}
 use Rattle.elf_layout_sizes.specs.declared.links.Links.{Links}
 
 -- the string tables that the users of an image's texts link to

@@ -1,6 +1,6 @@
 -- What is computed once of an edited image, seen as that image.
 use Rattle.std.specs.Prelude.{◌≡◌, IfSome}
-use Rattle.elf_layout_plan.specs.Kept.{interpreter_number}
+use Rattle.elf_image.specs.Kept.{interpreter_number}
 use Rattle.elf_layout_sizes.specs.declared.kinds.Sizing.TheInside.{Inside}
 use Rattle.elf_layout_sizes.specs.Inner.{Edit}
 use Rattle.elf_layout_sizes.specs.KnownTables.{IsKnown}

@@ -1,7 +1,7 @@
 -- The users of texts, seen as the image whose texts they are.
 use Rattle.std.specs.Prelude.{◌≡◌, IsTrue}
 use Rattle.std.specs.Option.{option_map}
-use Rattle.elf_layout_plan.specs.SymbolsRead.{HasStaticSymbolsOf}
+use Rattle.elf_image.specs.SymbolsRead.{HasStaticSymbolsOf}
 use Rattle.elf_layout_plan.specs.Needs.{written_entries, written_needs}
 use Rattle.elf_layout_plan.specs.Texts.{are_names_changed}
 use Rattle.elf_layout_plan.specs.Staying.{staying_entries, unmarked_needs}

@@ -1,6 +1,6 @@
 //! How large a section is to be, by its kind.
 ghost use Rattle.std.specs.Prelude.{◌≡◌, ℕ, ◌<◌, ◌^◌, false, true, Some, MatchResult, SomeIff};
-ghost use Rattle.elf_layout_plan.specs.ImageModel.{section_model};
+ghost use Rattle.elf_image.specs.ImageModel.{section_model};
 ghost use Rattle.elf_layout_sizes.specs.Inner.{fits_class};
 ghost use Rattle.elf_layout_plan.specs.TableFault.TheVariants.{NumberTooLarge};
 
@@ -55,7 +55,7 @@ impl<'a, 'data> Model for Sizing<'a, 'data> {
 
 impl<'a, 'data> Sizing<'a, 'data> {
     ghost use Rattle.std.specs.Prelude.{◌≡◌, ◌==◌, ◌<◌, ◌*◌, ◌^◌, ◌||◌, false, true, nat_le, IfOk, IfSome, IsTrue, MatchResult, SomeIff};
-    ghost use Rattle.elf_layout_plan.specs.Kept.{image_at_read};
+    ghost use Rattle.elf_image.specs.Kept.{image_at_read};
     ghost use Rattle.elf_format.specs.Records.{symbol_size};
     ghost use Rattle.elf_layout_plan.specs.Sizes.{hash_size, interpreter_size};
     ghost use Rattle.elf_layout_plan.specs.Texts.{is_table_copied};

@@ -1,6 +1,6 @@
 //! The string tables that the users of texts link to (gABI, Sections, `sh_link`).
 ghost use Rattle.std.specs.Prelude.{◌≡◌};
-ghost use Rattle.elf_layout_plan.specs.Kept.{dynamic_strings_number as strings_number};
+ghost use Rattle.elf_image.specs.Kept.{dynamic_strings_number as strings_number};
 ghost use Rattle.elf_layout_sizes.specs.Seen.{AreLinks};
 
 use elf_layout_plan::Builder;

@@ -1,5 +1,5 @@
 ghost use Rattle.std.specs.Prelude.{◌≡◌, IfErr, IfOk, IfSome, IsTrue, MatchResult, OnOk, false, true};
-ghost use Rattle.elf_layout_plan.specs.Kept.{image_at_read};
+ghost use Rattle.elf_image.specs.Kept.{image_at_read};
 ghost use Rattle.elf_layout_plan.specs.Refusals.{AreNoSizes, do_sizes_of_image_fit, sizes_of_image};
 ghost use Rattle.elf_layout_plan.specs.Sizes.{do_sizes_fit, new_sizes};
 ghost use Rattle.elf_layout_sizes.specs.MadeTables.{IsMadeOfDynamic};

@@ -2,7 +2,7 @@
 ghost use Rattle.std.specs.Prelude.{◌≡◌, ℕ, ◌≤◌, ◌<◌, ◌^◌, List, ◌∷◌, drop, length, IfErr, IfOk, IsTrue, MatchOption, MatchResult};
 ghost use Rattle.elf_layout_plan.specs.TableFault.TheVariants.{NumberTooLarge};
 ghost use Rattle.elf_layout_plan.specs.Strings.{HoldNoNul, IsTableOf, PlacesStand, table_length};
-ghost use Rattle.elf_layout_plan.specs.Kept.{image_at_read};
+ghost use Rattle.elf_image.specs.Kept.{image_at_read};
 ghost use Rattle.elf_layout_plan.specs.Texts.{is_subsequence as is_subsequence_of, is_table_copied, texts_in_use};
 ghost use Rattle.elf_layout_sizes.specs.MadeTables.{IsMade, IsTooLong};
 

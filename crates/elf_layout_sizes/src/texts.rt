@@ -26,7 +26,7 @@ impl<'t> Texts<'t> {
     ghost use Rattle.elf_layout_plan.specs.TableFault.TheVariants.{NumberTooLarge};
     ghost use Rattle.elf_layout_plan.specs.Strings.{HoldNoNul, IsTableOf, PlacesStand, table_length};
     ghost use Rattle.patch_bytes.specs.ByteString.{bytes_of_each};
-    ghost use Rattle.elf_layout_plan.specs.ImageModel.{definition_model, entry_model, name_model, needs_model, section_model};
+    ghost use Rattle.elf_image.specs.ImageModel.{definition_model, entry_model, name_model, needs_model, section_model};
     ghost use Rattle.elf_layout_plan.specs.Texts.{texts_of_definitions, texts_of_entries, texts_of_entry, texts_of_needs, texts_of_symbols};
     ghost use Rattle.elf_image_symbols.specs.Loan.{symbols_now};
     ghost use Rattle.elf_layout_plan.specs.Staying.{staying_entries, unmarked_names, unmarked_needs, with_unmarked_names};

@@ -36,8 +36,8 @@ impl<'a, 'data> Model for Users<'a, 'data> {
 impl<'a, 'data> Users<'a, 'data> {
     ghost use Rattle.std.specs.Prelude.{◌≡◌, ◌<◌, ◌^◌, ◌++◌, length, IfOk, IfSome, IsTrue, OnOk, SomeIff};
     ghost use Rattle.elf_format.specs.Options.{list_at};
-    ghost use Rattle.elf_layout_plan.specs.ImageModel.{section_model};
-    ghost use Rattle.elf_layout_plan.specs.Kept.{dynamic_strings_number, image_at_read};
+    ghost use Rattle.elf_image.specs.ImageModel.{section_model};
+    ghost use Rattle.elf_image.specs.Kept.{dynamic_strings_number, image_at_read};
     ghost use Rattle.elf_layout_plan.specs.Sizes.{dynamic_size as size_of_dynamic, needs_size as size_of_needs};
     ghost use Rattle.elf_layout_plan.specs.Strings.{HoldNoNul};
     ghost use Rattle.elf_layout_plan.specs.Needs.{written_entries, written_needs};

@@ -1,6 +1,6 @@
 //! The sizes of version records.
 ghost use Rattle.std.specs.Prelude.{◌≡◌, ◌+◌, ◌*◌, ◌<◌, ◌^◌, map, SomeIff};
-ghost use Rattle.elf_layout_plan.specs.ImageModel.{definition_model, needs_model};
+ghost use Rattle.elf_image.specs.ImageModel.{definition_model, needs_model};
 ghost use Rattle.elf_layout_plan.specs.Sizes.{definitions_size as size_of_definitions, needs_size as size_of_needs};
 ghost use Rattle.elf_layout_plan.specs.Staying.{unmarked_needs};
 

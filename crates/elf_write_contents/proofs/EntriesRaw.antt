@@ -12,7 +12,7 @@ use Rattle.elf_format.specs.Options.{list_at}
 use Rattle.elf_image.specs.Edited.{IsEdited}
 use Rattle.elf_image.specs.Lookups.{type_position}
 use Rattle.elf_image.specs.Kept.{KeptSection, image_at_read, link_of_type}
-use Rattle.elf_write_symbol_tables.specs.Staying.{Staying, staying_entries}
+use Rattle.elf_layout_plan.specs.Staying.{Staying, staying_entries}
 use Rattle.elf_write_symbol_tables.specs.Written.{AreWritten}
 use Rattle.elf_layout_plan.specs.Memory.{Resized}
 use Rattle.elf_layout_plan.specs.Needs.{written_entries}

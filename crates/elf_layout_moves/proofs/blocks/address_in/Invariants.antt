@@ -1,6 +1,6 @@
 use Rattle.std.proofs.Common.{◌≡◌, drop, map}
 use Rattle.elf_format.specs.Ranges.{range}
-use Rattle.elf_layout_plan.specs.ImageModel.{segment_model}
+use Rattle.elf_image.specs.ImageModel.{segment_model}
 use Rattle.elf_layout_plan.specs.Memory.{loaded_over}
 use Rattle.elf_layout_moves.proofs.blocks.address_in.Given as goal
 

@@ -2,7 +2,7 @@ use Rattle.std.proofs.Common.{◌++◌, ◌∙◌, List, ap, map}
 use Rattle.std.specs.List.{flat_map}
 use Rattle.elf_format.specs.File.{loads_of}
 use Rattle.elf_format.specs.declared.records.SegmentHeader.{SegmentHeader}
-use Rattle.elf_layout_plan.specs.ImageModel.{segment_model}
+use Rattle.elf_image.specs.ImageModel.{segment_model}
 use Rattle.elf_layout_plan.specs.Blocks.{Block}
 use Rattle.elf_layout_plan.specs.Memory.{Resized, blocks_with, edge_blocks, header_blocks}
 use Rattle.elf_layout_moves.specs.ImageBlocks.{section_blocks_from}

@@ -1,7 +1,7 @@
 use Rattle.std.proofs.Common.{◌≡◌, ◌++◌, drop, map}
 use Rattle.std.specs.List.{flat_map}
 use Rattle.elf_format.specs.File.{loads_of}
-use Rattle.elf_layout_plan.specs.ImageModel.{segment_model}
+use Rattle.elf_image.specs.ImageModel.{segment_model}
 use Rattle.elf_layout_plan.specs.Memory.{edge_blocks}
 use Rattle.elf_layout_moves.proofs.blocks.push_all_edges.Given as goal
 

@@ -2,10 +2,10 @@ use Rattle.std.proofs.Common.{◌≡◌, ◌<◌, ◌+◌, ◌++◌, ◌∙◌, 
 use Rattle.std.specs.Prelude.{slice_get}
 use Rattle.std.proofs.lemmas.List.{length-map}
 use Rattle.elf_format.specs.Image.{ImageSection}
-use Rattle.elf_layout_plan.specs.ImageModel.{section_model}
-use Rattle.elf_layout_plan.specs.Section.{Section}
+use Rattle.elf_image.specs.ImageModel.{section_model}
+use Rattle.elf_image.specs.declared.section.Section.{Section}
 use Rattle.elf_layout_plan.specs.Blocks.{Block}
-use Rattle.elf_layout_plan.specs.Kept.{interpreter_number}
+use Rattle.elf_image.specs.Kept.{interpreter_number}
 use Rattle.elf_layout_plan.specs.Memory.{Resized}
 use Rattle.elf_layout_moves.specs.ImageBlocks.{made_block, section_blocks_from}
 use Rattle.elf_layout_moves.proofs.ImageSteps.{block_next, block_passed, pushed, seen_section}

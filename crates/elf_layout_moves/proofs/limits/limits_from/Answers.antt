@@ -2,7 +2,7 @@ use Rattle.std.proofs.Common.{[], false, inl, inr, ◌&&◌, ◌≡◌, ◌≢�
 use Rattle.std.specs.Prelude.{All, ◌==◌}
 use Rattle.std.proofs.lemmas.Bool.{and_parts, cases_lt, eq-eqb, both_ways}
 use Rattle.std.proofs.lemmas.List.{length-map}
-use Rattle.elf_layout_plan.specs.ImageModel.{section_model}
+use Rattle.elf_image.specs.ImageModel.{section_model}
 use Rattle.elf_layout_plan.specs.Blocks.{Block, have_causes, stay_apart}
 use Rattle.elf_layout_plan.specs.Memory.{Resized, blocks_with, table_size_with}
 use Rattle.elf_layout_plan.specs.Rounds.{are_in_old_order, sections_at}

@@ -1,6 +1,6 @@
 use Rattle.std.proofs.Common.{false, ◌∙◌, ap, length, replicate, sym}
 use Rattle.std.proofs.lemmas.List.{length-map}
-use Rattle.elf_layout_plan.specs.ImageModel.{section_model}
+use Rattle.elf_image.specs.ImageModel.{section_model}
 use Rattle.elf_layout_moves.proofs.Marking.{marked_all, marked_next, none_marked}
 use Rattle.elf_layout_moves.proofs.marks.marks_of.Goals as goal
 

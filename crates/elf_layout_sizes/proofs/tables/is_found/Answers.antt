@@ -4,7 +4,7 @@ use Rattle.std.specs.Prelude.{◌==◌, ◌&&◌, not, option_map, slice_get}
 use Rattle.std.proofs.lemmas.Bool.{ne_eqb}
 use Rattle.elf_format.specs.declared.records.SymbolNumbers.{SymbolNumbers}
 use Rattle.elf_image_symbols.specs.Loan.{symbols_now}
-use Rattle.elf_layout_plan.specs.TableSymbols.{symbol_with}
+use Rattle.elf_image_symbols.specs.TableSymbols.{symbol_with}
 use Rattle.elf_layout_plan.specs.Sizes.{is_found}
 use Rattle.elf_layout_sizes.proofs.SymbolSteps.{with_part}
 use Rattle.elf_layout_sizes.proofs.tables.is_found.Goals as goal

@@ -1,5 +1,5 @@
 use Rattle.std.proofs.Common.{◌≡◌, ◌+◌, ◌<◌, ◌^◌, drop, map}
-use Rattle.elf_layout_plan.specs.ImageModel.{definition_model}
+use Rattle.elf_image.specs.ImageModel.{definition_model}
 use Rattle.elf_layout_plan.specs.Sizes.{definitions_size}
 use Rattle.elf_layout_sizes.proofs.versions.definitions_size.Given as goal
 

@@ -1,5 +1,5 @@
 use Rattle.std.proofs.Common.{◌≡◌, ◌+◌, ◌<◌, ◌^◌, drop, map}
-use Rattle.elf_layout_plan.specs.ImageModel.{needs_model}
+use Rattle.elf_image.specs.ImageModel.{needs_model}
 use Rattle.elf_layout_plan.specs.Sizes.{needs_size}
 use Rattle.elf_layout_plan.specs.Staying.{unmarked_needs}
 use Rattle.elf_layout_sizes.proofs.versions.needs_size.Given as goal

@@ -1,6 +1,6 @@
 use Rattle.std.proofs.Common.{◌≡◌, ◌++◌, drop, map}
 use Rattle.elf_image.specs.ImageModel.{entry_model}
-use Rattle.elf_write_symbol_tables.specs.Staying.{staying_entries}
+use Rattle.elf_layout_plan.specs.Staying.{staying_entries}
 use Rattle.elf_layout_plan.specs.Plan.{resized}
 use Rattle.elf_write_spec.specs.Contents.{table_value}
 use Rattle.elf_write_contents.specs.EntrySteps.{numbers_with}

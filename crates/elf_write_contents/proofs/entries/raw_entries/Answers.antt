@@ -5,7 +5,7 @@ use Rattle.elf_format.specs.Dynamic.{Entry}
 use Rattle.elf_format.specs.Image.{Image}
 use Rattle.elf_format.specs.Options.{list_at}
 use Rattle.elf_image.specs.ImageModel.{entry_model}
-use Rattle.elf_write_symbol_tables.specs.Staying.{staying_entries}
+use Rattle.elf_layout_plan.specs.Staying.{staying_entries}
 use Rattle.elf_write_symbol_tables.specs.Written.{AreWritten}
 use Rattle.elf_layout_plan.specs.Needs.{written_entries}
 use Rattle.elf_layout_plan.specs.Plan.{resized}

@@ -3,7 +3,7 @@ use Rattle.std.proofs.Common.{List, length, map, ap, ◌∙◌}
 use Rattle.elf_format.specs.Image.{Image}
 use Rattle.elf_format.specs.Versions.{VersionNeeds}
 use Rattle.elf_image.specs.ImageModel.{needs_model}
-use Rattle.elf_write_symbol_tables.specs.Staying.{unmarked_needs}
+use Rattle.elf_layout_plan.specs.Staying.{unmarked_needs}
 use Rattle.elf_write_spec.specs.Headers.{behind_locals as behind_all}
 use Rattle.elf_write_contents.specs.declared.headers.Known.{Known}
 use Rattle.elf_write_contents.proofs.HeadersMade.{known_of}

@@ -3,8 +3,8 @@ use Rattle.std.proofs.Common.{◌≡◌, ◌<◌, ◌∙◌, length, subst, sym,
 use Rattle.std.specs.Prelude.{slice_index}
 use Rattle.std.proofs.lemmas.Result.{err_from_is_err_and}
 use Rattle.elf_format.specs.Image.{Image, ImageSection}
-use Rattle.elf_layout_plan.specs.Edited.{IsEdited}
-use Rattle.elf_layout_plan.specs.ImageModel.{section_model}
+use Rattle.elf_image.specs.Edited.{IsEdited}
+use Rattle.elf_image.specs.ImageModel.{section_model}
 use Rattle.elf_layout_sizes.specs.Inner.{Edit, does_size_fit, size_by}
 use Rattle.elf_layout_sizes.proofs.SizeSteps.{long_sections, section_at, sized_all, sized_more, sized_refused}
 use Rattle.elf_layout_sizes.proofs.kinds.Sizing.sizes.Goals as goal

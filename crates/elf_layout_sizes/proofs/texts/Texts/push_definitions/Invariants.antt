@@ -1,5 +1,5 @@
 use Rattle.std.proofs.Common.{◌≡◌, ◌++◌, drop, map}
-use Rattle.elf_layout_plan.specs.ImageModel.{definition_model}
+use Rattle.elf_image.specs.ImageModel.{definition_model}
 use Rattle.elf_layout_plan.specs.Texts.{texts_of_definitions}
 use Rattle.elf_layout_sizes.proofs.texts.Texts.push_definitions.Given as goal
 

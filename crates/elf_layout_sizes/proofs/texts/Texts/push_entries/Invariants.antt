@@ -1,5 +1,5 @@
 use Rattle.std.proofs.Common.{◌≡◌, ◌++◌, drop, map}
-use Rattle.elf_layout_plan.specs.ImageModel.{entry_model}
+use Rattle.elf_image.specs.ImageModel.{entry_model}
 use Rattle.elf_layout_plan.specs.Texts.{texts_of_entries}
 use Rattle.elf_layout_plan.specs.Staying.{staying_entries}
 use Rattle.elf_layout_sizes.proofs.texts.Texts.push_entries.Given as goal

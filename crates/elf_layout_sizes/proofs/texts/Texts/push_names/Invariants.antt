@@ -1,5 +1,5 @@
 use Rattle.std.proofs.Common.{◌≡◌, ◌++◌, drop, map}
-use Rattle.elf_layout_plan.specs.ImageModel.{name_model}
+use Rattle.elf_image.specs.ImageModel.{name_model}
 use Rattle.elf_layout_plan.specs.Staying.{unmarked_names}
 use Rattle.elf_layout_sizes.proofs.texts.Texts.push_names.Given as goal
 

@@ -1,5 +1,5 @@
 use Rattle.std.proofs.Common.{◌≡◌, ◌++◌, drop, map}
-use Rattle.elf_layout_plan.specs.ImageModel.{needs_model}
+use Rattle.elf_image.specs.ImageModel.{needs_model}
 use Rattle.elf_layout_plan.specs.Texts.{texts_of_needs}
 use Rattle.elf_layout_plan.specs.Staying.{unmarked_needs}
 use Rattle.elf_layout_sizes.proofs.texts.Texts.push_needs.Given as goal

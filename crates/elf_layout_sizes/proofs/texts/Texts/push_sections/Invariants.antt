@@ -1,5 +1,5 @@
 use Rattle.std.proofs.Common.{◌≡◌, ◌++◌, drop, map}
-use Rattle.elf_layout_plan.specs.ImageModel.{section_model}
+use Rattle.elf_image.specs.ImageModel.{section_model}
 use Rattle.elf_layout_sizes.proofs.texts.Texts.push_sections.Given as goal
 
 -- what is there so far, with the names that are left, is all of it

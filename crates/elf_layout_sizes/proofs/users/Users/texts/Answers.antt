@@ -1,6 +1,6 @@
 -- No text has a NUL.
 use Rattle.std.proofs.Common.{subst}
-use Rattle.elf_layout_plan.specs.Edited.{IsEdited}
+use Rattle.elf_image.specs.Edited.{IsEdited}
 use Rattle.elf_layout_sizes.specs.Inner.{Edit}
 use Rattle.elf_layout_sizes.proofs.WholeTexts.{texts_whole}
 use Rattle.elf_layout_sizes.proofs.users.Users.texts.Goals as goal

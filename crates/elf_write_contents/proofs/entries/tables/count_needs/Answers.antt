@@ -3,7 +3,7 @@ use Rattle.std.proofs.Common.{List, length, map, sym, ap, ◌∙◌}
 use Rattle.elf_format.specs.Versions.{VersionNeeds}
 use Rattle.elf_image.specs.ImageModel.{needs_model}
 use Rattle.elf_image.specs.Kept.{image_at_read}
-use Rattle.elf_write_symbol_tables.specs.Staying.{unmarked_needs}
+use Rattle.elf_layout_plan.specs.Staying.{unmarked_needs}
 use Rattle.elf_write_spec.proofs.ForCallers.WholeEdits.{needs_written}
 use Rattle.elf_write_contents.proofs.entries.tables.count_needs.Goals as goal
 
