@@ -38,7 +38,7 @@ fn compare_blocks<L: Ledger>(earlier: &Block, later: &Block, steps: &mut Steps<L
     }
 }
 
-/// Marks the blocks that move so that no two of the others overlap, by one look at each: the last block that stays is
+/// Marks the blocks that move so that no two of the others overlap, by one sweep over them: the last block that stays is
 /// compared with the next one. `Overlap` where two blocks overlap that can't move; the marks then tell nothing.
 ///
 /// A comparison of two blocks is one step. Takes no memory.

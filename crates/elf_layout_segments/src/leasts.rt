@@ -1,4 +1,4 @@
-//! The least numbers of stretches of a list.
+//! The least numbers of stretches of a list, by a sparse table: rows of the least of 2, 4, 8 .. numbers side by side.
 ghost use Rattle.std.specs.Prelude.{ℕ, List, ◌≡◌, ◌<◌, ◌≤◌, ◌+◌, IfOk, length, min, slice_index};
 ghost use Rattle.elf_layout_segments.specs.Leasts.{AreLeastBelow, AreLeastIn, AreLeastOf, AreStretchesOf, IsLeast, numbers_at};
 

@@ -8,7 +8,7 @@ use byteorder::{ByteOrder, LittleEndian};
 use std::cmp::Ordering;
 use std::marker::Model;
 
-// How two texts compare by their bytes, the last one first.
+// How two texts compare by their bytes, the last one first: their suffix order.
 pub(crate) fn from_their_ends(a: &[u8], b: &[u8]) -> Ordering
     ensures { result ≡ slice_cmp nat_cmp (reverse a.now) (reverse b.now) }
 {
