@@ -73,8 +73,8 @@ struct Laid {
     places: Vec<u32>,
 }
 
-// The bytes of texts in suffix order, in which each stands behind those that end with it, with their tails merged: each stands within the one before it
-// where it ends that one; the first of them behind an empty text.
+// The bytes of texts in suffix order, in which each stands behind those that end with it, with their tails merged: each
+// stands within the one before it where it ends that one; the first of them behind an empty text.
 fn lay_bytes<'k, 't>(
     alloc: Global,
     texts: &'k [Keyed<'t>],
