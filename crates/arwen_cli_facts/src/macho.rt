@@ -46,7 +46,7 @@ pub struct MachoSummary {
 /// What is told of a slice of a fat file.
 #[derive(Drop)]
 pub struct SliceSummary {
-    /// Where it begins in the file, in bytes.
+    /// Where the slice begins in the file, in bytes.
     pub offset: u32,
     /// How many bytes it has.
     pub size: u32,

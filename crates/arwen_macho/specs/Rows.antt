@@ -156,7 +156,7 @@ ADDED = after_batch (add_rpath LOCAL ∷ []) READ
 abbrev pub StepsTo : List Call → State → List ℕ → Type 0
 StepsTo calls s bytes = IsOkAnd (step calls s) (λ next. laid_bytes next ≡ bytes)
 
--- where it is refused, why
+-- where the step is refused, why
 abbrev pub StepRefused : List Call → State → ℕ → Cause → Type 0
 StepRefused calls s index cause = step calls s ≡ Err (record { index = index; cause = cause })
 

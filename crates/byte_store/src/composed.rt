@@ -25,7 +25,7 @@ pub struct Span {
 /// Bytes of its own that are to stand in a store from an offset on.
 #[derive(Debug, Drop)]
 pub struct OwnedPiece {
-    /// Where they begin in the store.
+    /// Where the bytes begin in the store.
     pub offset: u64,
     /// The bytes.
     pub bytes: Vec<u8>,

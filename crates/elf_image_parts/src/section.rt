@@ -12,9 +12,9 @@ pub struct Section<'data> {
     pub sh_type: u32,
     /// `SHF_ALLOC` for a section that takes memory, and other flags.
     pub sh_flags: u64,
-    /// Where it stands in memory, 0 where it takes none.
+    /// Where the section stands in memory, 0 where it takes none.
     pub sh_addr: u64,
-    /// Where it stands in the file.
+    /// Where the section stands in the file.
     pub sh_offset: u64,
     /// How many bytes it has, in the file or, where it has none there, in memory.
     pub sh_size: u64,

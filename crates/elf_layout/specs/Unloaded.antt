@@ -50,7 +50,7 @@ IsUnloadedFault end faults.Memory = Unit {0}
 abbrev pub has_all : Range → SegmentHeader → Bool
 has_all part p = is_loaded p && lies_in part (file_part p)
 
--- where it stands, once the segments end there
+-- where the program header table stands, once the segments end there
 abbrev pub table_behind : Resized → ℕ → ℕ
 table_behind r end = if is_some (table_load r) then r.image.header.e_phoff else next_table r end
 

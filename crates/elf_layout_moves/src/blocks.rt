@@ -31,7 +31,7 @@ pub struct MemoryBlock {
     pub start: u128,
     /// How many bytes it takes.
     pub size: u128,
-    /// 0 where it can't move; the greater, the more readily it does.
+    /// How readily the block moves, the more the greater; 0 where it can't move.
     pub priority: u8,
     /// The position of the section whose it is.
     pub section: Option<usize>,

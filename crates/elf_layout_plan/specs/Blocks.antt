@@ -8,7 +8,7 @@ use Rattle.elf_layout_plan.specs.Marks.{marked_of, marks}
 pub record Block : Type 0 where
   pub start : ℕ
   pub size : ℕ
-  -- 0 where it can't move; the greater, the more readily it does
+  -- how readily the block moves, the more the greater; 0 where it can't move
   pub priority : ℕ
   -- the position of the section whose it is
   pub section : Option ℕ

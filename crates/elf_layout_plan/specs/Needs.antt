@@ -36,7 +36,7 @@ do_needs_stay read image n = is_empty n.versions || not (is_empty (staying_names
 abbrev pub with_staying_names : Image → Image → VersionNeeds → VersionNeeds
 with_staying_names read image n = record n { versions = staying_names read image n.versions }
 
--- the records that stay, with the versions of each that do
+-- the records that stay, each with its versions that stay
 abbrev pub staying_needs : Image → Image → List VersionNeeds
 staying_needs read image = map (with_staying_names read image) (filter (do_needs_stay read image) image.needs)
 

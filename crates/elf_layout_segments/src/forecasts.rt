@@ -113,7 +113,8 @@ fn mirrored_limits_of(alloc: Global, begins: &[Limited]) -> Result<Vec<u128>, Al
         .collect(alloc)
 }
 
-// From where on all of a stretch move: the greatest of their limits, but never before the first does.
+// From where on all sections of a stretch move: the greatest of their limits, but never before the
+// first one moves.
 fn all_move(alloc: Global, firsts: &[u128], mirrored: &[u128]) -> Result<Vec<u128>, AllocError>
     requires { length mirrored.now ≡ length firsts.now }
     ensures { IfOk result (λ made. AreJoins firsts.now mirrored.now made.items) }

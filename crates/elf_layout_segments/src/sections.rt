@@ -22,7 +22,7 @@ pub(crate) struct SectionAt {
 // What kind of section is looked for.
 #[derive(Clone, Copy)]
 pub(crate) enum Wanted {
-    // One of a type.
+    // A section of a type.
     OfType(u32),
     // The one with a number at read.
     Numbered(usize),

@@ -66,7 +66,7 @@ fn does_any_share(segments: &[Segment<'_>], offset: u64) -> bool
     false
 }
 
-/// Whether a segment is loaded, and they do.
+/// Whether a segment is loaded, and its bytes begin in the page that has an offset of the file.
 fn shares_page(segment: &Segment<'_>, offset: u64) -> bool
     ensures { result ≡ is_page_shared offset (segment_model segment.now) }
 {

@@ -44,7 +44,8 @@ pub fn written_files_keep_hashes()
     ensures { WrittenFilesKeepHashes }
 {}
 
-/// Else look-ups in hash tables find exactly the symbols that are defined and not local, by the names that they have now.
+/// Where the names of dynamic symbols changed, look-ups in hash tables find exactly the symbols
+/// that are defined and not local, by the names that they have now.
 #[tactic(auto, using(crate::proofs::NamesFound::written_files_find_names))]
 pub fn written_files_find_names()
     ensures { WrittenFilesFindNames }
