@@ -163,7 +163,7 @@ StepRefused calls s index cause = step calls s ≡ Err (record { index = index; 
 abbrev pub AddsFirst : Type 0
 AddsFirst = StepsTo (add_rpath LOCAL ∷ []) READ (file_with (1 ∷ 0 ∷ 0 ∷ 0 ∷ 0x20 ∷ 0 ∷ 0 ∷ 0 ∷ []) LOCAL_WIDE_LITTLE)
 
--- what the bytes then show to whoever reads them
+-- what the bytes after the step show to whoever reads them
 abbrev pub ShowsFirst : Type 0
 ShowsFirst = IsAccepted wide_little (laid_bytes ADDED) × (rpaths_of (laid_bytes ADDED) ≡ LOCAL ∷ [])
 

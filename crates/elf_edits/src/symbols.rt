@@ -140,7 +140,7 @@ impl SymbolChange<'_, '_> {
         self.find_first(symbols).is_some()
     }
 
-    // How far the symbols reach that it is about, from a position on.
+    // How far the symbols reach that the change is about, from a position on.
     fn reach(&self, symbols: &SymbolsNow<'_>, first: usize) -> Reach
         requires behind { 1 ≤ first }
         requires within { first ≤ length (symbols_now symbols.now) }
@@ -162,7 +162,7 @@ impl SymbolChange<'_, '_> {
         Reach { end, count }
     }
 
-    // Makes it of the symbol at a position.
+    // Makes the change of the symbol at a position.
     fn apply(
         &self,
         alloc: Global,

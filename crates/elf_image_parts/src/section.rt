@@ -6,7 +6,7 @@ use elf_format::section_data::SectionData;
 pub struct Section<'data> {
     /// The section's name, a text of the section of names.
     pub name: ByteString<'data>,
-    /// What its bytes are.
+    /// What the section's bytes are.
     pub kind: SectionData,
     /// What the section is for, as `SHT_DYNSYM`.
     pub sh_type: u32,
@@ -22,7 +22,7 @@ pub struct Section<'data> {
     pub sh_link: u32,
     /// A section's number, a count of records or of local symbols, as the type says.
     pub sh_info: u32,
-    /// What its address is a multiple of, 0 or 1 for anything.
+    /// What the section's address is a multiple of, 0 or 1 for anything.
     pub sh_addralign: u64,
     /// The size of an entry, where all have one size.
     pub sh_entsize: u64,

@@ -65,21 +65,21 @@ impl Segment {
         self.numbers.p_paddr
     }
 
-    /// How many bytes it has in the file.
+    /// How many bytes the segment has in the file.
     pub fn p_filesz(&self) -> u64
         ensures { result ≡ (segment_model self.now).p_filesz }
     {
         self.numbers.p_filesz
     }
 
-    /// How many bytes it takes in memory.
+    /// How many bytes the segment takes in memory.
     pub fn p_memsz(&self) -> u64
         ensures { result ≡ (segment_model self.now).p_memsz }
     {
         self.numbers.p_memsz
     }
 
-    /// What its address and its offset are congruent by, 0 or 1 for anything.
+    /// What the segment's address and its offset are congruent by, 0 or 1 for anything.
     pub fn p_align(&self) -> u64
         ensures { result ≡ (segment_model self.now).p_align }
     {

@@ -14,7 +14,7 @@ use Rattle.elf_format.specs.Views.{NamedSymbol}
 abbrev pub is_version_used : List NamedSymbol → ℕ → Bool
 is_version_used symbols index = list_any (λ y. is_some_and (λ v. v.index == index) y.version) symbols
 
--- a symbol had it at read, and none has it now
+-- a symbol had the version at read, and none has it now
 abbrev pub is_version_dropped : Image → Image → ℕ → Bool
 is_version_dropped read image index = is_version_used read.dynamic_symbols index && not (is_version_used image.dynamic_symbols index)
 

@@ -13,7 +13,7 @@ pub struct SectionPlace {
     pub sh_addr: u64,
     /// Where the section stands in the file.
     pub sh_offset: u64,
-    /// How many bytes it has.
+    /// How many bytes the section has.
     pub sh_size: u64,
 }
 

@@ -36,7 +36,7 @@ struct Limited {
 /// How many program headers more are needed with tables that end at an address. Each list is of such ends.
 #[derive(Drop)]
 pub struct Forecast {
-    // The number of program headers more that it was made with.
+    // The number of program headers more that the forecast was made with.
     pub(crate) from: usize,
     // The forecast tells of greater numbers with which the table ends before this address.
     pub(crate) bound: u128,
@@ -44,7 +44,7 @@ pub struct Forecast {
     pub(crate) flags: Rising,
     // From where on program headers are split.
     pub(crate) splits: Rising,
-    // From where on they are so no longer.
+    // From where on program headers are split no longer.
     pub(crate) joins: Rising,
 }
 

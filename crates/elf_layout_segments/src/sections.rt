@@ -46,7 +46,7 @@ impl SectionAt {
         self.sh_type != SHT_NULL && self.sh_type != SHT_NOBITS && self.sh_size != 0
     }
 
-    // The bytes of the file that it names.
+    // The bytes of the file that the section names.
     pub(crate) fn file_range(self) -> Range
         ensures { result ≡ file_range (place_at self) }
     {

@@ -94,7 +94,7 @@ pub record IsTableMadeOf (texts : List (List ℕ)) (bytes : List ℕ) : Type 0 w
   pub first : slice_get bytes 0 ≡ Some 0
   -- each text stands somewhere, a NUL behind it
   pub stand : (text : List ℕ) → Contains texts text → (place : ℕ) × StandsAt bytes place text
-  -- no byte more than they need, where texts share their ends
+  -- no byte more than the texts need, where they share their ends
   pub long : length bytes ≡ table_length texts
 
 -- The bytes of a string table: those that were read, or a table that is made anew.

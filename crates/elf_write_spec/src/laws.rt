@@ -31,7 +31,7 @@ pub fn written_files_keep_data()
     ensures { WrittenFilesKeepData }
 {}
 
-/// Every other byte keeps its value and its address.
+/// Every other byte keeps its value and its address in a written file.
 #[tactic(auto, using(crate::proofs::DataSeen::written_files_keep_others))]
 pub fn written_files_keep_others()
     ensures { WrittenFilesKeepOthers }

@@ -28,7 +28,7 @@ pub(crate) struct Blob {
     pub(crate) kind: u32,
     /// Where the blob begins, from the SuperBlob on.
     pub(crate) offset: u32,
-    /// How many bytes it says that it has.
+    /// How many bytes the blob says that it has.
     pub(crate) size: u32,
 }
 

@@ -23,7 +23,7 @@ pub struct ByteRange {
 pub struct Slot {
     /// Where the slot stands in the thin file.
     pub place: usize,
-    /// The hash of its page.
+    /// The hash of the slot's page.
     pub hash: PageHash,
 }
 

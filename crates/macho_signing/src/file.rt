@@ -19,7 +19,7 @@ use std::alloc::{AllocError, Global};
 pub struct Part {
     /// Where the part begins in the file.
     pub offset: usize,
-    /// How many bytes it has.
+    /// How many bytes the part has.
     pub size: usize,
 }
 

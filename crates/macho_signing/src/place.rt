@@ -25,7 +25,7 @@ pub const LINKEDIT_COMMAND_SIZE: usize = 16;
 pub struct Place {
     /// Where the signature begins in the thin file.
     pub dataoff: u32,
-    /// How many bytes it has.
+    /// How many bytes the signature has.
     pub datasize: u32,
 }
 
