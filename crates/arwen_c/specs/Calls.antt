@@ -59,7 +59,7 @@ TellsBy false edits name flags file e = TellsMachoOf Array (macho_edits_read edi
 abbrev pub IsApplied : List GivenEdit → List ℕ → ℕ → List ℕ → List ℕ → List ℕ → Type 0
 IsApplied edits name flags file new told = IsMadeBy (has_magic file) edits (utf8_lossy name) flags file new told
 
--- why they make nothing
+-- why the edits of an array make nothing of a file
 abbrev pub TellsApplied : List GivenEdit → List ℕ → ℕ → List ℕ → CallError → Type 0
 TellsApplied edits name flags file e = OrMemory (TellsBy (has_magic file) edits (utf8_lossy name) flags file) e
 

@@ -75,7 +75,7 @@ file_cause file.SlicesOverlap = 207
 file_cause file.TooLong = 208
 file_cause file.Memory = 0
 
--- why it isn't, or an edit of it is refused
+-- the cause that a Mach-O file isn't read, or an edit of it is refused
 abbrev pub macho_fault_cause : MachoError → ℕ
 macho_fault_cause (edit.Parsing e) = file_cause e
 macho_fault_cause edit.UnixArchive = 209
@@ -102,7 +102,7 @@ signature_cause signature.BadLimit = 261
 signature_cause signature.NoDirectory = 262
 signature_cause signature.Memory = 0
 
--- why it isn't, or isn't made to fit
+-- the cause that a code signature isn't read, or isn't made to fit
 abbrev pub signing_cause : SigningFault → ℕ
 signing_cause (signing.File e) = file_cause e
 signing_cause signing.BadCommand = 241
@@ -157,7 +157,7 @@ cause_of (Elf e) = elf_cause e
 cause_of (Macho e) = macho_cause e
 cause_of Memory = 0
 
--- the edit that it stands against
+-- the edit that an error stands against
 abbrev pub elf_edit : ElfCommandError → ℕ
 elf_edit (elf.Elf e) = NO_EDIT
 elf_edit (elf.ElfBatch e) = e.index

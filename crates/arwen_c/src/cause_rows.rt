@@ -7,7 +7,7 @@ ghost use Rattle.arwen_c.specs.CauseWords.{causes, row_model, words_in, words_of
 pub struct CauseRow {
     /// The number of the cause.
     pub number: u32,
-    /// The words for it, of no particular file.
+    /// The words for the cause, of no particular file.
     pub words: &'static str,
 }
 

@@ -15,7 +15,7 @@ use std::alloc::{AllocError, AllocFailed};
 pub enum CallError {
     /// The array is no list of edits for the file.
     Array(ListFault),
-    /// The words are no list of edits for it.
+    /// The words are no list of edits for the file.
     Words(EditFault),
     /// A word is no UTF-8: it stands in the group of this number.
     NoText(usize),

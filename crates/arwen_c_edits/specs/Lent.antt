@@ -41,12 +41,12 @@ abbrev pub known : {E : Type 0} → Option E → Read E
 known None = Err UnknownKind
 known (Some edit) = Ok edit
 
--- there is none
+-- a number that takes no text has none
 abbrev pub by_none : List Text → Read (Unit {0})
 by_none [] = Ok tt
 by_none (text ∷ texts) = Err WrongCount
 
--- there is one
+-- a number that takes one text has one
 abbrev pub one_in : List Text → Read Text
 one_in [] = Err WrongCount
 one_in (text ∷ []) = Ok text

@@ -30,7 +30,7 @@ pub enum WrongEdit {
 pub struct ListFault {
     /// The edit, counted from 0.
     pub index: usize,
-    /// What is wrong with it.
+    /// What is wrong with the edit.
     pub wrong: WrongEdit,
 }
 

@@ -27,7 +27,7 @@ pub enum ElfKind {
     Program,
     /// A program that may be loaded anywhere: `DF_1_PIE` says so, or it has an interpreter and no name of its own.
     PieProgram,
-    /// One without an interpreter: it relocates itself.
+    /// A program without an interpreter that may be loaded anywhere: it relocates itself.
     StaticPie,
     /// A library, or a loader.
     Library,
@@ -38,7 +38,7 @@ pub enum ElfKind {
 pub struct NeededLibrary {
     /// The library's name (`DT_NEEDED`).
     pub name: String,
-    /// The versions that are needed of it, in order (GNU symbol versioning).
+    /// The versions that are needed of the library, in order (GNU symbol versioning).
     pub versions: Vec<String>,
 }
 
@@ -47,7 +47,7 @@ pub struct NeededLibrary {
 pub struct ElfSummary {
     /// What the file is for.
     pub kind: ElfKind,
-    /// The machine that its code is for (gABI, ELF Header, `e_machine`).
+    /// The machine that the file's code is for (gABI, ELF Header, `e_machine`).
     pub machine: u16,
     /// The class and the byte order (gABI, ELF Identification).
     pub form: Form,
@@ -57,7 +57,7 @@ pub struct ElfSummary {
     pub interpreter: Option<String>,
     /// The library's own name (`DT_SONAME`).
     pub soname: Option<String>,
-    /// The libraries that it needs, one for each entry (`DT_NEEDED`).
+    /// The libraries that the file needs, one for each entry (`DT_NEEDED`).
     pub needed: Vec<NeededLibrary>,
     /// The run path of the first `DT_RPATH`.
     pub rpath: Option<String>,

@@ -37,7 +37,7 @@ pub struct MachoSummary {
     pub run_paths: Vec<String>,
     /// Whether the slice has a code signature.
     pub is_signed: bool,
-    /// What its code signature says, or why that isn't read.
+    /// What the slice's code signature says, or why that isn't read.
     pub signature: Option<SignatureSummary>,
     /// How many bytes of load commands can be added: from where they end to where content begins.
     pub header_pad: u64,
@@ -46,11 +46,11 @@ pub struct MachoSummary {
 /// What is told of a slice of a fat file.
 #[derive(Drop)]
 pub struct SliceSummary {
-    /// Where it begins in the file, in bytes.
+    /// Where the slice begins in the file, in bytes.
     pub offset: u32,
-    /// How many bytes it has.
+    /// How many bytes the slice has.
     pub size: u32,
-    /// The file in it.
+    /// The file in the slice.
     pub file: MachoSummary,
 }
 

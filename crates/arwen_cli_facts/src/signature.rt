@@ -27,7 +27,7 @@ pub enum SignatureKind {
 /// What a code signature says.
 #[derive(Drop)]
 pub struct SignatureContents {
-    /// Who made it.
+    /// Who made the signature.
     pub kind: SignatureKind,
     /// The identifier in its first code directory, with U+FFFD for what is no character.
     pub identifier: String,
@@ -42,7 +42,7 @@ pub struct SignatureContents {
 pub enum SignatureSummary {
     /// What the signature says.
     Read(SignatureContents),
-    /// Why it isn't read.
+    /// Why the signature isn't read.
     Refused(SigningFault),
 }
 

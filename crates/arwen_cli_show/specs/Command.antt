@@ -44,7 +44,7 @@ pub data Telling : Type 0 where
   told : List ℕ → Telling
   refused : List ℕ → Telling
 
--- what each of the two writers gets of it
+-- what each of the two writers gets of what is told of a file
 abbrev pub text_part : Telling → List ℕ
 text_part (told text) = text
 text_part (refused line) = []

@@ -32,7 +32,7 @@ const USAGE: &str =
 pub struct Args {
     /// The paths of the files, in the order in which they are told of.
     pub paths: Vec<String>,
-    /// How they are told of.
+    /// How the files are told of.
     pub style: Style,
 }
 

@@ -57,7 +57,7 @@ taken_is calls old new (Ok done) taken =
     subst Answered (sym taken) (refl, refl)
 taken_is calls old new (Err e) taken = (taken.1, taken.0 ∙ sym (left_refused old (container_step calls old) e))
 
--- one more batch, and its answer
+-- a list of batches with one more, and its answer
 pub answers_more : (batches : List (List Call)) (answers : List (Result (Unit {0}) MachoBatchError)) (calls : List Call) (answer : Result (Unit {0}) MachoBatchError) (old : MachoType) → AnswersAll batches answers old → AnswersBatch calls (left_by_all batches answers old) answer → AnswersAll (batches ++ (calls ∷ [])) (answers ++ (answer ∷ [])) old
 answers_more [] [] calls answer old all here = (here, tt)
 answers_more [] (other ∷ answers) calls answer old all here = elim all [ ]

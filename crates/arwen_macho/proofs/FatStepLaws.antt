@@ -28,7 +28,7 @@ use Rattle.arwen_macho.proofs.FatLaws.{accepted_parts, none_first, slice_accepte
 use Rattle.arwen_macho.proofs.SliceLaws.{AreLaid}
 use Rattle.macho_image.proofs.ForCallers.{table_passes}
 
--- one more at the end of both lists
+-- two lists with one more element at the end of both
 pub AllZip_push : {A B : Type 0} (R : A → B → Type 0) (xs : List A) (ys : List B) (x : A) (y : B) → AllZip R xs ys → R x y → AllZip R (xs ++ x ∷ []) (ys ++ y ∷ [])
 AllZip_push R [] [] x y all here = (here, tt)
 AllZip_push R [] (b ∷ ys) x y all here = absurd all

@@ -18,7 +18,7 @@ use Rattle.arwen_macho.specs.FatSlice.{HeldSlice, IsReadyIn, changed_macho, chan
 use Rattle.arwen_macho.proofs.PutLaws.{length-put_at, put_at-put_at, put_front}
 use Rattle.arwen_macho.proofs.SliceLaws.{ApartFrom, AreLaid, Lies, head-laid_over, length-laid_over, put-laid_over}
 
--- behind its furthest end a change changes nothing
+-- behind the furthest end of a changed file a change changes nothing
 pub same_behind : (held : Held) (change : Change) → IsState held.state → IsChangeOf held change → drop change.high (laid_bytes (changed_file held change).state) ≡ drop change.high (laid_bytes held.state)
 same_behind held change is of =
     let old : List ℕ = laid_bytes held.state in
@@ -26,7 +26,7 @@ same_behind held change is of =
     ap (drop change.high) (sym (change_bytes held change is of))
     ∙ drop-with_area_high (ctx_of old) old change.prepared.count change.prepared.area change.high change.high fit (omega arith)
 
--- nor does it change how many bytes there are
+-- a change doesn't change how many bytes there are
 pub same_length : (held : Held) (change : Change) → IsState held.state → IsChangeOf held change → length (laid_bytes (changed_file held change).state) ≡ length (laid_bytes held.state)
 same_length held change is of =
     (laid_shows (changed_file held change).state (changed_is held change is of)).long ∙ sym (laid_shows held.state is).long

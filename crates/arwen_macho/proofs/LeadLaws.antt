@@ -106,7 +106,7 @@ inside_in calls len (m ∷ slices) (front ∷ fronts) all ready =
     let at : front.offset ≡ m.arch.offset = all.0.offset in
     All-cons (LiesIn len) front fronts (omega arith) (inside_in calls len slices fronts all.1 ready.1)
 
--- so many slices refuse nothing before the one that does
+-- the slices before the one that refuses an edit refuse nothing
 pub stepped_in : (calls : List Call) (slices : List HeldSlice) (fronts : List Front) → AllZip (IsFrontOf calls) slices fronts → (changes : List Change) × AllZip (IsStepIn calls) slices changes
 stepped_in calls slices fronts all = (changes_in calls slices fronts all, steps_in calls slices fronts all)
 

@@ -85,7 +85,7 @@ laid_shows s is =
       long = length-with_area (ctx_of s.old) s.old (length s.list) (concat s.list) s.high (fits s is);
     }
 
--- another list that is stored over the bytes of a state, as far as commands ever reached
+-- the list that is stored over the bytes of a state is another, as far as commands ever reached
 pub relaid : (s : State) (list : List (List ℕ)) (high : ℕ) → IsState s → s.high ≤ high → with_area (ctx_of s.old) (laid_bytes s) (length list) (concat list) high ≡ laid_bytes (record { old = s.old; list = list; high = high })
 unfolding laid_bytes
 relaid s list high is further = with_area-with_area (ctx_of s.old) s.old (length s.list) (concat s.list) s.high (length list) (concat list) high (fits s is) further

@@ -27,7 +27,7 @@ changed_slices [] changes = []
 changed_slices (s ∷ slices) [] = s ∷ slices
 changed_slices (s ∷ slices) (change ∷ changes) = changed_slice s change ∷ changed_slices slices changes
 
--- the file with them carried out
+-- the file with the changes of its slices carried out
 abbrev pub fat_changed : FatHeld → List Change → FatHeld
 fat_changed held changes = record {
   state = record { old = held.state.old; slices = changed_slices held.state.slices changes };

@@ -45,7 +45,7 @@ pub record Shortens (call : Call) (s : State) : Type 0 where
   pub changes : ChangesAt (ctx_of s.old) call s.list place command
   pub short : length command ≤ length (get_or s.list place [])
 
--- the slice with it changed, whose commands reach no further than before
+-- the slice with a name changed, whose commands reach no further than before
 pub record IsShortened (call : Call) (s t : Slice) : Type 0 where
   pub arch : t.arch ≡ s.arch
   pub steps : step (call ∷ []) s.state ≡ Ok t.state

@@ -156,14 +156,14 @@ ADDED = after_batch (add_rpath LOCAL ∷ []) READ
 abbrev pub StepsTo : List Call → State → List ℕ → Type 0
 StepsTo calls s bytes = IsOkAnd (step calls s) (λ next. laid_bytes next ≡ bytes)
 
--- where it is refused, why
+-- where the step is refused, why
 abbrev pub StepRefused : List Call → State → ℕ → Cause → Type 0
 StepRefused calls s index cause = step calls s ≡ Err (record { index = index; cause = cause })
 
 abbrev pub AddsFirst : Type 0
 AddsFirst = StepsTo (add_rpath LOCAL ∷ []) READ (file_with (1 ∷ 0 ∷ 0 ∷ 0 ∷ 0x20 ∷ 0 ∷ 0 ∷ 0 ∷ []) LOCAL_WIDE_LITTLE)
 
--- what the bytes then show to whoever reads them
+-- what the bytes after the step show to whoever reads them
 abbrev pub ShowsFirst : Type 0
 ShowsFirst = IsAccepted wide_little (laid_bytes ADDED) × (rpaths_of (laid_bytes ADDED) ≡ LOCAL ∷ [])
 

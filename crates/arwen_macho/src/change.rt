@@ -3,7 +3,7 @@ use macho_image::image::Prepared;
 /// The load commands that edits leave, which fit the file.
 #[derive(Drop)]
 pub struct Fit {
-    /// How many they are.
+    /// How many load commands there are.
     pub count: u32,
     /// The bytes of the load commands.
     pub area: Vec<u8>,

@@ -294,7 +294,7 @@ impl<'a> FatMachoContainer<'a> {
         Ok(())
     }
 
-    // Several edits of every slice, all of them or none.
+    // Makes several edits of every slice, all of them or none.
     pub(crate) fn apply_lent(
         &mut self,
         alloc: Global,

@@ -5,7 +5,7 @@ ghost use Rattle.arwen_macho.specs.Fronts.{LiesIn, fronts_on};
 /// Bytes that are to stand in a file from an offset on: the front of a thin file, or of a slice.
 #[derive(Debug, Drop)]
 pub struct Front {
-    /// Where they begin in the file.
+    /// Where the bytes begin in the file.
     pub offset: usize,
     /// The bytes.
     pub bytes: Vec<u8>,

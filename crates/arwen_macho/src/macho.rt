@@ -166,7 +166,7 @@ impl<'a> SingleMachO<'a> {
         self.high = high;
     }
 
-    // The list that edits leave, decided upon a draft of it.
+    // The list that edits leave, decided upon a draft of the list.
     fn fit_by(&self, alloc: Global, edits: &[Edit<'_>]) -> Result<Fit, MachoBatchError>
         requires { AreTexts edits.now }
         ensures ok { IfOk result (IsStepFit (calls_lent edits.now) self.now) }
@@ -228,7 +228,7 @@ impl<'a> SingleMachO<'a> {
         Ok(fronts)
     }
 
-    // Several edits, all of them or none.
+    // Makes several edits, all of them or none.
     pub(crate) fn apply_lent(
         &mut self,
         alloc: Global,
@@ -392,7 +392,7 @@ impl<'a> MachoContainer<'a> {
         &self.inner
     }
 
-    // Several edits, all of them or none.
+    // Makes several edits, all of them or none.
     fn apply_lent(&mut self, alloc: Global, edits: &[Edit<'_>]) -> Result<(), MachoBatchError>
         requires some { 1 ≤ length edits.now }
         requires texts { AreTexts edits.now }

@@ -27,7 +27,7 @@ pub laid-append : (before behind : List Patch) (bytes : List ℕ) → laid (befo
 laid-append [] behind bytes = refl
 laid-append (patch ∷ before) behind bytes = laid-append before behind (put_at patch.offset patch.bytes bytes)
 
--- none of their bytes
+-- none of the patches' bytes are laid
 pub first_none : (patches : List Patch) (n : ℕ) (bytes : List ℕ) → n ≡ 0 → laid (first_bytes n patches) bytes ≡ bytes
 first_none [] n bytes none = refl
 first_none (patch ∷ patches) n bytes none =
@@ -36,7 +36,7 @@ first_none (patch ∷ patches) n bytes none =
     ap (laid (first_bytes (n - length patch.bytes) patches)) same
     ∙ first_none patches (n - length patch.bytes) bytes (omega arith)
 
--- some patches whole, and the first bytes of the next
+-- some patches are laid whole, and the first bytes of the next
 pub first_some : (done : List Patch) (patch : Patch) (rest : List Patch) (n : ℕ) (bytes : List ℕ) → n ≤ length patch.bytes → laid (first_bytes (total done + n) (done ++ patch ∷ rest)) bytes ≡ put_at patch.offset (take n patch.bytes) (laid done bytes)
 first_some [] patch rest n bytes within =
     let is : 0 + n ≡ n = omega arith in
@@ -51,7 +51,7 @@ first_some (first ∷ done) patch rest n bytes within =
     ∙ ap (λ (k : ℕ). laid (first_bytes k (done ++ patch ∷ rest)) (put_at first.offset first.bytes bytes)) left
     ∙ first_some done patch rest n (put_at first.offset first.bytes bytes) within
 
--- all of their bytes
+-- all bytes of the patches are laid
 pub first_all : (patches : List Patch) (bytes : List ℕ) → laid (first_bytes (total patches) patches) bytes ≡ laid patches bytes
 first_all [] bytes = refl
 first_all (patch ∷ patches) bytes =

@@ -39,7 +39,7 @@ put_at at part bytes = take at bytes ++ (part ++ drop (at + length part) bytes)
 abbrev pub Puts : ℕ → List ℕ → Option (List ℕ) → Option (List ℕ) → Type 0
 Puts at part old new = (bytes : List ℕ) → old ≡ Some bytes → at ≤ length bytes → new ≡ Some (put_at at part bytes)
 
--- some first bytes of a part do
+-- some first bytes of a part stand over known bytes
 abbrev pub PutsFirst : ℕ → List ℕ → Option (List ℕ) → Option (List ℕ) → Type 0
 PutsFirst at part old new = (n : ℕ) × (n ≤ length part) × Puts at (take n part) old new
 

@@ -47,11 +47,11 @@ abbrev pub LaysOf : List Patch → List Patch → Option (List ℕ) → Option (
 LaysOf patches these old new = (bytes : List ℕ) → old ≡ Some bytes → All (LiesIn (length bytes)) patches
     → new ≡ Some (laid these bytes)
 
--- all of them
+-- known bytes get all of these patches laid over them
 abbrev pub Lays : List Patch → Option (List ℕ) → Option (List ℕ) → Type 0
 Lays patches old new = LaysOf patches patches old new
 
--- some first bytes of them
+-- known bytes get some first bytes of the patches laid over them
 abbrev pub LaysFirst : List Patch → Option (List ℕ) → Option (List ℕ) → Type 0
 LaysFirst patches old new = (n : ℕ) × LaysOf patches (first_bytes n patches) old new
 

@@ -6,8 +6,8 @@ use Rattle.byte_store.specs.Gaps.{AreZeros, IsSpanIn}
 use Rattle.byte_store.specs.declared.composed.Span.{Span}
 use Rattle.byte_store.specs.declared.composed.OwnedPiece.{OwnedPiece}
 
--- More patches are what those of a list change of bytes: where these stand, they do, and where these have a position
--- that they don't have, the bytes there are the same.
+-- More patches are what the patches of a list change of bytes: where the list's stand, they do, and at each position of the list's that
+-- they don't have, the bytes are the same.
 pub record Shows (front : List ℕ) (patches more : List Patch) : Type 0 where
   pub inside : All (LiesIn (length front)) more
   pub changes : All (IsChange front) more
@@ -15,7 +15,7 @@ pub record Shows (front : List ℕ) (patches more : List Patch) : Type 0 where
   pub cover : (target : List ℕ) → All (Stands target) patches → (k : ℕ) → k < length front
       → is_patched patches k ≡ true → is_patched more k ≡ false → slice_index front k ≡ slice_index target k
 
--- what further patches change is put behind what those before them do
+-- what further patches change is put behind what the ones before them change
 unfoldable pub Adds : List ℕ → List Patch → List OwnedPiece → List OwnedPiece → Type 0
 Adds front patches before after = (done : List Patch)
     → Shows front done (owned_patches before) → Shows front (done ++ patches) (owned_patches after)

@@ -22,10 +22,10 @@ pub struct Span {
     pub end: usize,
 }
 
-/// Bytes of its own that are to stand in a store from an offset on.
+/// Bytes that the piece owns, which are to stand in a store from an offset on.
 #[derive(Debug, Drop)]
 pub struct OwnedPiece {
-    /// Where they begin in the store.
+    /// Where the bytes begin in the store.
     pub offset: u64,
     /// The bytes.
     pub bytes: Vec<u8>,
@@ -34,9 +34,9 @@ pub struct OwnedPiece {
 /// What is to be done to bytes so that they become others.
 #[derive(Debug, Drop)]
 pub struct Difference {
-    /// What comes behind them.
+    /// What comes behind the bytes.
     pub growth: Vec<u8>,
-    /// What then stands among them, in the order in which it is written.
+    /// What then stands among the bytes, in the order in which it is written.
     pub pieces: Vec<OwnedPiece>,
     /// How many bytes there are in the end.
     pub new_length: usize,

@@ -10,7 +10,7 @@ pub struct Failures {
 }
 
 impl Failures {
-    /// None so far.
+    /// No failures so far.
     pub fn none() -> Failures
         ensures { result.count ≡ 0 }
     {

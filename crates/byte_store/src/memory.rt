@@ -20,7 +20,7 @@ pub struct MemoryStore {
     pub bytes: Vec<u8>,
     /// Whether the store has been opened for writing.
     pub is_open: bool,
-    /// How many of its calls failed.
+    /// How many of the store's calls failed.
     pub failures: Failures,
 }
 

@@ -4,7 +4,7 @@ ghost use Rattle.byte_store.specs.Known.{put_at};
 /// Bytes that are to stand in a store from an offset on.
 #[derive(Clone, Copy, Debug)]
 pub struct Piece<'a> {
-    /// Where they begin in the store.
+    /// Where the bytes begin in the store.
     pub offset: u64,
     /// The bytes.
     pub bytes: &'a [u8],

@@ -284,7 +284,7 @@ fn endless() -> io::Error
     io::Error::new(ErrorKind::Other, "the file did not end")
 }
 
-/// More bytes than were to be read.
+/// The error where there are more bytes than were to be read.
 fn too_long() -> io::Error
     ensures { error_kind result ≡ ErrorKind.FileTooLarge }
 {

@@ -32,7 +32,7 @@ pub struct Changes<'a> {
 /// What a run of writes that failed left in a store.
 #[derive(Clone, Copy, Debug)]
 pub enum Left {
-    /// The bytes that it had.
+    /// The bytes that the store had.
     Old,
     /// The bytes that it had, and behind them the first ones of what was to come there: the old length
     /// could not be set again.

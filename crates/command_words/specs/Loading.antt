@@ -6,7 +6,7 @@ use Rattle.byte_store.specs.Known.{Stays}
 use Rattle.byte_store.specs.declared.reading.ReadError.{ReadError}
 use Rattle.byte_store.specs.declared.reading.ReadError.TheVariants as read
 
--- as many bytes as are read of a store that says so
+-- the most bytes that are read of a store
 abbrev pub most_read : ℕ
 most_read = 2 ^ 64 - 2
 

@@ -37,7 +37,7 @@ pub enum EditKind {
 pub struct EditFault {
     /// The group, counted from 0.
     pub group: usize,
-    /// What is wrong with it.
+    /// What is wrong with the group.
     pub kind: EditKind,
     /// The word of the group that is wrong, counted from 0: the edit's name, or the first word that
     /// is missing or too many.

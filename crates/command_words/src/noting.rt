@@ -5,6 +5,6 @@
 pub enum Notes {
     /// The lines are wanted, of the file as it is before the edit.
     Wanted,
-    /// None are.
+    /// No lines are wanted.
     LeftOut,
 }

@@ -60,9 +60,9 @@ pub struct Row {
     pub name: &'static str,
     /// What the command does.
     pub about: &'static str,
-    /// The values that it takes.
+    /// The values that the command takes.
     pub form: ValueForm,
-    /// Whether `apply` takes it as an edit.
+    /// Whether `apply` takes the command as an edit.
     pub is_edit: bool,
     /// What help says below the values; empty where that is nothing.
     pub more: &'static str,

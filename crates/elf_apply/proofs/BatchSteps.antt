@@ -37,7 +37,7 @@ module _ (facts : Facts) (xs : List ElfEdit) (i : ℕ) (x : ElfEdit) where
   unfolding from_here
   refused_here here e reason some all h = sym (at_edit here e ∙ ap (λ o. refusal_or o i (first_refusal facts (i + 1) (edits_model (drop (i + 1) xs)))) some) ∙ h
 
--- none is left behind the last edit
+-- no refusal is left behind the last edit
 pub all_accepted : (facts : Facts) (xs : List ElfEdit) (i : ℕ) → length xs ≤ i → (all : Option Refusal) → first_refusal facts i (edits_model (drop i xs)) ≡ all → None ≡ all
 unfolding first_refusal
 all_accepted facts xs i end all h =
@@ -90,7 +90,7 @@ taken_is edits old new (Ok done) taken =
     subst Answered (sym taken) (refl, refl)
 taken_is edits old new (Err e) taken = (taken.1, taken.0 ∙ sym (left_refused old (run edits old) e))
 
--- one more batch, and its answer
+-- a list of batches with one more, and its answer
 pub answers_more : (batches : List (List Edit)) (answers : List (Result (Unit {0}) ElfBatchError)) (edits : List Edit) (answer : Result (Unit {0}) ElfBatchError) (old : Image) → AnswersAll batches answers old → AnswersBatch edits (left_upon_all batches answers old) answer
     → AnswersAll (batches ++ (edits ∷ [])) (answers ++ (answer ∷ [])) old
 answers_more [] [] edits answer old all here = (here, tt)

@@ -51,7 +51,7 @@ symbols_drafted d symbols = elim d.symbols [ None ↦ symbols | Some edited ↦ 
 abbrev pub needs_drafted : Draft → List VersionNeeds → List VersionNeeds
 needs_drafted d needs = unwrap_or (needs_written d) needs
 
--- some part was written
+-- some part of the image was written
 abbrev pub is_written : Draft → Bool
 is_written d = (((((is_some d.stack_flags || is_some d.page_size) || is_some d.os_abi) || is_some d.interpreter) || is_some d.entries) || is_some d.symbols) || is_some d.needs
 

@@ -11,7 +11,7 @@ use thiserror::Error;
 pub struct ElfBatchError {
     /// The edit that is refused, counted from 0. It tells nothing where there was no memory.
     pub index: usize,
-    /// Why it is refused.
+    /// Why the edit is refused.
     pub fault: ElfError,
 }
 

@@ -94,7 +94,7 @@ pub map_twice : {A : Type 0} (change : A → A) → ((x : A) → change (change 
 map_twice change same [] = refl
 map_twice change same (x ∷ xs) = ap (λ y. y ∷ map change (map change xs)) (same x) ∙ ap (λ l. change x ∷ l) (map_twice change same xs)
 
--- what holds of all that pass a test, where none does
+-- what holds of all that pass a test, where nothing passes
 pub All-of_none : {A : Type 0} (test : A → Bool) (Q : A → Type 0) (xs : List A) → list_any test xs ≡ false → All (λ x. test x ≡ true → Q x) xs
 All-of_none test Q [] none = All-nil (λ x. test x ≡ true → Q x)
 All-of_none test Q (x ∷ xs) none =

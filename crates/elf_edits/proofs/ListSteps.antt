@@ -77,7 +77,7 @@ new_by_set (Err x) set names es same is = tt
 
 -- ## Which list it is
 
--- another way to say which list it is
+-- another way to say which list was made
 pub same_list : {E : Type 0} (r : Result NewList E) (es other : List Entry) (touched mark : Bool) → es ≡ other → touched ≡ mark → IfOk r (IsNewList es touched) → IfOk r (IsNewList other mark)
 same_list (Ok made) es other touched mark e m is = record { entries = is.entries ∙ e; is_touched = is.is_touched ∙ m }
 same_list (Err x) es other touched mark e m is = tt

@@ -83,7 +83,7 @@ module _ (es : List Dynamic) (i : ℕ) (x : Dynamic) (here : i < length es) (is 
 
 -- ## Sets of names
 
--- one more name
+-- a set of names with one name more
 pub set_more_name : (names : List Bytes) (i : ℕ) (x : Bytes) → i < length names → x ≡ get_or names i x → (old new : List (Bor (List ℕ))) (k name : List ℕ) → k ≡ x.items
     → has_name old name ≡ is_among (texts_model (take i names)) name
     → has_name new name ≡ cond (bytes_eq k name) true (has_name old name)
@@ -103,7 +103,7 @@ needed_among names tag text is =
 unfoldable found_in : List ℕ → List ℕ × List ℕ → Option (List ℕ)
 found_in text pair = if bytes_eq text pair.0 then Some pair.1 else None
 
--- one more pair behind all
+-- pairs with one more behind all
 value_of-push : (pairs : List (List ℕ × List ℕ)) (pair : List ℕ × List ℕ) (text : List ℕ) → value_of (pairs ++ pair ∷ []) text ≡ first_there (found_in text pair) (value_of pairs text)
 unfolding found_in
 value_of-push [] pair text = sym (there_or_none (found_in text pair))
@@ -117,7 +117,7 @@ text_if_put : (b : Bool) (v : Bor (List ℕ)) (o : Option (Bor (List ℕ))) → 
 text_if_put true v o = refl
 text_if_put false v o = refl
 
--- one more pair
+-- a map of names with one pair more
 pub map_more_pair : (pairs : List (Bytes × Bytes)) (i : ℕ) (x : Bytes × Bytes) → i < length pairs → x ≡ get_or pairs i x → (old new : List (Bor (List ℕ) × Bor (List ℕ))) (k : List ℕ) (v : Bor (List ℕ)) (name : List ℕ) → k ≡ x.0.items → v.now ≡ x.1.items
     → name_for old name ≡ value_of (pairs_model (take i pairs)) name
     → lookup (λ (y : Bor (List ℕ)). bytes_eq name y.now) new ≡ cond (bytes_eq k name) (Some v) (lookup (λ (y : Bor (List ℕ)). bytes_eq name y.now) old)

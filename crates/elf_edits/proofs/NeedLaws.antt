@@ -17,7 +17,7 @@ versions_kept : (pairs : List (List ℕ × List ℕ)) (needs : List VersionNeeds
 versions_kept pairs [] = refl
 versions_kept pairs (n ∷ ns) = ap (λ (l : List (List VersionName)). n.versions ∷ l) (versions_kept pairs ns)
 
--- where none has a new name, they are as they were
+-- where no library has a new name, the needed versions are as they were
 pub none_replaced : (pairs : List (List ℕ × List ℕ)) (needs : List VersionNeeds) → list_any (λ n. has_new_name pairs n.file) needs ≡ false → map (with_library_replaced pairs) needs ≡ needs
 none_replaced pairs [] none = refl
 none_replaced pairs (n ∷ ns) none =

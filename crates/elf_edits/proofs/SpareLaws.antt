@@ -220,7 +220,7 @@ reclaimed_aligned n f = reclaimed_left (with_load_align n) (aligned_leaves n) f
 -- ## Other flags of the stack
 
 module _ (flags : ℕ → ℕ) where
-  -- the stack's program header stays, and is the first of those that do
+  -- the stack's program header stays, and is the first of those that stay
   filter_stack : (keep : SegmentHeader → Bool) → ((p : SegmentHeader) (n : ℕ) → keep (record p { p_flags = n }) ≡ keep p) → ((p : SegmentHeader) → (p.p_type == PT_GNU_STACK) ≡ true → keep p ≡ true)
       → (ps : List SegmentHeader) → filter keep (with_stack_changed flags ps) ≡ with_stack_changed flags (filter keep ps)
   unfolding with_stack_changed
@@ -254,7 +254,7 @@ module _ (flags : ℕ → ℕ) where
           ∙ sym (ap (λ (b : Bool). cond b (p ∷ filter keep ps) (filter keep ps)) (goes p is))
       by_type false is rest = ap (λ (l : List SegmentHeader). cond (keep p) (p ∷ l) l) rest
 
-  -- nor is it found as another one
+  -- the stack's program header isn't found as another one
   find_other : (test : SegmentHeader → Bool) → ((p : SegmentHeader) → (p.p_type == PT_GNU_STACK) ≡ true → test p ≡ false)
       → (ps : List SegmentHeader) → find test (with_stack_changed flags ps) ≡ find test ps
   unfolding with_stack_changed
@@ -360,7 +360,7 @@ module _ (f : SpareFacts) where
       by_load true is = eqb-true p.p_type PT_LOAD is
       by_load false isnt = let no : true ≡ false = sym (could_be p gone) ∙ isnt_spare (fixed_end f) f.table p isnt in absurd (cc)
 
-  -- a test that fails for loaded segments is passed by as many segments as before
+  -- a test that fails for loaded segments finds what it found before
   pub others_found : (test : SegmentHeader → Bool) → ((p : SegmentHeader) → p.p_type ≡ PT_LOAD → test p ≡ false) → find test (segments_reclaimed f) ≡ find test f.segments
   unfolding segments_reclaimed
   others_found test isnt = by_all (can_reclaim f)
@@ -412,7 +412,7 @@ module _ (f : SpareFacts) where
 abbrev pub lacks_room : List SegmentHeader → Bool
 lacks_room ps = is_none (segment_of_type PT_GNU_STACK ps) && nat_le MOST_SEGMENTS (length ps)
 
--- without one, all are others
+-- without a program header for the stack, all are others
 all_others : (ps : List SegmentHeader) → is_none (segment_of_type PT_GNU_STACK ps) ≡ true → count_others ps ≡ length ps
 all_others [] none = refl
 all_others (p ∷ ps) none = by_type (p.p_type == PT_GNU_STACK) refl none (all_others ps)

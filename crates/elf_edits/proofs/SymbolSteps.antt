@@ -135,7 +135,7 @@ is_name name h = ap not h
 abbrev pub mixed : {A : Type 0} → ℕ → List A → List A → List A
 mixed i new old = take i new ++ drop i old
 
--- one more element of a list that goes with another
+-- one element more of a list that goes with another
 mixed_more : {A : Type 0} (f : A → A) (i : ℕ) (new old : List A) → length new ≡ length old → i < length old → ((x : A) → slice_get old i ≡ Some x → slice_get new i ≡ Some (f x)) → changed_at i f (mixed i new old) ≡ mixed (suc i) new old
 mixed_more f i [] [] long here at = absurd (omega (arith, here))
 mixed_more f i [] (y ∷ ys) long here at = absurd (omega (arith, long))
@@ -198,13 +198,13 @@ module _ (f : NamedSymbol → NamedSymbol) (old : EditedList) where
       next : suc i ≡ i + 1
       next = omega arith
 
-  -- none is left that changes
+  -- no symbol is left that changes
   pub all_changed : (i : ℕ) (now : EditedList) → mixed i (behind_first f old.symbols) old.symbols ≡ behind_first f old.symbols → now ≡ changed_up_to i
       → now ≡ record old { symbols = behind_first f old.symbols }
   unfolding with_symbols
   all_changed i now left is = is ∙ ap (with_symbols old) left
 
--- all of it is taken
+-- all of a list up to its end is taken
 whole_taken : (k : ℕ) (xs ys : List NamedSymbol) → length xs ≡ length ys → length ys ≤ k → mixed k xs ys ≡ xs
 whole_taken zero [] [] same h = refl
 whole_taken (suc k) [] [] same h = refl
@@ -249,7 +249,7 @@ module _ (change : SymbolChange) (ys : List NamedSymbol) where
       next : i + 1 ≡ suc i
       next = omega arith
 
-  -- all were looked at
+  -- all symbols were looked at
   pub left_whole : (i : ℕ) → length ys ≤ i → changed_to change i ys ≡ behind_first (changed_symbol change) ys
   left_whole i past = whole_taken i (behind_first (changed_symbol change) ys) ys (behind_first-length (changed_symbol change) ys) past
 

@@ -169,7 +169,7 @@ cause_of_list m task there = first_there (cause_if (m == EM_MIPS) MipsImage) (fi
 cause_same : (m : ℕ) (task : List ℕ) (f : List Entry → List Entry) (es : Option (List Entry)) → cause_of_list m task (is_some (option_map f es)) ≡ cause_of_list m task (is_some es)
 cause_same m task f es = ap (cause_of_list m task) (is_some-option_map f es)
 
--- none of the three touches what it made
+-- none of these edits touches what it made
 rpath_untouched : (m : ℕ) (es : Option (List Entry)) → is_list_with (touches_entries m ForceRpath) (option_map (edited_entries m ForceRpath) es) ≡ false
 unfolding edited_entries touches_entries
 rpath_untouched m None = refl
@@ -180,7 +180,7 @@ unfolding edited_entries touches_entries with_debug debug_entry
 debug_untouched m None = refl
 debug_untouched m (Some es) = ap not (debug_there es)
 
--- or it touches it again, as it did before
+-- or the edit touches its list again, as it did before
 no_default_touched : (m : ℕ) (es : Option (List Entry)) → is_list_with (touches_entries m NoDefaultLib) (option_map (edited_entries m NoDefaultLib) es) ≡ is_list_with (touches_entries m NoDefaultLib) es
 unfolding touches_entries
 no_default_touched m None = refl

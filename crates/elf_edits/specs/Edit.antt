@@ -164,7 +164,7 @@ dropped_tags _ = []
 
 -- ## The dynamic symbols
 
--- an edit of them, and of nothing else
+-- an edit of the dynamic symbols, and of nothing else
 abbrev pub is_of_symbols : Edit → Bool
 is_of_symbols (RenameDynamicSymbols pairs) = true
 is_of_symbols (ClearSymbolVersion name) = true

@@ -19,7 +19,7 @@ pub record Facts : Type 0 where
 
 -- ## In the code
 
--- the names of symbols that have to keep them
+-- the names of symbols that have to keep their names
 abbrev pub names_fixed : Option SymbolsNow → List (List ℕ)
 names_fixed None = []
 names_fixed (Some symbols) = names_behind_first (symbols_now symbols)

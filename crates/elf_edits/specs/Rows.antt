@@ -143,7 +143,7 @@ pub record PageRows : Type 0 where
   pub too_small : cause (SetPageSize 512) small_image ≡ Some (BadPageSize 512)
   pub zero_bytes : cause (SetPageSize 0) small_image ≡ Some (BadPageSize 0)
   pub smallest : cause (SetPageSize 1024) small_image ≡ None
-  -- every loaded segment is aligned to it, and no other
+  -- every loaded segment is aligned to the page size, and no other
   pub aligned : step (SetPageSize 65536) small_image ≡ Ok (record small_image {
     changed = true;
     page_size = Some 65536;
@@ -265,13 +265,13 @@ pub record SymbolStepRows : Type 0 where
   pub fixed_to_same : step (RenameDynamicSymbols ((codes "f", codes "f") ∷ [])) fixed_image ≡ Err CannotRenumber
   pub fixed_others : LeavesAll (RenameDynamicSymbols ((codes "a", codes "g") ∷ (codes "g", codes "f") ∷ [])) fixed_image
   pub fixed_cleared : step (ClearSymbolVersion (codes "f")) fixed_image ≡ Ok (record fixed_image { changed = true; dynamic_symbols = plain (codes "a") ∷ symbol (codes "f") global ∷ [] })
-  -- a NUL comes before it, and the machine before that
+  -- a NUL comes before a name that has to stay, and the machine before that
   pub nul_in_old : cause (RenameDynamicSymbols ((codes "f", []) ∷ (with_nul_in_it, []) ∷ [])) fixed_image ≡ Some NulInText
   pub nul_in_new : cause (RenameDynamicSymbols ((codes "f", with_nul_in_it) ∷ [])) fixed_image ≡ Some NulInText
   pub nul_to_clear : cause (ClearSymbolVersion with_nul_in_it) small_image ≡ Some NulInText
   pub machine_first : cause (RenameDynamicSymbols ((with_nul_in_it, []) ∷ [])) mips_image ≡ Some MipsImage
   pub machine_to_clear : cause (ClearSymbolVersion with_nul_in_it) mips_image ≡ Some MipsImage
-  -- a file without a dynamic section may have them too
+  -- a file without a dynamic section may have dynamic symbols too
   pub without_list : step swap (record (with_symbols (plain [] ∷ plain (codes "f") ∷ [])) { entries = None }) ≡ Ok (record (with_symbols (plain [] ∷ plain (codes "g") ∷ [])) { changed = true; entries = None })
   -- one after the other
   pub in_a_batch : run (RenameDynamicSymbols ((codes "f", codes "g") ∷ []) ∷ ClearSymbolVersion (codes "g") ∷ RenameDynamicSymbols ((codes "g", codes "h") ∷ []) ∷ []) (with_symbols (plain [] ∷ symbol (codes "f") own ∷ []))

@@ -81,7 +81,7 @@ pub(crate) enum EntryChange<'e, 'n> {
     Directories(&'e [Vec<u8>]),
     // The entry has this tag.
     Tag(u64),
-    // The entry's text is the one that stands for it here, if one does.
+    // The entry's text is the other name for it here, if there is one.
     Name(&'e HashMap<&'n [u8], &'n [u8]>),
     // These bits are set in the entry's number.
     Bits(u64),

@@ -198,7 +198,7 @@ pub enum Task {
 }
 
 impl Task {
-    /// The words for it. Takes no memory.
+    /// The words for the task. Takes no memory.
     pub fn text(self) -> &'static str
         ensures { result.now ≡ words_of self }
     {

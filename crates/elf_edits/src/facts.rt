@@ -7,7 +7,7 @@ pub struct Facts<'i> {
     pub machine: u16,
     /// Whether there is a dynamic section.
     pub has_list: bool,
-    /// Whether its list has a run path.
+    /// Whether the dynamic list has a run path.
     pub has_run_path: bool,
     /// Whether there is an interpreter.
     pub has_interpreter: bool,

@@ -22,7 +22,7 @@ const FEW: usize = 16;
 // What becomes of dynamic symbols.
 #[derive(Clone, Copy)]
 pub(crate) enum SymbolChange<'e, 'n> {
-    // The name of a symbol is the one that stands for it here, if one does.
+    // The name of a symbol is the other name for it here, if there is one.
     Name(&'e HashMap<&'n [u8], &'n [u8]>),
     // The one name becomes the other: a name is compared in place of looked up.
     One(&'e [u8], &'e [u8]),
@@ -35,7 +35,7 @@ pub(crate) enum SymbolChange<'e, 'n> {
 pub struct Reach {
     // One past the last of them, or of all symbols where they are more than a few.
     pub end: usize,
-    // How many they are, as far as they were counted: up to one more than a few.
+    // How many symbols are reached, as far as they were counted: up to one more than a few.
     pub count: usize,
 }
 
@@ -140,7 +140,7 @@ impl SymbolChange<'_, '_> {
         self.find_first(symbols).is_some()
     }
 
-    // How far the symbols reach that it is about, from a position on.
+    // How far the symbols reach that the change is about, from a position on.
     fn reach(&self, symbols: &SymbolsNow<'_>, first: usize) -> Reach
         requires behind { 1 ≤ first }
         requires within { first ≤ length (symbols_now symbols.now) }
@@ -162,7 +162,7 @@ impl SymbolChange<'_, '_> {
         Reach { end, count }
     }
 
-    // Makes it of the symbol at a position.
+    // Makes the change of the symbol at a position.
     fn apply(
         &self,
         alloc: Global,

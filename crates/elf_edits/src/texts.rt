@@ -41,7 +41,7 @@ pub fn any_nul_in_pairs(pairs: &[(Vec<u8>, Vec<u8>)]) -> bool
     false
 }
 
-// Whether bytes before the last one do.
+// Whether there is a NUL in bytes before the last one.
 pub(crate) fn nul_before_end(bytes: &[u8]) -> bool
     ensures { result ≡ list_any nul_in (all_but_last bytes.now ∷ []) }
 {

@@ -18,7 +18,7 @@ use Rattle.elf_edits.proofs.ForCallers.{by_test, one_more, other_way, there_or_n
 abbrev pub Found : Type 0
 Found = List ((Bor (List ℕ) × Bor (List ℕ)) × Option ℕ)
 
--- one more element to be looked through
+-- one element more to be looked through
 find_push : {A : Type 0} (p : A → Bool) (xs : List A) (a : A) → find p (xs ++ a ∷ []) ≡ first_there (find p xs) (if p a then Some a else None)
 find_push p [] a = refl
 find_push p (x ∷ xs) a = by_test (p x)

@@ -12,7 +12,7 @@ use Rattle.elf_edits.specs.Texts.{has_some, joined_by_colons}
 use Rattle.std.proofs.Math.Path.{fun_ext}
 use Rattle.elf_edits.proofs.ForCallers.{one_more}
 
--- one more text behind a colon, or alone
+-- one text more behind a colon, or alone
 joined_more : (text : List ℕ) (texts : List (List ℕ)) (p : List ℕ) → joined_by_colons ((text ∷ texts) ++ p ∷ []) ≡ joined_by_colons (text ∷ texts) ++ COLON ∷ p
 joined_more text [] p = refl
 joined_more text (next ∷ texts) p = ap (λ l. text ++ COLON ∷ l) (joined_more next texts p) ∙ sym (append_assoc text (COLON ∷ joined_by_colons (next ∷ texts)) (COLON ∷ p))

@@ -3,9 +3,9 @@
 /// Why a directory goes from a run path.
 #[derive(Clone, Copy, Debug, PartialEq, Eq)]
 pub enum Reason {
-    /// Prefixes were given, and none begins it.
+    /// Prefixes were given, and none begins the directory.
     Prefix,
-    /// No needed library was found in it for the image's machine.
+    /// No needed library was found in the directory for the image's machine.
     NoLibrary,
 }
 
@@ -14,6 +14,6 @@ pub enum Reason {
 pub struct Removed {
     /// The directory, as the run path had it.
     pub directory: Vec<u8>,
-    /// Why it went.
+    /// Why the directory went.
     pub reason: Reason,
 }

@@ -20,7 +20,7 @@ pub(crate) struct Search<'e> {
     pub(crate) prefixes: &'e [Vec<u8>],
     // The needed libraries.
     pub(crate) needed: Vec<&'e [u8]>,
-    // The machine that they have to be for.
+    // The machine that libraries have to be for.
     pub(crate) machine: u16,
     // The first answer for each directory and library.
     pub(crate) found: HashMap<(&'e [u8], &'e [u8]), Option<u16>>,
@@ -45,7 +45,7 @@ impl Search<'_> {
         }
     }
 
-    // Whether some needed library was found in it.
+    // Whether some needed library was found in a directory.
     fn finds_library(&self, directory: &[u8]) -> bool
         ensures { result ≡ is_found_in (search_model self.now) directory.now }
     {
@@ -160,7 +160,7 @@ pub(crate) fn is_absolute(directory: &[u8]) -> bool
     directory.starts_with(&[SLASH])
 }
 
-// Whether some prefix begins it.
+// Whether some prefix begins a directory.
 fn begins_with_one(prefixes: &[Vec<u8>], directory: &[u8]) -> bool
     ensures { result ≡ list_any (λ p. starts_with nat_eq directory.now p)
         (texts_model prefixes.now) }

@@ -22,7 +22,7 @@ unfolding records
 length-records decode size zero bytes = refl
 length-records decode size (suc count) bytes = ap suc (length-records decode size count (drop size bytes))
 
--- as many where the bytes are there
+-- as many records are read as asked for, where their bytes are there
 length-there : {A : Type 0} → (decode : List ℕ → A) (size count : ℕ) (there : Option (List ℕ)) (made : List A)
     → (there >>= λ bytes. Some (records decode size count bytes)) ≡ Some made → length made ≡ count
 length-there decode size count None made e = absurd (none-some made e)

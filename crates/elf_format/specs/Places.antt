@@ -28,7 +28,7 @@ places_of sections = map place_of sections
 abbrev pub file_range : Place → Range
 file_range s = range s.sh_offset s.sh_size
 
--- the addresses that it takes
+-- the addresses that the place takes
 abbrev pub memory_range : Place → Range
 memory_range s = range s.sh_addr s.sh_size
 

@@ -11,7 +11,7 @@ pub struct Header {
     pub abi_version: u8,
     /// What kind of file it is: `ET_EXEC` a program, `ET_DYN` one that may be loaded anywhere, or a library.
     pub e_type: u16,
-    /// The machine that its code is for.
+    /// The machine that the file's code is for.
     pub e_machine: u16,
     /// The address at which the program starts.
     pub e_entry: u64,

@@ -39,7 +39,7 @@ pub trait Record: Drop {
 
     ghost decode: { Form → List ℕ → Self };
 
-    /// What its bytes show.
+    /// What the bytes of the record show.
     fn read(form: Form, bytes: &[u8]) -> Self
         ensures { result ≡ decode form bytes.now };
 }

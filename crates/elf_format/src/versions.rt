@@ -4,11 +4,11 @@ use std::marker::Model;
 /// A defined version, its names by where they stand.
 #[derive(Drop)]
 pub struct RawDefinition {
-    /// The index by which symbols name it.
+    /// The index by which symbols name the version.
     pub index: u16,
     /// The version's flags.
     pub flags: u16,
-    /// The offsets of its names.
+    /// The offsets of the version's names.
     pub names: Vec<u32>,
 }
 

@@ -26,7 +26,7 @@ next_is b p (Some c ∷ xs) j e some = by_test (c == b) refl e (λ told. next_is
         let (d, at, there) = later told in
         (suc d, omega (arith, at), there)
 
--- where one stands in the bucket, the first is told
+-- where a symbol stands in the bucket, the first one is told
 pub next_there : (b p : ℕ) (xs : List (Option ℕ)) (d : ℕ) → slice_get xs d ≡ Some (Some b)
     → (e : ℕ) × (e ≤ d) × (next_in b p xs ≡ p + e) × (slice_get xs e ≡ Some (Some b))
 unfolding next_in

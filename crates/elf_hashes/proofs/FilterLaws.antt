@@ -77,7 +77,7 @@ bits-set form shift hash others =
       second = set_right others (bit_or (2 ^ i) (2 ^ j)) j (set_right (2 ^ i) (2 ^ j) j (bit_at-pow_same j));
     }
 
--- more bits leave them set
+-- more bits leave the bits of a hash set
 bits-stay : (form : Form) (shift hash word more : ℕ) → HasBits form shift hash word → HasBits form shift hash (bit_or word more)
 bits-stay form shift hash word more has =
     record {

@@ -237,7 +237,7 @@ module _ (form : Form) (sizes : GnuSizes) (ys : List NamedSymbol) (m : Memory) (
 
   -- ## Where runs end
 
-  -- the last symbol of all stands in a bucket, if any does
+  -- the last symbol of all stands in a bucket, if any symbol does
   last_there : (first b : ℕ) → slice_get (stands_in sizes ys) first ≡ Some (Some b)
       → (c : ℕ) × (slice_get (stands_in sizes ys) (length (stands_in sizes ys) - 1) ≡ Some (Some c))
   last_there first b at =

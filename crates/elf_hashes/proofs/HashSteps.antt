@@ -27,7 +27,7 @@ in_order-more ys order i y inside at =
 
 -- ## Hashes in an order
 
--- one more of those at some positions
+-- one element more of those at some positions
 pub picked-more : {X : Type 0} (xs : List X) (order : List ℕ) (i : ℕ) (x : X) (items was now : List X) → i < length order
     → slice_get xs (get_or order i 0) ≡ Some x
     → was ≡ items ++ filter_map (λ k. slice_get xs k) (take i order)
@@ -96,7 +96,7 @@ pub with_part : {X Y : Type 0} (f : X → Y) (o : Option X) (t : Y) → option_m
 with_part f None t is = absurd (none-some t is)
 with_part f (Some x) t is = (x, refl, same_Some (f x) t is)
 
--- one more of a list
+-- one element more of a list
 pub taken-more : {X : Type 0} (xs was now : List X) (i : ℕ) (x : X) → slice_get xs i ≡ Some x → was ≡ take i xs → now ≡ was ++ x ∷ [] → now ≡ take (i + 1) xs
 taken-more xs was now i x at before step =
     step ∙ ap (λ l. l ++ x ∷ []) before

@@ -19,7 +19,7 @@ next_too b (Some c ∷ xs) e = ap (λ (n : ℕ). Some (Some n)) (eqb-true c b (b
     by_test true h = refl
     by_test false h = absurd (false≢true (sym h))
 
--- where one of the bucket stands behind it, it isn't the last
+-- where a symbol of the bucket stands behind another one, that isn't the last
 not_last : (b : ℕ) (xs : List (Option ℕ)) → slice_get xs 0 ≡ Some (Some b) → ends b xs ≡ false
 not_last b [] at = absurd (none-some (Some b) at)
 not_last b (None ∷ xs) at = absurd (none-some b (same_Some None (Some b) at))

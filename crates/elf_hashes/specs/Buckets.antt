@@ -10,7 +10,7 @@ hashes_of hash names = map (option_map hash) names
 abbrev pub in_buckets : ℕ → List (Option ℕ) → List (Option ℕ)
 in_buckets buckets hashes = map (option_map (λ hash. hash % buckets)) hashes
 
--- the number of the first symbol that stands in a bucket, where the first of these has a number; 0 where none does
+-- the number of the first symbol that stands in a bucket, where the list's first symbol has a number; 0 where none stands there
 unfoldable pub next_in : ℕ → ℕ → List (Option ℕ) → ℕ
 next_in bucket i [] = 0
 next_in bucket i (None ∷ xs) = next_in bucket (i + 1) xs

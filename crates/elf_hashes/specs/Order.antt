@@ -18,7 +18,7 @@ by_bucket buckets [] = []
 by_bucket buckets (first ∷ rest) =
     first ∷ (filter is_local rest ++ filter is_sought rest ++ flat_map (λ bucket. filter (is_found_in buckets bucket) rest) (counted buckets))
 
--- where those of a list stand for which a test holds, the first being at a position
+-- where the elements of a list stand for which a test holds, the list's first one being at a position
 abbrev pub places_where : {A : Type 0} → (A → Bool) → ℕ → List A → List ℕ
 places_where test i [] = []
 places_where test i (x ∷ xs) = if test x then i ∷ places_where test (i + 1) xs else places_where test (i + 1) xs

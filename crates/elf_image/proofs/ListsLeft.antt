@@ -135,7 +135,7 @@ find_first test (y ∷ xs) (suc i) x is =
 
 -- ## Some element passes
 
--- where none does, this one doesn't
+-- where no element passes, this one doesn't
 pub none_passes : {A : Type 0} (test : A → Bool) (xs : List A) (x : A) → list_any test xs ≡ false → Contains xs x → test x ≡ false
 none_passes test [] x none has = absurd (omega (arith, has.1))
 none_passes test (y ∷ xs) x none has =

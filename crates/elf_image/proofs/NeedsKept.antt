@@ -11,7 +11,7 @@ use Rattle.elf_image.proofs.Kept.{needs_complete}
 
 -- ## What they keep
 
--- none are none
+-- where there were no needed versions there are none
 pub needs_of_none : (now : List VersionNeeds) → AreSameNeeds [] now → now ≡ []
 needs_of_none [] same = refl
 needs_of_none (n ∷ ns) same = absurd same

@@ -147,7 +147,7 @@ module _ (image : Image) (h : IsEdited image) where
       ∙ ap (λ (o : Option ℕ). lasts h.read.header.e_shstrndx o (unnamed k)) strings_same
       ∙ ap (lasts h.read.header.e_shstrndx (dynamic_strings_number h.read)) same ∙ is
 
-  -- there is one section of symbols for a link editor
+  -- the section of symbols for a link editor is the only one of its type
   one_table : (k s : KeptSection) → Contains (kept_sections image) k → Contains (kept_sections image) s → (k.section.sh_type == SHT_SYMTAB) ≡ true → (s.section.sh_type == SHT_SYMTAB) ≡ true
       → k.number ≡ s.number
   one_table k s k_has s_has k_typed s_typed =
@@ -285,7 +285,7 @@ module _ (image : Image) (gone : List ℕ) (h : IsEdited image) (can : CanDelete
       let has : Contains pairs_of (n, y) = (k, less, get_or_from_slice_get pairs_of k (n, y) (n, y) is) in
       number_there along n (contains_map (λ (x : ℕ × NamedSymbol). x.0) (filter (λ x. goes_along image gone x.0 x.1) pairs_of) (n, y) (passing_stays (λ x. goes_along image gone x.0 x.1) pairs_of (n, y) has goes))
 
-  -- one that goes along is a symbol that does
+  -- a number that goes along is that of a symbol that does
   goes_by : (n : ℕ) → is_one_of along n ≡ true → (y : NamedSymbol) × (goes_along image gone n y ≡ true)
   goes_by n one =
       let (x, has, is) = contained_by (λ (z : ℕ × NamedSymbol). z.0) (filter (λ z. goes_along image gone z.0 z.1) pairs_of) n (one_of_there along n one) in
@@ -311,7 +311,7 @@ module _ (image : Image) (gone : List ℕ) (h : IsEdited image) (can : CanDelete
       let (s, is, s_has, s_typed) = found_some (λ (t : KeptSection). t.section.sh_type == SHT_SYMTAB) (kept_sections image) (find_contained (λ (t : KeptSection). t.section.sh_type == SHT_SYMTAB) (kept_sections image) k has typed) in
       (s, is, one_table image h s k s_has has s_typed typed)
 
-  -- where it is still there it doesn't go
+  -- where the section of symbols for a link editor is still there, it doesn't go
   record HasTable : Type 0 where
     section : KeptSection
     is : kept_of_type SHT_SYMTAB image ≡ Some section

@@ -48,7 +48,7 @@ added_stays keep stays (Some flags) = ap (λ (b : Bool). cond b (added_stack fla
 
 -- ## Those that are deserted
 
--- none of the types that last is deserted
+-- no program header of a type that lasts is deserted
 deserted_goes : (image : Image) (gone : List ℕ) (p : SegmentHeader) → is_deserted image gone p ≡ true → CanGo p
 deserted_goes image gone p h = by_type (p.p_type == PT_INTERP) refl h
   where
@@ -121,7 +121,7 @@ interpreter_gone image gone goes = by_found (segment_of_type PT_INTERP (segments
         let (_, stays) = left_was (λ q. not (is_deserted image gone q)) image.segments p has in
         absurd (false≢true (sym (ap not (interpreter_deserted image gone p typed ∙ goes)) ∙ stays))
 
--- where there is one, it is the one that was read
+-- where there is a program header for the interpreter, it is the one that was read
 module _ (size : Option ℕ) where
   first_by : (p : SegmentHeader) (ps : List SegmentHeader) (b : Bool) → is_interpreter p ≡ b → find is_interpreter (p ∷ ps) ≡ (if b then Some p else find is_interpreter ps)
   first_by p ps b is = ap (λ (c : Bool). if c then Some p else find is_interpreter ps) is

@@ -65,7 +65,7 @@ module _ (f : SpareFacts) where
       by_spare true is = absurd (other (spare_is f p is).loaded)
       by_spare false is = refl
 
-  -- as it is kept, it is as spare as it was
+  -- a program header, as it is kept, is as spare as it was
   alike : (size : Option ℕ) (old p : SegmentHeader) → p ≡ kept_segment size p.p_flags old → stays p ≡ stays old
   alike size old p is = ap stays is
 

@@ -17,7 +17,7 @@ use Rattle.elf_image_parts.specs.Segments.{added_stack, loads_end, with_align, w
 -- ## What is left of those that were read
 
 module _ (table end : ℕ) where
-  -- all of them, where none went
+  -- all loaded segments are left, where none went
   pub none_went : (ps : List SegmentHeader) → AreUnclaimed table end ps ps
   none_went [] = tt
   none_went (p ∷ ps) = inl (refl, none_went ps)
@@ -65,7 +65,7 @@ module _ (table end : ℕ) where
       let all : count_by f (old ∷ olds) ≡ one_if (f old) + count_by f olds = count_first f old olds in
       omega (arith, rest, none, all)
 
-  -- there are as many
+  -- there are as many program headers that pass a test that fails for loaded segments
   pub count_unclaimed : (f : SegmentHeader → Bool) → ((p : SegmentHeader) → p.p_type ≡ PT_LOAD → f p ≡ false) → (olds ps : List SegmentHeader)
       → AreUnclaimed table end olds ps → count_by f ps ≡ count_by f olds
   count_unclaimed f other [] [] h = refl

@@ -17,7 +17,7 @@ use Rattle.elf_image.specs.Staying.{going, staying, table_number}
 abbrev pub goes_along : Image → List ℕ → ℕ → NamedSymbol → Bool
 goes_along image gone number y = is_some_and (is_one_of gone) (table_number SHT_SYMTAB image) || not (number == 0) && is_one_of gone y.st_shndx
 
--- the numbers at read of those that do
+-- the numbers at read of the static symbols that go along
 abbrev pub symbols_along : Image → List ℕ → List ℕ
 symbols_along image gone = map (λ x. x.0) (filter (λ x. goes_along image gone x.0 x.1) (zip image.symbol_numbers image.symbols))
 

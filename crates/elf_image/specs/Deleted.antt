@@ -47,7 +47,7 @@ with_deleted gone image = record image {
   interpreter = if does_interpreter_go gone image then None else image.interpreter;
 }
 
--- where none goes nothing changes
+-- an image without sections is as it was where no section goes
 abbrev pub without_sections : List ℕ → Image → Image
 without_sections [] image = image
 without_sections (n ∷ ns) image = with_deleted (n ∷ ns) image

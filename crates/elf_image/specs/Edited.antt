@@ -103,7 +103,8 @@ AreKept page_size (old ∷ olds) [] = CanGo old × AreKept page_size olds []
 AreKept page_size (old ∷ olds) (p ∷ ps) =
     ((p ≡ kept_segment page_size p.p_flags old) × AreKept page_size olds ps) ⊎ (CanGo old × AreKept page_size olds (p ∷ ps))
 
--- behind them stands at most one for the stack, where none was read; some loaded segment is there where one was
+-- program headers of an edited image: behind those that were read stands at most one for the stack, where none was read; some loaded
+-- segment is there where one was
 pub record AreSegments (table : ℕ) (page_size : Option ℕ) (read now : List SegmentHeader) : Type 0 where
   pub unclaimed : List SegmentHeader
   pub are_unclaimed : AreUnclaimed table (loads_end now) read unclaimed

@@ -33,8 +33,8 @@ names_section s number = not (s.sh_type == SHT_NULL) && (number == s.sh_link || 
 
 -- ## Both, and the dynamic symbols
 
--- one of the sections that go lasts, a section that stays names one of them, or a dynamic symbol is defined in one of them (gABI,
--- Symbol Table, st_shndx)
+-- one of the sections that go lasts, a section that stays names a section that goes, or a dynamic symbol is defined in one (gABI, Symbol
+-- Table, st_shndx)
 abbrev pub is_section_used : Image → List ℕ → Bool
 is_section_used image gone =
     list_any (is_lasting image) (going gone image)

@@ -63,7 +63,7 @@ AreDynamicSymbols p versions None symbols = symbols ≡ []
 AreDynamicSymbols p versions (Some s) symbols =
     AreSymbolsOf (length (file_of p)) (dynamic_texts_of p (linked_section p.sections s)) (symbols_of p s) (versions_read p versions (length (symbols_of p s))) symbols
 
--- All of it.
+-- The image holds all parts of the file.
 pub record HoldsParts (p : Parts) (image : Image) : Type 0 where
   pub source : image.source ≡ file_of p
   pub changed : image.changed ≡ false

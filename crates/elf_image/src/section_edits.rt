@@ -108,7 +108,7 @@ fn keep_numbers(numbers: &mut Vec<usize>, gone: &[usize])
     numbers.retain(|number| !contains(gone, *number));
 }
 
-// The interpreter is none where it goes.
+// Leaves no interpreter where it goes.
 fn clear_interpreter(interpreter: &mut Option<ByteString<'_>>, goes: bool)
     ensures { text_model interpreter.new
         ≡ (if goes then none else text_model interpreter.old) }

@@ -137,7 +137,7 @@ fn flaw_words(flaw: Flaw) -> &'static str {
     }
 }
 
-// The words of what of its texts and versions does.
+// The words of what of a section's texts and versions contradicts a rule.
 fn text_words(flaw: Flaw) -> &'static str {
     match flaw {
         Flaw::NoName { .. } => "the name of # is at #, no text begins there and ends",

@@ -85,7 +85,7 @@ pub place_within : {A : Type 0} → (view : A → SegmentHeader) (zs : List A) (
 place_within view [] i found = absurd (none-some i found)
 place_within view (z ∷ zs) i found = (position-Some (λ a. is_stack (view a)) (z ∷ zs) i z found).0
 
--- none is found
+-- no program header for the stack is found
 pub none_seen : {A : Type 0} → (view : A → SegmentHeader) (zs : List A) → position (λ a. is_stack (view a)) zs ≡ None → segment_of_type PT_GNU_STACK (map view zs) ≡ None
 none_seen {A} view zs h = none_from zs 0 (sym (position_from-zero (λ a. is_stack (view a)) zs) ∙ h)
   where

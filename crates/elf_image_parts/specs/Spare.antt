@@ -89,7 +89,7 @@ could_be_spare end table p =
 unfoldable pub others_end : SpareFacts → ℕ
 others_end f = loads_end (filter (λ p. not (could_be_spare (fixed_end f) f.table p)) f.segments)
 
--- a segment is spare: it starts behind these too
+-- a segment is spare: it starts behind the other loaded segments too
 abbrev pub is_spare : SpareFacts → SegmentHeader → Bool
 is_spare f p = could_be_spare (fixed_end f) f.table p && nat_le (others_end f) p.p_vaddr
 

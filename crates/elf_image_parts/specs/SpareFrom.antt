@@ -29,7 +29,7 @@ facts_of parts = record {
 abbrev pub has_fixed_type : ℕ → Bool
 has_fixed_type type = not (is_one_of (PT_LOAD ∷ PT_DYNAMIC ∷ PT_INTERP ∷ PT_NOTE ∷ PT_GNU_PROPERTY ∷ []) type)
 
--- bytes of the file stand for all of its memory
+-- bytes of the file stand for all of a segment's memory
 abbrev pub has_bytes_for_all : SegmentHeader → Bool
 has_bytes_for_all p = p.p_filesz == p.p_memsz && not (p.p_filesz == 0)
 

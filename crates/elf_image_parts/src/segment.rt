@@ -16,14 +16,14 @@ pub const MOST_SEGMENTS: usize = 65_534;
 /// A program header of a file (gABI, Program Header). Offsets, addresses and sizes are in bytes.
 #[derive(Clone, Copy, Debug)]
 pub struct Segment {
-    /// All its numbers.
+    /// All numbers of the program header.
     pub numbers: SegmentHeader,
 }
 
 impl Segment {
     ghost use Rattle.elf_image_parts.specs.Segments.{with_align};
 
-    /// All its numbers.
+    /// All numbers of the program header.
     pub fn numbers(&self) -> SegmentHeader
         ensures { result ≡ segment_model self.now }
     {
@@ -44,42 +44,42 @@ impl Segment {
         self.numbers.p_flags
     }
 
-    /// Where it stands in the file.
+    /// Where the segment stands in the file.
     pub fn p_offset(&self) -> u64
         ensures { result ≡ (segment_model self.now).p_offset }
     {
         self.numbers.p_offset
     }
 
-    /// Where it stands in memory.
+    /// Where the segment stands in memory.
     pub fn p_vaddr(&self) -> u64
         ensures { result ≡ (segment_model self.now).p_vaddr }
     {
         self.numbers.p_vaddr
     }
 
-    /// Where it stands in memory that isn't virtual.
+    /// Where the segment stands in memory that isn't virtual.
     pub fn p_paddr(&self) -> u64
         ensures { result ≡ (segment_model self.now).p_paddr }
     {
         self.numbers.p_paddr
     }
 
-    /// How many bytes it has in the file.
+    /// How many bytes the segment has in the file.
     pub fn p_filesz(&self) -> u64
         ensures { result ≡ (segment_model self.now).p_filesz }
     {
         self.numbers.p_filesz
     }
 
-    /// How many bytes it takes in memory.
+    /// How many bytes the segment takes in memory.
     pub fn p_memsz(&self) -> u64
         ensures { result ≡ (segment_model self.now).p_memsz }
     {
         self.numbers.p_memsz
     }
 
-    /// What its address and its offset are congruent by, 0 or 1 for anything.
+    /// What the segment's address and its offset are congruent by, 0 or 1 for anything.
     pub fn p_align(&self) -> u64
         ensures { result ≡ (segment_model self.now).p_align }
     {

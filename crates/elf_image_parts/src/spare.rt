@@ -223,7 +223,7 @@ fn is_fixed_segment(kind: u32) -> bool
         .any(|other| *other == kind)
 }
 
-// Where those end in memory.
+// Where the segments of fixed types end in memory.
 fn fixed_segments_end(segments: &[Segment]) -> u128
     ensures end { result ≡ end_after 0 (filter is_fixed (map segment_model segments.now)) }
     ensures near { result < 2 ^ 65 }

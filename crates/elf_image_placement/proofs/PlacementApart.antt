@@ -113,7 +113,7 @@ rises_rest r rs up = λ i j d order within. up (suc i) (suc j) d (omega arith) (
 rises_from : (a b : Range) (rs : List Range) → a.start ≤ b.start → IsNonDecreasingBy (λ s. s.start) (b ∷ rs) → (k : ℕ) (d : Range) → k < length (b ∷ rs) → a.start ≤ (get_or (b ∷ rs) k d).start
 rises_from a b rs order up k d within = let h = up 0 k d (omega arith) within in omega (arith, h)
 
--- all begin behind the end of the first where the next one does
+-- all ranges begin behind the end of the first where the next one does
 behind_first : (a b : Range) (rs : List Range) → IsNonDecreasingBy (λ s. s.start) (b ∷ rs) → end_of a ≤ b.start → list_all (λ s. apart a s) (b ∷ rs) ≡ true
 behind_first a b rs up behind =
     list_all-from_AllPass (λ s. apart a s) (b ∷ rs) (λ k d within. apart-behind a (get_or (b ∷ rs) k d) (let h = up 0 k d (omega arith) within in omega (arith, h)))

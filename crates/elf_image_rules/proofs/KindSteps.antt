@@ -161,7 +161,7 @@ module _ {A : Type 0} (test : A → Bool) (decode : List ℕ → A) (size : ℕ)
       ∙ ap (λ x. x && list_all test (records decode size (n - skip) (drop (skip * size) b))) (front_is file s skip pos inside ∙ front)
       ∙ sym (ap (λ k. list_all test (records decode size k (drop (skip * size) b))) (count_behind b skip pos inside))
 
-  -- so many more behind the first that pass
+  -- so many records more behind the first ones that pass
   pub more_pass : (file : List ℕ) (s : SectionHeader) (skip more : ℕ) → 0 < size → skip + more ≤ length (section_bytes file s) / size
       → list_all test (records decode size skip (drop s.sh_offset file)) ≡ true → list_all test (records decode size more (drop (skip * size) (section_bytes file s))) ≡ true
       → list_all test (records decode size (skip + more) (drop s.sh_offset file)) ≡ true

@@ -46,7 +46,7 @@ IsAmong size run other n = (n ≡ 0) ⊎ ((before : ℕ) × (run.start ≡ other
 abbrev pub names_below_limit : ℕ → Relocation → Bool
 names_below_limit limit r = r.r_symbol == 0 || nat_lt r.r_symbol limit
 
--- the first n relocations in bytes do, and all of them do
+-- the first n relocations in bytes name symbol 0 or one below a number, and all of them do
 abbrev pub first_name_below : Form → ℕ → ℕ → ℕ → List ℕ → Bool
 first_name_below form kind limit n bytes =
     list_all (names_below_limit limit) (records (relocation form kind) (relocation_size form kind) n bytes)

@@ -21,7 +21,7 @@ use std::alloc::Global;
 pub struct Headers<'data> {
     /// The file's bytes.
     pub file: &'data [u8],
-    /// How its numbers are spelled.
+    /// How the file's numbers are spelled.
     pub form: Form,
     /// The file header.
     pub header: FileHeader,

@@ -30,7 +30,8 @@ pub fn are_tables_linked(parts: &Headers<'_>, checked: &[Checked]) -> bool
     are_symbols_right(parts) && relocations_fit(parts, checked) && infos_are_sections(parts)
 }
 
-// Whether what comes once does, and tables are linked rightly, as far as headers and symbols say it.
+// Whether what comes once does, and tables are linked rightly, as far as headers and symbols
+// say it.
 fn are_symbols_right(parts: &Headers<'_>) -> bool
     ensures { result ≡ symbols_right (parts_model parts.now) }
 {

@@ -58,7 +58,7 @@ module _ (s : Inside) (ok : AreInOrder s) where
         (read_at s.table n, read_there s.table n below.1, subst (IsEditedSymbol (read_at s.table n)) is (is_edited s.table s.changes.items n ok.changes.named));
   }
 
-  -- all are there where there are as many
+  -- all symbols are there where there are as many as were read
   pub all_there : length (numbers_of s) ≡ length s.table → numbers_of s ≡ counted (length s.table)
   all_there long = rising_whole (length s.table) (numbers_of s) numbers_rise long
 
@@ -133,7 +133,7 @@ module _ (s : Inside) (ok : AreInOrder s) where
           λ same. all_leave part s.table s.changes.items ok.changes.rising (each_from_all part s.table now (sym shown ∙ same ∙ was)),
         )
 
-    -- all are there where there are as many
+    -- all symbols are there where there are as many as were read
     pub numbers_whole : length e.numbers ≡ length s.table → e.numbers ≡ counted (length e.read)
     numbers_whole long =
         sym (ap (λ (l : EditedList). l.numbers) seen) ∙ all_there (ap (λ (l : EditedList). length l.numbers) seen ∙ long) ∙ ap (λ (l : EditedList). counted (length l.read)) seen

@@ -77,7 +77,7 @@ module _ (form : Form) (room : ℕ) (texts : Memory) (versions : Option (List �
       (ap (versions_in form versions) (length-records (symbol_numbers form) (symbol_size form) count bytes) ∙ versions_by_place form versions count)
       ∙ join_all count 0 bytes
 
-  -- there are as many
+  -- there are as many symbols as were asked for
   from_long : (count i : ℕ) (bytes : List ℕ) (ys : List NamedSymbol) → symbols_from form room texts versions count i bytes ≡ Some ys → length ys ≡ count
   unfolding symbols_from
   from_long zero i bytes ys is = ap length (sym (same_Some [] ys is))

@@ -12,7 +12,7 @@ pub record EditedList : Type 0 where
   pub numbers : List ℕ
   pub symbols : List NamedSymbol
 
--- all are there, as they were read
+-- all symbols are there, as they were read
 abbrev pub as_read : List NamedSymbol → EditedList
 as_read ys = record { read = ys; numbers = counted (length ys); symbols = ys }
 

@@ -44,7 +44,7 @@ pub(crate) fn find<'a, 'data>(
     }
 }
 
-// Puts a change at a position. There is room for it.
+// Puts a change at a position. There is room for the change.
 fn insert_reserved<'data>(changes: &mut Vec<Change<'data>>, k: usize, change: Change<'data>)
     requires inside { k ≤ length changes.old.items }
     requires room { length changes.old.items < vec_capacity changes.old }

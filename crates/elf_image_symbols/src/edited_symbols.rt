@@ -19,7 +19,7 @@ pub struct EditedSymbols<'data> {
     pub(crate) changes: Vec<Change<'data>>,
     // The numbers at read of those that are there, where some may have gone. There is room for all.
     pub(crate) kept: Vec<usize>,
-    // None went: then `kept` tells nothing.
+    // No symbol went: then `kept` tells nothing.
     pub(crate) are_all: bool,
 }
 

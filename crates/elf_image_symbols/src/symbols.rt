@@ -117,7 +117,7 @@ impl<'data> Symbols<'data> {
         }
     }
 
-    /// How many they are. Takes no memory.
+    /// How many symbols there are. Takes no memory.
     pub fn len(&self) -> usize
         ensures { result ≡ length self.now }
     {

@@ -20,7 +20,7 @@ pub struct SymbolsNow<'a> {
 }
 
 impl<'a> SymbolsNow<'a> {
-    /// How many they are. Takes no memory.
+    /// How many symbols there are. Takes no memory.
     pub fn len(&self) -> usize
         ensures { result ≡ length (symbols_now self.now) }
     {

@@ -127,7 +127,7 @@ never : (b : Bool) → (b && false) ≡ false
 never true = refl
 never false = refl
 
--- one of some addresses lies in a program header's memory, where as many come before it
+-- one of some addresses lies in a program header's memory, where as many addresses come before it
 module _ (p : SegmentHeader) (xs : List ℕ) (rise : IsNonDecreasing xs) (before : ℕ) (bound : before ≤ length xs)
     (point : IsPartitionPoint (λ x. nat_lt x p.p_vaddr ≡ true) (λ x. nat_lt x p.p_vaddr ≡ false) xs before) where
   not_before : (k : ℕ) → k < before → is_within p (get_or xs k 0) ≡ false

@@ -16,7 +16,7 @@ drop_here xs i x at = drop_more xs i x (slice_get_within xs i x at) ∙ ap (λ y
 -- ## Some element passes
 
 module _ {X : Type 0} (test : X → Bool) where
-  -- one from a place on does
+  -- some element from a place on passes
   abbrev pub any_from : List X → ℕ → Bool
   any_from xs i = list_any test (drop i xs)
 
@@ -40,7 +40,7 @@ module _ {X : Type 0} (p test : X → Bool) where
   first_kept true x ys = refl
   first_kept false x ys = refl
 
-  -- one from a place on does
+  -- some kept element from a place on passes
   abbrev pub some_from : List X → ℕ → Bool
   some_from xs i = list_any test (filter p (drop i xs))
 
@@ -92,7 +92,7 @@ found_number xs x (Err i) none = sym (list_any_none (λ y. y == x) xs (All-from_
   | inr behind ↦ ne_eqb (get_or xs k 0) x (λ e. omega (arith, none.2 k behind within))
 ])))
 
--- all of them, where no number goes
+-- all elements are left, where no number goes
 pub filter_all : {X : Type 0} (xs : List X) → filter (λ _. true) xs ≡ xs
 filter_all [] = refl
 filter_all (x ∷ xs) = ap (λ ys. x ∷ ys) (filter_all xs)

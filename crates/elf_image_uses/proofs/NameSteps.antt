@@ -33,7 +33,7 @@ never true = refl
 never false = refl
 
 module _ (p : ℕ → Bool) where
-  -- none of the numbers
+  -- no number passes where the test fails
   none_of : (numbers : List ℕ) → list_any (λ n. p n && false) numbers ≡ false
   none_of [] = refl
   none_of (n ∷ ns) = ap (λ b. b || list_any (λ m. p m && false) ns) (never (p n)) ∙ none_of ns

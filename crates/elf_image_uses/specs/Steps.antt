@@ -44,7 +44,7 @@ names_gone gone s = not (s.sh_type == SHT_NULL) && (is_one_of gone s.sh_link || 
 abbrev pub goes_with : Bool → List ℕ → ℕ → NamedSymbol → Bool
 goes_with table gone number y = table || not (number == 0) && is_one_of gone y.st_shndx
 
--- the numbers of those that do
+-- the numbers of the static symbols that go along
 abbrev pub numbers_with : Bool → List ℕ → Image → List ℕ
 numbers_with table gone image = map (λ x. x.0) (filter (λ x. goes_with table gone x.0 x.1) (zip image.symbol_numbers image.symbols))
 

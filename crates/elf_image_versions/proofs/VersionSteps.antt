@@ -29,7 +29,7 @@ unfolding marked
 marked-append [] ns marks = refl
 marked-append (m ∷ ms) ns marks = marked-append ms ns (set marks m true)
 
--- one more mark
+-- one mark more is set
 pub mark_goes : {X : Type 0} → (f : X → ℕ) (xs : List X) (i : ℕ) (x d : X) (marks whole : List Bool) → i < length xs → x ≡ get_or xs i d → marked (map f (drop i xs)) marks ≡ whole
     → marked (map f (drop (i + 1) xs)) (set marks (f x) true) ≡ whole
 unfolding marked
@@ -87,7 +87,7 @@ module _ {A : Type 0} (decode : List ℕ → A) (test : A → Bool) where
   pub all_start : (count : ℕ) (bytes : List ℕ) → list_all test (records decode 2 (count - 0) bytes) ≡ list_all test (records decode 2 count bytes)
   all_start count bytes = let e : count - 0 ≡ count = omega arith in ap (λ n. list_all test (records decode 2 n bytes)) e
 
-  -- one more passes
+  -- one record more passes
   pub all_go : (count i : ℕ) (rest : List ℕ) (whole : Bool) → i < count → test (decode (take 2 rest)) ≡ true → list_all test (records decode 2 (count - i) rest) ≡ whole
       → list_all test (records decode 2 (count - (i + 1)) (drop 2 rest)) ≡ whole
   unfolding records
@@ -109,7 +109,7 @@ module _ {A : Type 0} (decode : List ℕ → A) (test : A → Bool) where
       let k : count - i ≡ 0 = omega arith in
       sym (ap (λ m. list_all test (records decode 2 m rest)) k) ∙ so_far
 
-  -- past the end all pass where one does
+  -- past the end all records pass where one does
   all_past : (n : ℕ) → test (decode []) ≡ true → list_all test (records decode 2 n []) ≡ true
   unfolding records
   all_past zero passes = refl

@@ -87,7 +87,8 @@ fn may_use_dynamic_strings(kind: u32) -> bool
         || kind == SHT_GNU_VERNEED
 }
 
-// Whether only those sections have texts where a section has its own.
+// Whether only sections of types that may have texts in the dynamic strings have texts where a
+// section has its own.
 fn are_texts_own(sections: &[SectionHeader], user: SectionHeader) -> bool
     ensures { result ≡ list_all (leaves_texts_of user) sections.now }
 {

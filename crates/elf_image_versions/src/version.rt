@@ -7,7 +7,7 @@ use std::alloc::{AllocError, Global};
 /// A version that the file defines (GNU symbol versioning, `Elfxx_Verdef`).
 #[derive(Debug, Drop)]
 pub struct VersionDef<'data> {
-    /// The number by which symbols name it (`vd_ndx`).
+    /// The number by which symbols name the version (`vd_ndx`).
     pub index: u16,
     /// 1 for the file's own name, 2 for a version that no symbol has (`vd_flags`).
     pub flags: u16,
@@ -20,18 +20,18 @@ pub struct VersionDef<'data> {
 pub struct VersionNeed<'data> {
     /// The library's name.
     pub file: ByteString<'data>,
-    /// The versions that are needed of it, in order.
+    /// The versions that are needed of the library, in order.
     pub versions: Vec<VersionNeedName<'data>>,
 }
 
 /// One needed version (GNU symbol versioning, `Elfxx_Vernaux`).
 #[derive(Debug, Drop)]
 pub struct VersionNeedName<'data> {
-    /// The number by which symbols name it (`vna_other`).
+    /// The number by which symbols name the version (`vna_other`).
     pub index: u16,
     /// The version's name.
     pub name: ByteString<'data>,
-    /// 2 where the file can do without it (`vna_flags`).
+    /// 2 where the file can do without the version (`vna_flags`).
     pub flags: u16,
 }
 
@@ -40,7 +40,7 @@ pub struct VersionNeedName<'data> {
 pub struct Versions<'data> {
     /// The versions that the file defines.
     pub definitions: Vec<VersionDef<'data>>,
-    /// The versions that it needs, library by library.
+    /// The versions that the file needs, library by library.
     pub needs: Vec<VersionNeed<'data>>,
 }
 

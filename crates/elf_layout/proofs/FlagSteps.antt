@@ -53,7 +53,7 @@ cons_cond : (m n : ℕ) (ns : List ℕ) (b : Bool) → m ∷ cond b ns (ns ++ n 
 cons_cond m n ns true = refl
 cons_cond m n ns false = refl
 
--- one more number
+-- one number more
 each_once-push : (ns : List ℕ) (n : ℕ) → each_once (ns ++ n ∷ []) ≡ with_flag (each_once ns) (Some n)
 unfolding each_once
 each_once-push [] n = refl
@@ -84,7 +84,7 @@ push_found : (leave : Bool) (ns : List ℕ) (o : Option SizedSection)
 push_found leave ns None = ap each_once (append-nil ns)
 push_found leave ns (Some s) = each_once-push ns (flags_for leave s.kept.section)
 
--- one more position
+-- one position more
 pub flags_more : (r : Resized) (moved : List ℕ) (i : ℕ) → i < length moved
     → each_once (flags_of_all r (take (i + 1) moved))
     ≡ with_flag (each_once (flags_of_all r (take i moved)))

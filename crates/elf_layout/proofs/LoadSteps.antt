@@ -61,7 +61,7 @@ loads_behind r moved at sets = loads_from r.image.moves_dynamic (load_alignment 
 abbrev pub load_of : Resized → List ℕ → At → ℕ → AddedLoad
 load_of r moved at flags = load_here r moved (load_alignment r.read r.image) at.offset at.address flags
 
--- Some are placed, the sets of flags that are left give the others.
+-- Some segments are placed, and the sets of flags that are left give the others.
 pub record ArePlacedLoads (r : Resized) (moved : List ℕ) (old : List (Option At)) (at : At) (made : List SegmentHeader)
     (kept : List (Option At)) (rest : List ℕ) : Type 0 where
   pub before : List AddedLoad
@@ -140,7 +140,7 @@ loads_more r moved old at made kept flags rest p next made_next more placed is i
       fits = fits;
     }
 
--- none is left
+-- no set of flags is left
 pub loads_all : (r : Resized) (moved : List ℕ) (old : List (Option At)) (at : At) (made : List SegmentHeader) (kept : List (Option At))
     (placed : ArePlacedLoads r moved old at made kept []) → placed.before ≡ added_loads r moved
 unfolding loads_from

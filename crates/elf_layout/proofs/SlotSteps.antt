@@ -123,7 +123,7 @@ behind_grows at (x ∷ xs) =
     let more : (end_behind at x).offset ≤ (behind_slots (end_behind at x) xs).offset = behind_grows (end_behind at x) xs in
     omega arith
 
--- Those at some positions are placed: what is left gives what all of them give.
+-- The sections at some positions are placed: those that are left give what all of them give.
 pub record ArePlaced (r : Resized) (flags : ℕ) (start : At) (all : List ℕ) (old : List (Option At)) (at : At) (kept : List (Option At))
     (rest : List ℕ) : Type 0 where
   pub end : behind_slots at (with_flags r flags rest) ≡ behind_slots start (with_flags r flags all)
@@ -175,7 +175,7 @@ placed_far r flags start all old at kept p ps far placed past =
     ap (λ (x : At). x.offset) whole in
     omega arith
 
--- none is left
+-- no section is left
 pub placed_end : (r : Resized) (flags : ℕ) (start : At) (all : List ℕ) (old : List (Option At)) (at : At) (kept : List (Option At))
     → ArePlaced r flags start all old at kept [] → at ≡ behind_slots start (with_flags r flags all)
 unfolding behind_slots

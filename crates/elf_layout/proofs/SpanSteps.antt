@@ -21,7 +21,7 @@ use Rattle.elf_layout.proofs.ReachLaws.{joined_all-permutation}
 
 -- ## Section by section
 
--- one more place
+-- one place more
 abbrev pub span_with : Option Span → Place → Option Span
 span_with None t = Some (record { first = t; end = end_of (file_range t) })
 span_with (Some s) t = Some (record { first = if nat_lt t.sh_offset s.first.sh_offset then t else s.first; end = max s.end (end_of (file_range t)) })
@@ -76,7 +76,7 @@ module _ (all : List Place) (part : Range) where
   shown_from low high (Some r) None h is = absurd is
   shown_from low high (Some r) (Some s) h is = record { offset = is.offset; end = is.end; there = is.there; below = omega (arith, h, is.below) }
 
-  -- one more place
+  -- one place more
   shown_with : (low position : ℕ) (t : Place) (o : Option Reach) (s : Option Span) → slice_get all position ≡ Some t → low ≤ position → DoesShow low o s
       → DoesShow (position + 1) (joined o (Some (reach_of_place position t))) (span_with s t)
   shown_with low position t None None at h is = record { offset = refl; end = refl; there = at; below = omega arith }

@@ -126,7 +126,7 @@ are_numbered p (n ∷ ns) [] sizes = tt
 are_numbered p (n ∷ ns) (s ∷ ss) [] = tt
 are_numbered p (n ∷ ns) (s ∷ ss) (size ∷ sizes) = (refl, are_numbered (p + 1) ns ss sizes)
 
--- none of them stands before the first
+-- no section stands before the first one
 none_earlier : (p q end : ℕ) (ss : List SizedSection) → AreNumbered q ss → p < q
     → find (at_unloaded p) (unloaded_from end (filter is_unloaded ss)) ≡ None
 unfolding unloaded_from

@@ -53,7 +53,7 @@ halves n tree low high is some fits even also =
     sym (halved n tree is.two (high / 2 - low / 2) (low / 2) low high (n + low / 2) (n + high / 2)
     (omega (arith, even)) (omega (arith, some, even, also)) refl (omega (arith, some)) fits (omega (arith, some, fits, long, also)))
 
--- one more
+-- one joined entry more
 pub joins_more : (n k : ℕ) (tree : List (Option Reach)) (x : Option Reach) → JoinsTwo n tree → length tree ≡ n + k → k + 1 < n
     → x ≡ joined (get_or tree (2 * k) None) (get_or tree (2 * k + 1) None) → JoinsTwo n (tree ++ x ∷ [])
 joins_more n k tree x two long within is = record { joins = λ j h. by_place j (omega (arith, h, length-append tree (x ∷ []), long)) (cases_lt j k) }

@@ -68,7 +68,7 @@ chosen_step all marks moving span position = if is_chosen moving marks position 
 
 -- ## Notes that move
 
--- notes have places: none moves, or some place is that of one that does
+-- notes have places: none moves, or the first place is that of one that moves
 record HasPlaceOf (all : List Place) (moves : KeptSection → Bool) (ns : List KeptSection) : Type 0 where
   first : Place
   rest : List Place

@@ -37,7 +37,7 @@ aligned at s = next_multiple_of at.address (alignment_of s)
 abbrev pub slot_behind : At → SizedSection → At
 slot_behind at s = record { offset = at.offset + (aligned at s - at.address); address = aligned at s }
 
--- where it ends
+-- where a section ends that stands behind others
 abbrev pub end_behind : At → SizedSection → At
 end_behind at s = record { offset = at.offset + (aligned at s - at.address) + s.size; address = aligned at s + s.size }
 
@@ -61,7 +61,7 @@ pub record IsAdded (r : Resized) (moved : List ℕ) (added : Added) : Type 0 whe
 
 -- ## The sets of flags
 
--- one more, where it isn't there yet
+-- one set of flags more, where it isn't there yet
 abbrev pub with_flag : List ℕ → Option ℕ → List ℕ
 with_flag sets None = sets
 with_flag sets (Some flags) = if list_any (λ x. x == flags) sets then sets else sets ++ flags ∷ []

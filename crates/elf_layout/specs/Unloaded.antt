@@ -33,12 +33,12 @@ unfoldable pub unloaded_offsets : ℕ → List SizedSection → List (Option ℕ
 unloaded_offsets end [] = []
 unloaded_offsets end (s ∷ ss) = unloaded_offset end s ∷ unloaded_offsets (unloaded_next end s) ss
 
--- where the last of them ends
+-- where the last of the sections that aren't loaded ends
 unfoldable pub unloaded_end : ℕ → List SizedSection → ℕ
 unloaded_end end [] = end
 unloaded_end end (s ∷ ss) = unloaded_end (unloaded_next end s) ss
 
--- the last of them ends past 64 bits, or there isn't enough memory
+-- the last of the sections that aren't loaded ends past 64 bits, or there isn't enough memory
 abbrev pub IsUnloadedFault : ℕ → LayoutFault → Type 0
 IsUnloadedFault end faults.Overlap = ⊥
 IsUnloadedFault end faults.NumberTooLarge = 2 ^ 64 ≤ end
@@ -50,7 +50,7 @@ IsUnloadedFault end faults.Memory = Unit {0}
 abbrev pub has_all : Range → SegmentHeader → Bool
 has_all part p = is_loaded p && lies_in part (file_part p)
 
--- where it stands, once the segments end there
+-- where the program header table stands, once the segments end there
 abbrev pub table_behind : Resized → ℕ → ℕ
 table_behind r end = if is_some (table_load r) then r.image.header.e_phoff else next_table r end
 
@@ -108,7 +108,7 @@ pub record IsBehind (r : Resized) (slots : List (Option At)) (end headers : ℕ)
   pub e_phoff : b.e_phoff ≡ table_behind r end
   pub e_shoff : b.e_shoff ≡ next_table r (content_behind r end headers)
 
--- a number of it is past 64 bits
+-- a number of what stands behind the segments is past 64 bits
 abbrev pub IsBehindFault : Resized → List (Option At) → ℕ → ℕ → LayoutFault → Type 0
 IsBehindFault r slots end headers faults.Overlap = ⊥
 IsBehindFault r slots end headers faults.NumberTooLarge =

@@ -223,7 +223,7 @@ fn headings_of(
     }
 }
 
-// Puts them behind others.
+// Puts what becomes of a program header behind other headers.
 fn push_headings(made: &mut Vec<SegmentHeader>, headings: Headings) -> Result<(), AllocError>
     ensures { OnOk result (made.new.items ≡ made.old.items ++ headings_model headings) }
 {

@@ -114,7 +114,7 @@ fn count_before(begins: &[Begin], offset: u128) -> usize
     begins.partition_point(|b| u128::from(b.start) < offset)
 }
 
-// Where those come to stand that begin in a range.
+// Where the sections come to stand that begin in a range.
 pub(crate) fn reach_over(places: &[SectionPlace], reaches: &Reaches, part: Range) -> Option<Reach>
     requires { AreJoined (map place_model places.now) reaches.now }
     ensures { result

@@ -19,7 +19,7 @@ use elf_layout_segments::reading::{sections_have_sizes, segment_at};
 use elf_layout_segments::resizing::Resizing;
 use std::alloc::{AllocError, Global};
 
-// How many of those behind a header are loaded, where so many are that are left.
+// How many loaded segments are left behind a header, where so many are left before it.
 fn left_behind(p: SegmentHeader, left: usize) -> usize
     ensures { result ≡ left_at p left }
 {

@@ -46,7 +46,7 @@ module _ (r : Resized) (numbered : AreNumbered r.image) (sized : length r.sizes 
   pub block_passed : takes_memory s ≡ false → section_blocks_from r k ≡ section_blocks_from r (k + 1)
   block_passed isnt = rw (sized_next, isnt)
 
--- one more behind those that are made
+-- one block more behind those that are made
 pub pushed : (made base rest next all : List Block) (b x : Block) → b ≡ x → made ≡ base ++ b ∷ [] → rest ≡ x ∷ next → base ++ rest ≡ all → made ++ next ≡ all
 pushed made base rest next all b x same is begins before =
     rw (is, append_assoc, same) (ap (λ (l : List Block). base ++ l) (sym begins) ∙ before)

@@ -29,7 +29,7 @@ or_false : (b : Bool) → (b || false) ≡ b
 or_false true = refl
 or_false false = refl
 
--- the sections that move are those of the blocks that do
+-- the sections that move are those of the blocks that move
 chosen_is : (blocks : List Block) (moved : List ℕ) (q : ℕ) → are_moving blocks moved ≡ true → is_one_of moved q ≡ is_one_of (moving_sections blocks) q
 chosen_is blocks moved q chosen =
     let parts = and_parts (list_all (is_one_of (moving_sections blocks)) moved) (list_all (is_one_of moved) (moving_sections blocks)) chosen in

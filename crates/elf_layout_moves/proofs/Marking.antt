@@ -42,7 +42,7 @@ unmarked (p ∷ ps) = ap (λ l. false ∷ l) (unmarked ps)
 pub none_marked : (n : ℕ) → replicate n false ≡ marking [] n
 none_marked n = ap (λ k. replicate k false) (sym (length-counted n)) ∙ sym (unmarked (counted n))
 
--- one more position
+-- one position more
 one_more : (positions : List ℕ) (p i : ℕ) → is_one_of (positions ++ p ∷ []) i ≡ (is_one_of positions i || (p == i || false))
 one_more positions p i = list_any-append (λ x. x == i) positions (p ∷ [])
 

@@ -193,7 +193,7 @@ module _ (blocks sorted : List Block) (loaded : Bool) (told : loaded ≡ has_loa
       (IsPermutation-trans blocks (outs ++ others) (outs ++ sorted) (IsPermutation-filter_both (λ b. moves_as_displaced loaded b) (λ b. not (moves_as_displaced loaded b)) (λ b. refl) blocks)
       (IsPermutation-append_right outs others sorted same))
 
-  -- none of the others is kept out
+  -- no block of the others is displaced where there is a loaded segment
   none_displaced : loaded ≡ true → All (λ (b : Block). b.is_displaced ≡ false) others
   none_displaced is k d within =
       let passes : not (moves_as_displaced loaded (get_or others k d)) ≡ true = filter_passes (λ b. not (moves_as_displaced loaded b)) blocks k d within in
@@ -315,7 +315,7 @@ fixed_stuck blocks loaded told wholes some =
     out_stuck blocks (filter (λ b. not (moves_as_displaced loaded b)) blocks) loaded told wholes (IsPermutation-refl (filter (λ b. not (moves_as_displaced loaded b)) blocks)) k o
     (slice_get-get_or found k o within ∙ ap Some there) (eqb-true o.priority 0 stays)
 
--- none is one that can't
+-- no block is one that can't move
 pub can_all : (blocks : List Block) → list_any (λ b. b.priority == 0) blocks ≡ false → All (λ (b : Block). 0 < b.priority) blocks
 can_all blocks none k d within = elim (cases_eq (get_or blocks k d).priority 0) [
   | inl stays ↦ absurd (both_ways _ none (list_any_at (λ (b : Block). b.priority == 0) blocks k d within (eq-eqb (get_or blocks k d).priority 0 stays)))

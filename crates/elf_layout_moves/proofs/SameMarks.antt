@@ -11,11 +11,11 @@ abbrev one_more : Bool → Bool → Marked → Marked → Marked
 one_more later earlier over on = if later then (over.0, true ∷ over.1) else (earlier, on.0 ∷ on.1)
 
 module _ {A B : Type 0} (e l : A → A → Bool) (f m : B → B → Bool) where
-  -- two meet as two others do
+  -- two elements meet as two of another list do
   abbrev pub Meet : A → A → B → B → Type 0
   Meet a c b d = (e a c ≡ f b d) × (l a c ≡ m b d)
 
-  -- each two of a list meet as those two of another one do
+  -- each two elements of a list meet as those at their places in another one do
   abbrev pub AllMeet : List A → List B → Type 0
   AllMeet xs bs = (i j : ℕ) (a c : A) (b d : B) → i < j → slice_get xs i ≡ Some a → slice_get xs j ≡ Some c → slice_get bs i ≡ Some b → slice_get bs j ≡ Some d → Meet a c b d
 

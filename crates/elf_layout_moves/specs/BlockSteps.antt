@@ -42,7 +42,7 @@ IsStuckFault blocks faults.Memory = Unit {0}
 abbrev pub AreOrdered : List Block → Type 0
 AreOrdered blocks = (i j : ℕ) (x y : Block) → i < j → slice_get blocks i ≡ Some x → slice_get blocks j ≡ Some y → is_earlier x y ≡ true
 
--- none is displaced, or none is the start of a loaded segment
+-- no block is displaced, or none is the start of a loaded segment
 abbrev pub AreClear : List Block → Type 0
 AreClear blocks =
     ((k : ℕ) (x : Block) → slice_get blocks k ≡ Some x → x.is_displaced ≡ false)

@@ -27,7 +27,7 @@ abbrev pub is_swallowed : Resized → ℕ → ℕ → Block → Bool
 is_swallowed r fewer more b =
     is_some_and (λ start. nat_le (start + table_size_with r fewer) b.start && nat_lt b.start (start + table_size_with r more)) (table_start r)
 
--- the block of the section at a position does
+-- the longer table swallows the block of the section at a position
 abbrev pub does_swallow : Resized → ℕ → ℕ → ℕ → Bool
 does_swallow r fewer more position = list_any (λ b. is_block_of position b && is_swallowed r fewer more b) (other_blocks r)
 
@@ -48,7 +48,7 @@ LongerTablesMove = (r : Resized) (fewer more position : ℕ) → IsGrowth r fewe
 abbrev pub LongerTablesFit : Type 0
 LongerTablesFit = (r : Resized) (fewer more : ℕ) → IsGrowth r fewer more → is_stuck_with r more ≡ false
 
--- In the order in which they stood they may move with the longer table, where the others may with the shorter one.
+-- In the order in which they stood, the sections that a longer table moves may move with it, where the shorter one's may with that.
 abbrev pub LongerTablesMayMove : Type 0
 LongerTablesMayMove = (r : Resized) (fewer more : ℕ) (moved also : List ℕ) → IsGrowth r fewer more → IsTrue (do_move r fewer moved)
     → ((position : ℕ) → is_one_of also position ≡ (is_one_of moved position || does_swallow r fewer more position))

@@ -196,7 +196,7 @@ fn movers_of(alloc: Global, blocks: &[MemoryBlock]) -> Result<Vec<MemoryBlock>, 
     Ok(movers)
 }
 
-// The positions of the sections whose blocks they are.
+// The positions of the sections whose blocks these are.
 fn sections_of(alloc: Global, blocks: &[MemoryBlock]) -> Result<Vec<usize>, AllocError>
     ensures { IfOk result (λ found. found.items ≡ filter_map (λ b. b.section) blocks.now) }
 {

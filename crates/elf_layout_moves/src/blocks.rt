@@ -29,11 +29,11 @@ use std::marker::Model;
 pub struct MemoryBlock {
     /// The first address of the block.
     pub start: u128,
-    /// How many bytes it takes.
+    /// How many bytes the block takes.
     pub size: u128,
-    /// 0 where it can't move; the greater, the more readily it does.
+    /// How readily the block moves, the more the greater; 0 where it can't move.
     pub priority: u8,
-    /// The position of the section whose it is.
+    /// The position of the section whose block it is.
     pub section: Option<usize>,
     /// Whether what it is to hold can't stand where it stood: it was empty, or its loaded segment went.
     pub is_displaced: bool,
@@ -260,7 +260,7 @@ fn is_shown_by(p: &Segment<'_>, offset: u64, size: u64, address: u64) -> bool
             == u128::from(p.p_vaddr()) + u128::from(offset)
 }
 
-// Whether some loaded segment shows it.
+// Whether some loaded segment shows a range of the file at an address.
 fn is_shown(segments: &[Segment<'_>], offset: u64, size: u64, address: u64) -> bool
     ensures { result ≡ list_any (λ p. shows_at p (range offset size) address)
         (loads_of (map segment_model segments.now)) }

@@ -7,12 +7,13 @@ pub fn longer_tables_move()
     ensures { LongerTablesMove }
 {}
 
-/// Blocks that can't move are still apart.
+/// With a longer table, blocks that can't move are still apart.
 pub fn longer_tables_fit()
     ensures { LongerTablesFit }
 {}
 
-/// These sections are a list of sections that may move.
+/// The sections that a longer table moves, in the order in which they stood, are a list of sections
+/// that may move.
 pub fn longer_tables_may_move()
     ensures { LongerTablesMayMove }
 {}

@@ -9,7 +9,7 @@ pub struct Resizing<'a, 'data> {
     pub read: &'a Builder<'data>,
     /// The edited image.
     pub image: &'a Builder<'data>,
-    /// The new size of each of its sections, in bytes.
+    /// The new size of each of the edited image's sections, in bytes.
     pub sizes: &'a [u64],
 }
 

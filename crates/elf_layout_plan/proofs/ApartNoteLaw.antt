@@ -73,7 +73,7 @@ module _ (r : Resized) (facts : AreFacts r) (moved : List ℕ) where
     still : is_one_of moved k.position ≡ false → planned k ≡ stands_at (sized_of r k) k.section.sh_offset k.section.sh_addr
     still stays = stays_where_it_was r facts.sized moved (sized_of r k) is_placed note.loaded (ap (λ n. n == 0) size_same ∙ size_filled) stays
 
-    -- where it stays, a segment that showed it shows it
+    -- where a note stays, a segment that showed it shows it
     pub still_shown : (p : SegmentHeader) → shows_place p (place_at_read k.section) ≡ true → is_one_of moved k.position ≡ false → shows_place p (planned k) ≡ true
     still_shown p shown stays =
         let s = k.section in
@@ -92,7 +92,7 @@ module _ (r : Resized) (facts : AreFacts r) (moved : List ℕ) where
         let s = k.section in
         ap (λ b. if b then PF_R else PF_R + (if r.image.moves_dynamic || is_set SHF_WRITE s.sh_flags then PF_W else 0) + (if is_set SHF_EXECINSTR s.sh_flags then PF_X else 0)) (eq-eqb s.sh_type SHT_NOTE note.type)
 
-    -- where it moves, it stands at the distance of all notes that do
+    -- where a note moves, it stands at the distance of all notes that move
     pub moved_at : is_one_of moved k.position ≡ true → IsAt (distance_of r facts.sized moved PF_R).0 (distance_of r facts.sized moved PF_R).1 (planned k)
     moved_at moves =
         let (offset, address, all) = distance_of r facts.sized moved PF_R in
@@ -142,7 +142,7 @@ module _ (r : Resized) (facts : AreFacts r) (moved : List ℕ) where
       let some : s.sh_size ≡ 0 → ⊥ = eqb-false s.sh_size 0 (not-true (s.sh_size == 0) (and_parts (occupies_file (place_at_read s)) (not (s.sh_size == 0)) filled).1) in
       ne_eqb p.p_filesz 0 (λ none. some (omega (arith, begins, ends, none)))
 
-  -- one of the program headers that are written for it shows the note
+  -- one of the program headers that are written for a program header shows the note
   abbrev pub IsShownIn : SegmentHeader → KeptSection → Type 0
   IsShownIn p k = (j : ℕ) × (q : SegmentHeader) × (slice_get (written_from r moved p) j ≡ Some q) × (q.p_type ≡ p.p_type) × (shows_place q (planned k) ≡ true)
 

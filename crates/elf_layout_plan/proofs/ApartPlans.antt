@@ -86,7 +86,7 @@ module _ (r : Resized) (facts : AreFacts r) (looked : ℕ) (moved : List ℕ) (m
     position : slot.position ≡ t.kept.position
     stands : addresses t ≡ range slot.address slot.size
 
-  -- where it was
+  -- a section stands where it was
   record IsStill (t : SizedSection) : Type 0 where
     stays : is_one_of moved t.kept.position ≡ false
     low : IsLow r facts moved looked stay t

@@ -205,7 +205,7 @@ module _ (image read : Image) (edit : IsEditOf read image) (p : Parts) (rules : 
       places_apart (place_at_read k.section) (place_at_read l.section) (place_of from_k.header) (place_of from_l.header) from_k.place from_l.place
       (headers_apart k.number l.number from_k.header from_l.header numbers from_k.at_header from_l.at_header))
 
-  -- nor do two of those that were read
+  -- two sections that were read and stored share no byte
   read_apart : Pairs (λ k l. was_stored k ≡ true → was_stored l ≡ true → apart (bytes_of k) (bytes_of l) ≡ true) (kept_sections read)
   read_apart = pairs-from (λ k l. was_stored k ≡ true → was_stored l ≡ true → apart (bytes_of k) (bytes_of l) ≡ true) (kept_sections read) (λ i j k l less at_k at_l.
       let (header_k, at_header_k, is_k) = has.sections.each i k.section (kept-at 0 read.section_numbers read.sections i k at_k).2 in

@@ -79,7 +79,7 @@ module _ (r : Resized) (facts : AreFacts r) where
     unfolding blocks_with
     blocks_stay = stay_pairs moved (blocks_with r looked) stay
 
-    -- of a block in front of the sections' and a section that both stay neither overlaps the other
+    -- of a block that is no section's and a section's block that both stay neither overlaps the other
     pub block_clear : Each (λ b. Each (λ t. Neither (stay_over moved) b (section_block r t)) taking) (header_blocks r looked ++ flat_map edge_blocks (loads_of r.image.segments))
     block_clear =
         let front = header_blocks r looked ++ flat_map edge_blocks (loads_of r.image.segments) in
@@ -146,7 +146,7 @@ module _ (r : Resized) (facts : AreFacts r) where
               (and_from (takes_memory t.kept.section) (not (t.kept.section.sh_size == 0)) takes (ap (λ b. not b) e)) (ap (λ b. not b) none_lost)) in
               inr (omega (arith, ends, same_size))
 
-      -- where it had bytes, it ends by the end of the file part that held it
+      -- where a section had bytes, it ends by the end of the file part that held it
       low_stored : was_stored t.kept ≡ true → has_lost_load r.image t.kept.section ≡ false → 0 < t.kept.section.sh_size → IsLow t
       low_stored stored there some =
           let s = t.kept.section in
@@ -172,7 +172,7 @@ module _ (r : Resized) (facts : AreFacts r) where
             | inr e ↦ or-false out lost e
           ]
 
-      -- where it was empty, a loaded segment shows its new range
+      -- where a section was empty, a loaded segment shows its new range
       low_grown : is_displaced r t ≡ false → occupies_file (place_at_read t.kept.section) ≡ true → t.kept.section.sh_size ≡ 0 → not (t.size == 0) ≡ true → IsLow t
       low_grown not_displaced in_file empty some =
           let s = t.kept.section in

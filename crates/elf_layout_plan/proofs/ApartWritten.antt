@@ -278,7 +278,7 @@ length-plan r moved =
 
 -- ## A program header for notes
 
--- where none of its notes moves it stays as it is
+-- where none of the notes of a program header moves, it stays as it is
 pub notes_stay : (r : Resized) (moved : List ℕ) (p : SegmentHeader) (notes : List KeptSection) → anchor_of r.read r.image p ≡ Notes notes → list_any (is_moved moved) notes ≡ false → written_from r moved p ≡ p ∷ []
 unfolding targets_by written_by table_by
 notes_stay r moved p notes anchor none =

@@ -16,7 +16,7 @@ use Rattle.elf_layout_plan.specs.Rounds.{added_flags, each_once, flags_for, head
 
 -- ## Splits
 
--- where one test passes only what another does, no more pass it
+-- where one test passes only what another one passes, no more pass it
 filter-le : {A : Type 0} (p q : A → Bool) → ((x : A) → p x ≡ true → q x ≡ true) → (xs : List A) → length (filter p xs) ≤ length (filter q xs)
 filter-le p q more [] = omega arith
 filter-le {A} p q more (x ∷ xs) = by_test (p x) (q x) (more x) (filter p xs) (filter q xs) (filter-le p q more xs)
@@ -41,7 +41,7 @@ split_isnt_loaded r moved p h = by_type (p.p_type == PT_LOAD) _ h
 
 -- ## Sets of flags
 
--- one of the four sets: read, with write or execute or both
+-- one of the four sets of flags: read, with write or execute or both
 IsFlags : ℕ → Type 0
 IsFlags n = (n ≡ 4) ⊎ ((n ≡ 5) ⊎ ((n ≡ 6) ⊎ (n ≡ 7)))
 

@@ -42,7 +42,7 @@ smaller_first : (a b : Block) → a.start ≡ b.start → a.size < b.size → is
 smaller_first a b e less = same_start a b e
     (or_left (nat_lt a.size b.size) (a.size == b.size && nat_le (rank a) (rank b)) (lt-ltb a.size b.size less))
 
--- one of two is the earlier one
+-- one of two blocks is the earlier one
 one_earlier : (a b : Block) → (is_earlier a b ≡ true) ⊎ (is_earlier b a ≡ true)
 one_earlier a b = elim (cases_order a.start b.start) [
   | inr (inl less) ↦ inl (starts_first a b less)

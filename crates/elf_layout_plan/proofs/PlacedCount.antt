@@ -101,7 +101,7 @@ module _ (r : Resized) (moved : List ℕ) where
     length-if p (filter (is_split r moved) ps) (is_split r moved p),
   )
 
-  -- as many as the image has, and those that the sections that move need, or fewer
+  -- as many program headers are written as the image has, and as the sections that move need, or fewer
   pub length-written : length (written_segments r moved) ≤ header_count r moved
   unfolding written_segments headers_needed
   length-written =

@@ -200,7 +200,7 @@ find-at {A} test (y ∷ ys) x h = elim (find-step test y (find test ys) x (test 
   | inr later ↦ let more = find-at test ys x later in (has_there x y ys more.0, more.1)
 ]
 
--- where one passes, one is found
+-- where an element passes, one is found
 find-none-step : {A : Type 0} (y : A) (found : Option A) (b : Bool) → cond b (Some y) found ≡ None → (b ≡ false) × (found ≡ None)
 find-none-step y found true h = absurd (none-some y (sym h))
 find-none-step y found false h = (refl, h)

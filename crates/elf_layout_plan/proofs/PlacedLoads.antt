@@ -145,7 +145,7 @@ module _ (table end : ℕ) where
 
 -- ## Program headers for the table
 
--- there is none that wasn't read
+-- there is no program header of a type that wasn't read
 kept_type : (type : ℕ) (size : Option ℕ) (olds ps : List SegmentHeader) → AreKept size olds ps → list_any (λ p. p.p_type == type) ps ≡ true
     → list_any (λ p. p.p_type == type) olds ≡ true
 kept_type type size [] [] h any = any

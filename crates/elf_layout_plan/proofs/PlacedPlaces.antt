@@ -81,7 +81,7 @@ module _ (r : Resized) (moved : List ℕ) where
     pub unloaded : is_unloaded s ≡ true
     pub place : place_in r moved s ≡ stands_at s slot.offset s.kept.section.sh_addr
 
-  -- where it was
+  -- a section stands where it was
   pub record StandsOn (s : SizedSection) : Type 0 where
     pub stays : is_one_of moved s.kept.position ≡ false
     pub not_unloaded : is_unloaded s ≡ false

@@ -182,7 +182,7 @@ module _ (r : Resized) (moved : List ℕ) (looked : ℕ) (reads : ReadsPlaced r)
 
   -- ## The program header table
 
-  -- where it is in memory, with room for all that it was looked with
+  -- the program header table where it is in memory, with room for all that it was looked with
   table_block : SegmentHeader → Block
   table_block q = fixed_block (q.p_vaddr + r.read.header.e_phoff - q.p_offset) (table_size_with r looked)
 

@@ -208,7 +208,7 @@ module _ (r : Resized) (moved : List ℕ) where
       (false_from_ne_true (list_any is_loaded base) (λ any. both_ways (list_any is_loaded r.image.segments) none
       (any_loaded base r.image.segments same any)))
 
-  -- one of a type that isn't loaded is made of one of the image
+  -- a program header of a type that isn't loaded is made of one of the image
   pub type_was : (type : ℕ) → (PT_LOAD == type) ≡ false → list_any (λ p. p.p_type == type) (written_segments r moved) ≡ true
       → list_any (λ p. p.p_type == type) r.image.segments ≡ true
   unfolding written_segments

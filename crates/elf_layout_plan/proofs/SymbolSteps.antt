@@ -8,7 +8,7 @@ use Rattle.elf_format.specs.Options.{is_some_and}
 use Rattle.elf_format.specs.Views.{NamedSymbol}
 use Rattle.elf_layout_plan.specs.Needs.{is_version_used}
 
--- one more of the first ends with what stands behind them
+-- one element more of the first ones, with what stands behind them
 front_at : {A : Type 0} → (xs : List A) (i : ℕ) (x : A) → slice_get xs i ≡ Some x → take (i + 1) xs ≡ take i xs ++ x ∷ []
 front_at {A} xs i x at =
     take_more xs i x (slice_get_within xs i x at) ∙ ap (λ (y : A). take i xs ++ y ∷ []) (get_or_from_slice_get xs i x x at)

@@ -16,7 +16,7 @@ unloaded_parts s unloaded =
     let both = and_parts there (not takes) (and_parts (there && not takes) (not (is_reserved s)) unloaded).0 in
     (both.0, not-true takes both.1)
 
--- one of the file with bytes that takes no memory is placed there
+-- a section of the file with bytes that takes no memory is placed among the unloaded ones
 pub filled_unloaded : (s : SizedSection) → occupies_file (place_at_read s.kept.section) ≡ true
     → occupies_memory (place_at_read s.kept.section) ≡ false → (s.size == 0) ≡ false → is_unloaded s ≡ true
 filled_unloaded s there bare some = by_tests (occupies_file (place_at_read s.kept.section)) (occupies_memory (place_at_read s.kept.section))
@@ -29,7 +29,7 @@ filled_unloaded s there bare some = by_tests (occupies_file (place_at_read s.kep
     by_tests true true c d h e f = absurd (both_ways true e refl)
     by_tests false b c d h e f = absurd (both_ways false refl h)
 
--- one of the file with bytes that isn't placed there is loaded
+-- a section of the file with bytes that isn't placed among the unloaded ones is loaded
 pub not_unloaded_loaded : (s : SizedSection) → is_unloaded s ≡ false → occupies_file (place_at_read s.kept.section) ≡ true → (s.size == 0) ≡ false
     → occupies_memory (place_at_read s.kept.section) ≡ true
 not_unloaded_loaded s not_unloaded_is there some = by_tests (occupies_file (place_at_read s.kept.section))

@@ -8,9 +8,9 @@ use Rattle.elf_layout_plan.specs.Marks.{marked_of, marks}
 pub record Block : Type 0 where
   pub start : ℕ
   pub size : ℕ
-  -- 0 where it can't move; the greater, the more readily it does
+  -- how readily the block moves, the more the greater; 0 where it can't move
   pub priority : ℕ
-  -- the position of the section whose it is
+  -- the position of the section whose block it is
   pub section : Option ℕ
   -- what the block is to hold can't stand where it stood: it was empty, or lost the loaded segment that it stood in
   pub is_displaced : Bool

@@ -14,7 +14,7 @@ use Rattle.elf_format.specs.Views.{NamedSymbol}
 abbrev pub is_version_used : List NamedSymbol → ℕ → Bool
 is_version_used symbols index = list_any (λ y. is_some_and (λ v. v.index == index) y.version) symbols
 
--- a symbol had it at read, and none has it now
+-- a symbol had the version at read, and none has it now
 abbrev pub is_version_dropped : Image → Image → ℕ → Bool
 is_version_dropped read image index = is_version_used read.dynamic_symbols index && not (is_version_used image.dynamic_symbols index)
 
@@ -36,7 +36,7 @@ do_needs_stay read image n = is_empty n.versions || not (is_empty (staying_names
 abbrev pub with_staying_names : Image → Image → VersionNeeds → VersionNeeds
 with_staying_names read image n = record n { versions = staying_names read image n.versions }
 
--- the records that stay, with the versions of each that do
+-- the records that stay, each with its versions that stay
 abbrev pub staying_needs : Image → Image → List VersionNeeds
 staying_needs read image = map (with_staying_names read image) (filter (do_needs_stay read image) image.needs)
 

@@ -13,7 +13,7 @@ use Rattle.elf_layout_plan.specs.Sizes.{do_sizes_fit, new_sizes}
 abbrev pub sizes_of_image : Image → List ℕ
 sizes_of_image image = new_sizes (image_at_read image) image
 
--- all of them fit, and so do the offsets of texts
+-- the sizes of all sections of an image fit, and so do the offsets of texts
 abbrev pub do_sizes_of_image_fit : Image → Bool
 do_sizes_of_image_fit image = do_sizes_fit (image_at_read image) image
 

@@ -10,8 +10,8 @@ use Rattle.elf_layout_plan.specs.Plan.{IsPlan, Plan}
 use Rattle.elf_layout_plan.specs.RowParts.{after_edit, image_of_parts, names_section, no_place, null_section, place, section, segment}
 use Rattle.elf_layout_plan.specs.SmallRows.{small_entries}
 
--- It needs libc.so.6 and has the run path /a. Its dynamic list at 304 ends where its loaded segment does, and a program header of the
--- type is just over the list, in memory up to the page's end.
+-- The library needs libc.so.6 and has the run path /a. Its dynamic list at 304 ends where its loaded segment does, and a program
+-- header of the type is just over the list, in memory up to the page's end.
 
 abbrev pub relro_load : SegmentHeader
 relro_load = segment 1 6 0 0 384 4096
@@ -59,7 +59,7 @@ renamed_plan = record {
 pub record RelroRows : Type 0 where
   -- a PT_GNU_RELRO keeps its range
   pub relro_stays : IsPlan (relro_named PT_GNU_RELRO) (relro_plan (header_over_list PT_GNU_RELRO))
-  -- one of another type goes with the list
+  -- a program header of another type goes with the list
   pub other_goes : IsPlan (relro_named PT_TLS) (relro_plan (record (segment PT_TLS 4 384 4480 96 1) { p_memsz = 3792 }))
   -- strings that move stand before the list, in the segment that may be written
   pub strings_go_along : IsPlan relro_renamed renamed_plan

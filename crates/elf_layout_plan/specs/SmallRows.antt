@@ -150,7 +150,7 @@ pub record SectionRows : Type 0 where
   pub reserved_stays : IsPlan (small_damaged_again 0) (record (small_plan 14) {
     places = place 1 0 0 0 0 ∷ place 3 2 176 176 14 ∷ place 6 3 240 240 80 ∷ place 3 0 0 320 28 ∷ [];
   })
-  -- with bytes it is placed behind the segments, as any that isn't loaded
+  -- with bytes the reserved section is placed behind the segments, as any that isn't loaded
   pub reserved_with_bytes : IsPlan (small_damaged_again 5) (record (small_plan 14) {
     places = place 1 0 0 4096 5 ∷ place 3 2 176 176 14 ∷ place 6 3 240 240 80 ∷ place 3 0 0 4101 28 ∷ [];
     e_shoff = 4136;

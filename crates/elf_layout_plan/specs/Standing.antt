@@ -61,7 +61,7 @@ unloaded_slots r moved = unloaded_from (unloaded_start r moved) (filter is_unloa
 
 -- ## The section header table
 
--- the end of all that stands before it
+-- the end of all that stands before the section header table
 unfoldable pub content_end : Resized → List ℕ → ℕ
 content_end r moved = greatest (unloaded_start r moved) (map (λ s. s.offset + s.size) (unloaded_slots r moved))
 

@@ -32,7 +32,7 @@ is_unmarked marks n = is_empty n.versions || not (is_empty (unmarked_names marks
 abbrev pub with_unmarked_names : List Bool → VersionNeeds → VersionNeeds
 with_unmarked_names marks n = record n { versions = unmarked_names marks n.versions }
 
--- the records that stay, with the versions of each that do
+-- the records that stay, each with its versions that stay
 abbrev pub unmarked_needs : List Bool → List VersionNeeds → List VersionNeeds
 unmarked_needs marks needs = map (with_unmarked_names marks) (filter (is_unmarked marks) needs)
 

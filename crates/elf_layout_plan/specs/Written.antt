@@ -74,7 +74,7 @@ target_over s ts =
     let end = greatest (end_of (file_range s)) (map (λ t. end_of (file_range t)) ts) in
     record { part = range first.sh_offset (end - first.sh_offset); address = address_in_memory first }
 
--- none where there is no place
+-- several places give one target, and no place gives none
 abbrev pub targets_over : List Place → List Target
 targets_over [] = []
 targets_over (s ∷ ss) = target_over s ss ∷ []

@@ -9,11 +9,11 @@ pub struct SectionPlace {
     pub sh_type: u32,
     /// `SHF_ALLOC` for a section that takes memory, and other flags.
     pub sh_flags: u64,
-    /// Where it stands in memory.
+    /// Where the section stands in memory.
     pub sh_addr: u64,
-    /// Where it stands in the file.
+    /// Where the section stands in the file.
     pub sh_offset: u64,
-    /// How many bytes it has.
+    /// How many bytes the section has.
     pub sh_size: u64,
 }
 

@@ -21,7 +21,7 @@ impl<L: Ledger> Model for Steps<L> {
 }
 
 impl<L: Ledger> Steps<L> {
-    /// None so far, on a ledger that nothing else counts on.
+    /// No steps so far, on a ledger that nothing else counts on.
     pub fn new(blank: Blank) -> Self
         requires name { blank.name ≡ L.name }
         requires parts { blank.parts ≡ L.parts }
@@ -32,7 +32,7 @@ impl<L: Ledger> Steps<L> {
         Steps { book, share }
     }
 
-    // One more.
+    // One step more.
     pub(crate) fn tick(&mut self)
         ensures { self.new ≡ self.old + 1 }
     {

@@ -73,7 +73,7 @@ unfoldable pub advice_text : Image → StuckPair → Advice → Words
 advice_text image pair advice =
     block_text image pair.earlier ++ (codes " has " ++ (advice_words advice ++ (codes ", " ++ (block_text image pair.later ++ codes " stands behind it"))))
 
--- that the two never move and overlap
+-- that two blocks never move and overlap
 unfoldable pub overlap_text : Image → StuckPair → Words
 overlap_text image pair =
     block_text image pair.earlier ++ (codes " and " ++ (block_text image pair.later ++ codes " never move and overlap"))
@@ -82,6 +82,6 @@ abbrev pub advice_part : Option Words → Words
 advice_part None = []
 advice_part (Some text) = codes "; " ++ text
 
--- both, where something may be done
+-- that two blocks never move and overlap, and what may be done, where something is known
 abbrev pub pair_text : Image → StuckPair → Words
 pair_text image pair = overlap_text image pair ++ advice_part (option_map (advice_text image pair) (advice_for image pair.earlier))

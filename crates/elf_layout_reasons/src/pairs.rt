@@ -34,7 +34,7 @@ fn overlaps(earlier: MemoryBlock, later: MemoryBlock) -> bool
     is_earlier(earlier, later) && (is_over_start(earlier, later) || is_kept_out(earlier, later))
 }
 
-// Whether they overlap and neither can move, the first being the earlier one.
+// Whether two blocks overlap and neither can move, the first being the earlier one.
 fn is_stuck_pair(earlier: MemoryBlock, later: MemoryBlock) -> bool
     ensures { result ≡ stuck earlier later }
 {

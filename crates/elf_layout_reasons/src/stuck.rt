@@ -23,9 +23,9 @@ pub const MOST_BLOCKS: usize = 2000;
 /// Two blocks of memory that overlap and never move.
 #[derive(Clone, Copy)]
 pub struct StuckPair {
-    /// With how many program headers more the round looked that found them.
+    /// With how many program headers more the round looked that found the two blocks.
     pub looked: usize,
-    /// The one that starts first.
+    /// The block that starts first.
     pub earlier: MemoryBlock,
     /// The block that starts later.
     pub later: MemoryBlock,

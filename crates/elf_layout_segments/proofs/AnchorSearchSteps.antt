@@ -77,7 +77,7 @@ either_at : (a b : Option KeptSection)
 either_at None b = refl
 either_at (Some s) b = refl
 
--- where it stands
+-- where the section under a program header stands
 under : (r : Resized) (p : SegmentHeader) → under_at p (indexed_sections r.image) ≡ option_map (λ (s : SectionAt). s.position) (option_map section_at (section_under r.image p))
 under r p =
     let xs : List KeptSection = kept_sections r.image in

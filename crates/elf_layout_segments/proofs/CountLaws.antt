@@ -18,7 +18,7 @@ module _ {X : Type 0} (p : X → Bool) where
   pub count-permutation : (xs ys : List X) → IsPermutation xs ys → count_by p ys ≡ count_by p xs
   count-permutation xs ys same = sum_by-IsPermutation (λ y. cond (p y) 1 0) xs ys same
 
-  -- some pass where at least one does
+  -- some elements pass where at least one does
   pub some_counted : (n : ℕ) (xs : List X) → nat_lt n (n + count_by p xs) ≡ list_any p xs
   some_counted n [] = le-ltb n (n + 0) (omega arith)
   some_counted n (x ∷ xs) = ap (λ k. nat_lt n (n + k)) (count-cons x xs) ∙ by_test (p x) (some_counted n xs)
@@ -27,7 +27,7 @@ module _ {X : Type 0} (p : X → Bool) where
       by_test true rest = lt-ltb n (n + (1 + count_by p xs)) (omega arith)
       by_test false rest = ap (λ k. nat_lt n (n + k)) (let e : 0 + count_by p xs ≡ count_by p xs = omega arith in e) ∙ rest
 
-  -- none passes where the count is 0
+  -- no element passes where the count is 0
   pub none_counted : (n : ℕ) (xs : List X) → (n + count_by p xs == n) ≡ list_all (λ x. not (p x)) xs
   none_counted n [] = eq-eqb (n + 0) n (omega arith)
   none_counted n (x ∷ xs) = ap (λ k. n + k == n) (count-cons x xs) ∙ by_test (p x) (none_counted n xs)
@@ -49,7 +49,7 @@ module _ {X : Type 0} (p : X → Bool) where
       let rest : count_by p xs ≡ i = counted_at xs i (λ k d l g. pass (suc k) d (omega arith) (omega (arith, g))) (λ k d l g. fail (suc k) d (omega (arith, l)) (omega (arith, g))) (omega (arith, h)) in
       count-cons x xs ∙ ap (λ b. cond b 1 0 + count_by p xs) first ∙ omega (arith, rest)
 
--- of those that pass a test some pass a narrower one, and the others don't
+-- of the elements that pass a test some pass a narrower one, and the others don't
 pub count-parted : {X : Type 0} → (p q : X → Bool) → ((x : X) → q x ≡ true → p x ≡ true) → (xs : List X)
     → count_by p xs ≡ count_by q xs + count_by (λ x. p x && not (q x)) xs
 count-parted p q narrower [] = omega arith

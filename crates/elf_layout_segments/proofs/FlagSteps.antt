@@ -103,7 +103,7 @@ flags_are leave s = by_tests (s.sh_type == SHT_NOTE) (leave || is_set SHF_WRITE 
     by_tests false false true = (omega arith, omega arith)
     by_tests false false false = (omega arith, omega arith)
 
--- as many numbers as there are of each of the four
+-- as many numbers as there are of each of the four sets of flags
 four : (ns : List ℕ) → Each IsFlags ns → length ns ≡ count_of 4 ns + count_of 5 ns + count_of 6 ns + count_of 7 ns
 unfolding IsFlags
 four [] all = omega arith

@@ -26,7 +26,7 @@ min_le a b end = elim (cases_lt end a) [
 
 -- ## Numbers side by side
 
--- some first numbers and those behind them
+-- some first numbers and the ones behind them
 split_at : (numbers : List ℕ) (place a b : ℕ) → numbers_at numbers place (a + b) ≡ numbers_at numbers place a ++ numbers_at numbers (place + a) b
 split_at numbers place a b = take-add a b (drop place numbers) ∙ ap (λ (l : List ℕ). numbers_at numbers place a ++ take b l) (drop-drop a place numbers)
 
@@ -185,7 +185,7 @@ answer_put numbers asked width place answers s least here is are = record {
       ];
 }
 
--- none is answered but for empty stretches
+-- no stretch is answered but the empty ones
 pub empty_answered : (numbers : List ℕ) (asked : List Stretch) (answers : List ℕ) → answers ≡ replicate (length asked) NEVER → AreLeastBelow numbers asked 1 answers
 empty_answered numbers asked answers are = record {
   many = ap length are ∙ length-replicate (length asked) NEVER;

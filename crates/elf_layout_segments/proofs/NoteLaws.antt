@@ -48,7 +48,7 @@ not-any p (x ∷ xs) = by_test (p x) (not-any p xs)
 
 -- ## One section
 
--- It begins before a range (x), before the range's end (y), it ends by the range's start (u), by its end (v); n, it is a note.
+-- A section begins before a range (x), before the range's end (y), it ends by the range's start (u), by its end (v); n, it is a note.
 bool_law : (n x y u v : Bool) → (u ≡ true → x ≡ true) → (u ≡ true → v ≡ true) → (x ≡ true → y ≡ true) → (v ≡ true → y ≡ true)
     → (not (x && not u) && not (y && not v) && not (not n && (not x && y))) ≡ (not (not (false || false || u || not y)) || n && (not x && v))
 bool_law true true true true true ux uv xy vy = refl

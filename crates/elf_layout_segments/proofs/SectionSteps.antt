@@ -15,7 +15,7 @@ use Rattle.elf_image.proofs.ForCallers.KeptSections.{kept-at, length-kept}
 pub length-seen : (image : Image) → length image.section_numbers ≡ length image.sections → length (indexed_sections image) ≡ length image.sections
 length-seen image long = length-map (kept_sections image) section_at ∙ length-kept image long
 
--- one more of them
+-- one section more
 pub seen-more : (image : Image) (made : List SectionAt) (i : ℕ) (x : ImageSection) → length image.section_numbers ≡ length image.sections → i < length image.sections
     → get_or image.sections i x ≡ x → made ≡ take i (indexed_sections image)
     → made ++ section_at (record { position = i; number = slice_index image.section_numbers i; section = x }) ∷ [] ≡ take (i + 1) (indexed_sections image)

@@ -5,7 +5,7 @@ use Rattle.elf_format.specs.declared.range.Range.{Range}
 use Rattle.elf_layout_segments.specs.declared.rising.Rising.{Rising}
 use Rattle.elf_layout_segments.specs.InOrder.{is_in}
 
--- how many of them are below a number
+-- how many of the numbers are below another one
 abbrev pub below : Rising → ℕ → ℕ
 below numbers n = count_by (λ x. nat_lt x n) numbers.numbers.items
 

@@ -14,7 +14,7 @@ starts_at sections = map (λ (s : SectionAt). s.sh_offset) (filter has_bytes_at 
 abbrev pub ends_at : List SectionAt → List ℕ
 ends_at sections = map (λ (s : SectionAt). end_of (file_range (place_at s))) (filter has_bytes_at sections)
 
--- where those begin that are no loaded notes
+-- where the sections with bytes begin that are no loaded notes
 abbrev pub other_starts_at : List SectionAt → List ℕ
 other_starts_at sections = map (λ (s : SectionAt). s.sh_offset) (filter (λ s. has_bytes_at s && not (is_loaded_note_at s)) sections)
 

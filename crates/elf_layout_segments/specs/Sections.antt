@@ -58,11 +58,11 @@ is_note_at p s = is_loaded_note_at s && lies_in (file_range (place_at s)) (file_
 abbrev pub begins_in : Range → SectionAt → Bool
 begins_in part s = has_bytes_at s && is_in part s.sh_offset
 
--- where they stand
+-- where the sections stand
 abbrev pub positions_at : List SectionAt → List ℕ
 positions_at sections = map (λ (s : SectionAt). s.position) sections
 
--- where those stand that begin in a range
+-- where the sections stand that begin in a range
 abbrev pub positions_in : List SectionAt → Range → List ℕ
 positions_in sections part = positions_at (filter (begins_in part) sections)
 

@@ -90,7 +90,7 @@ keeps_at r marks starts headers p (notes part) = not (is_some_in starts.moving p
 unfoldable pub end_with : Bool → ℕ → ℕ → ℕ → ℕ
 end_with keeps stop size end = if keeps && nat_le stop size then max end stop else end
 
--- where those of these program headers end that keep their ranges
+-- where the program headers end that keep their ranges
 unfoldable pub kept_end_over : Resized → List ℕ → List SegmentHeader → ℕ
 kept_end_over r moved segments =
     let ends = map (λ p. end_of (file_part p)) (filter (keeps_range r moved) segments) in

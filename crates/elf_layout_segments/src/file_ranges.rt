@@ -15,7 +15,7 @@ pub(crate) struct FileRanges {
     pub(crate) others: Rising,
 }
 
-// Where those with bytes begin.
+// Where the sections with bytes begin.
 fn starts_of(alloc: Global, sections: &[SectionAt]) -> Result<Vec<u128>, AllocError>
     ensures { IfOk result (λ made. made.items ≡ starts_at sections.now) }
 {
@@ -26,7 +26,7 @@ fn starts_of(alloc: Global, sections: &[SectionAt]) -> Result<Vec<u128>, AllocEr
         .collect(alloc)
 }
 
-// Where they end.
+// Where the sections with bytes end.
 fn ends_of(alloc: Global, sections: &[SectionAt]) -> Result<Vec<u128>, AllocError>
     ensures { IfOk result (λ made. made.items ≡ ends_at sections.now) }
 {
@@ -37,7 +37,7 @@ fn ends_of(alloc: Global, sections: &[SectionAt]) -> Result<Vec<u128>, AllocErro
         .collect(alloc)
 }
 
-// Where those begin that are no loaded notes.
+// Where the sections with bytes begin that are no loaded notes.
 fn other_starts_of(alloc: Global, sections: &[SectionAt]) -> Result<Vec<u128>, AllocError>
     ensures { IfOk result (λ made. made.items ≡ other_starts_at sections.now) }
 {

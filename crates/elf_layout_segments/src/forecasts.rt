@@ -36,7 +36,7 @@ struct Limited {
 /// How many program headers more are needed with tables that end at an address. Each list is of such ends.
 #[derive(Drop)]
 pub struct Forecast {
-    // The number of program headers more that it was made with.
+    // The number of program headers more that the forecast was made with.
     pub(crate) from: usize,
     // The forecast tells of greater numbers with which the table ends before this address.
     pub(crate) bound: u128,
@@ -44,7 +44,7 @@ pub struct Forecast {
     pub(crate) flags: Rising,
     // From where on program headers are split.
     pub(crate) splits: Rising,
-    // From where on they are so no longer.
+    // From where on program headers are split no longer.
     pub(crate) joins: Rising,
 }
 
@@ -113,7 +113,8 @@ fn mirrored_limits_of(alloc: Global, begins: &[Limited]) -> Result<Vec<u128>, Al
         .collect(alloc)
 }
 
-// From where on all of a stretch move: the greatest of their limits, but never before the first does.
+// From where on all sections of a stretch move: the greatest of their limits, but never before the
+// first one moves.
 fn all_move(alloc: Global, firsts: &[u128], mirrored: &[u128]) -> Result<Vec<u128>, AllocError>
     requires { length mirrored.now ≡ length firsts.now }
     ensures { IfOk result (λ made. AreJoins firsts.now mirrored.now made.items) }

@@ -24,7 +24,7 @@ impl Rising {
         Rising { numbers: sorted }
     }
 
-    /// How many of them are below another number.
+    /// How many of the numbers are below another one.
     pub fn count_below(&self, n: u128) -> usize
         ensures { result ≡ count_by (λ x. nat_lt x n) self.now.numbers.items }
     {

@@ -16,7 +16,7 @@ use std::alloc::Global;
 pub struct Rounds {
     /// The positions of the sections that move, in the order in which they stood in memory.
     pub moved: Vec<usize>,
-    /// How many rounds it took.
+    /// How many rounds there were.
     pub count: usize,
     /// How many program headers more the last round looked with.
     pub looked: usize,

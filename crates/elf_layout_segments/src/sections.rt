@@ -22,7 +22,7 @@ pub(crate) struct SectionAt {
 // What kind of section is looked for.
 #[derive(Clone, Copy)]
 pub(crate) enum Wanted {
-    // One of a type.
+    // A section of a type.
     OfType(u32),
     // The one with a number at read.
     Numbered(usize),
@@ -46,7 +46,7 @@ impl SectionAt {
         self.sh_type != SHT_NULL && self.sh_type != SHT_NOBITS && self.sh_size != 0
     }
 
-    // The bytes of the file that it names.
+    // The bytes of the file that the section names.
     pub(crate) fn file_range(self) -> Range
         ensures { result ≡ file_range (place_at self) }
     {

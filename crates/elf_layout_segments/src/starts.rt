@@ -47,7 +47,7 @@ pub struct Begin {
     pub position: usize,
 }
 
-// Where those sections with bytes begin that move, or those that stay.
+// Where the sections with bytes begin that move, or those that stay.
 fn chosen_begins(
     alloc: Global,
     sections: &[SectionAt],
@@ -66,7 +66,8 @@ fn chosen_begins(
         .collect(alloc)
 }
 
-/// Where those sections of an image begin that have bytes and move, or have bytes and stay, in the order of the sections.
+/// Where the sections of an image begin that have bytes and move, or have bytes and stay, in the
+/// order of the sections.
 pub fn begins_of(
     alloc: Global,
     r: &Resizing<'_, '_>,
@@ -80,7 +81,7 @@ pub fn begins_of(
     chosen_begins(alloc, &sections, marks, moving)
 }
 
-// Where those sections with bytes begin that move, or those that stay: the offsets alone.
+// Where the sections with bytes begin that move, or those that stay: the offsets alone.
 fn chosen_starts(
     alloc: Global,
     sections: &[SectionAt],

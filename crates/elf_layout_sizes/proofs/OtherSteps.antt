@@ -16,7 +16,7 @@ use Rattle.elf_layout_sizes.specs.Inner.{Edit, is_linked}
 use Rattle.elf_layout_sizes.specs.OtherTexts.{HasDynamicNamesOf, HasNamesOf, HasOtherDynamicNames, HasStaticNamesOf, HaveSameCounts, count_of, others_in_use, with_names}
 use Rattle.elf_layout_sizes.proofs.TextSteps.{text_found, text_passed, too_few}
 
--- more texts now, whatever names stand among both
+-- there are more texts now, whatever names stand among them
 pub copied_more : (now read : Others) (ys zs : List (List ℕ)) → count_of read < count_of now → false ≡ is_subsequence (with_names now ys zs) (with_names read ys zs)
 copied_more now read ys zs more = sym (too_few (with_names now ys zs) (with_names read ys zs) (omega (arith, more, long now, long read)))
   where

@@ -12,7 +12,7 @@ unfolding is_subsequence
 none_left [] none = refl
 none_left (t ∷ ts) none = absurd (omega arith)
 
--- some are left
+-- some texts are left, which no texts can give
 pub some_left : (ts : List (List ℕ)) → 0 < length ts → is_subsequence ts [] ≡ false
 unfolding is_subsequence
 some_left [] some = absurd (omega arith)

@@ -24,7 +24,7 @@ with_names o ys zs = o.list ++ (ys ++ (o.versions ++ (zs ++ o.sections)))
 abbrev pub count_of : Others → ℕ
 count_of o = length o.list + length o.versions + length o.sections
 
--- there are as many of each kind
+-- there are as many texts of each kind
 pub record HaveSameCounts (now read : Others) : Type 0 where
   pub list : length now.list ≡ length read.list
   pub versions : length now.versions ≡ length read.versions

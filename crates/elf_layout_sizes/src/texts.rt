@@ -40,7 +40,7 @@ impl<'t> Texts<'t> {
         }
     }
 
-    // How many there are. Takes no memory.
+    // How many texts there are. Takes no memory.
     pub(crate) fn len(&self) -> usize
         ensures { result ≡ length self.now }
     {

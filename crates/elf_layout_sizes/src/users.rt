@@ -213,7 +213,7 @@ impl<'a, 'data> Users<'a, 'data> {
         texts.push_sections(self.image.sections())
     }
 
-    // Adds the texts of all of them.
+    // Adds the texts of all users.
     fn push_all(&self, texts: &mut Texts<'a>, number: usize) -> Result<(), AllocError>
         ensures { OnOk result (texts.new
             ≡ texts.old ++ texts_in_use self.now.read self.now.image number) }

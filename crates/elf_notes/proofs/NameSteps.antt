@@ -22,7 +22,7 @@ or_none : (b : Bool) → (b || false) ≡ b
 or_none true = refl
 or_none false = refl
 
--- one more name
+-- one name more
 among_more : (names : List Name) (other name : Name) → is_among (names ++ other ∷ []) name ≡ (is_among names name || bytes_eq name other)
 among_more names other name =
     list_any-append (λ y. bytes_eq name y) names (other ∷ []) ∙ ap (λ b. is_among names name || b) (or_none (bytes_eq name other))
@@ -123,7 +123,7 @@ none_dropped (x ∷ names) edited none = let e : length (x ∷ names) ≡ 0 = eq
 
 -- ## Answers
 
--- there is none, whatever is made of it
+-- there is no answer, whatever is made of it
 pub none_made : {A B : Type 0} (f : A → B) (o : Option A) (answer : Bool) → is_some o ≡ not answer → answer ≡ is_none (option_map f o)
 none_made f None true is = refl
 none_made f None false is = is

@@ -87,7 +87,7 @@ none_left ys i all left name first none is =
     stay_out left all (is_among (names_behind_first (take i ys)) name) (is_among (map name_of_symbol (drop i ys)) name) none is
     ∙ ap (λ b. all && not b) (sym (more_names ys i first name))
 
--- none has a name
+-- no name is in an empty set
 pub none_has : (set : List (Bor Name)) (name : Name) → length set ≡ 0 → has_name set name ≡ false
 none_has [] name is = refl
 none_has (x ∷ set) name is = absurd (omega (arith, is))

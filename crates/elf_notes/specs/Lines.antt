@@ -74,7 +74,7 @@ finding_lines file found =
     ++ line_if found.renames_loader file renamed_loader_line
     ++ line_if found.lacks_list file no_list_line
 
--- what holds after them
+-- what holds after the edits
 abbrev pub left_lines : Words → ElfNotes → Words
 left_lines file notes =
     line_if notes.finds_more file more_finds_line ++ line_if notes.loses_addresses file lost_addresses_line

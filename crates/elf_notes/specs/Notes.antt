@@ -91,7 +91,7 @@ symbols_asked_by (RenameDynamicSymbols pairs) = map (λ pair. pair.0) pairs
 symbols_asked_by (ClearSymbolVersion name) = name ∷ []
 symbols_asked_by _ = []
 
--- the names that it may give them
+-- the names that an edit may give dynamic symbols
 abbrev pub symbols_put_by : Edit → List Name
 symbols_put_by (RenameDynamicSymbols pairs) = map (λ pair. pair.1) pairs
 symbols_put_by _ = []

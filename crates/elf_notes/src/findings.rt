@@ -200,7 +200,7 @@ fn give_other_name(entry: &Dynamic<'_>, edits: &[ElfEdit]) -> bool
     false
 }
 
-/// Whether an edit does.
+/// Whether an edit gives a file another name of its own than an entry has.
 fn gives_other_name(entry: &Dynamic<'_>, edit: &ElfEdit) -> bool
     ensures { result ≡ is_other_name_given (entry_model entry.now) (edit_model edit.now) }
 {

@@ -43,7 +43,7 @@ fn is_in_any(segments: &[Segment<'_>], start: u64, size: u128) -> bool
     false
 }
 
-/// Whether a segment is loaded and has it.
+/// Whether a segment is loaded and has the range.
 fn has_range(segment: &Segment<'_>, start: u64, size: u128) -> bool
     requires { size < 2 ^ 70 }
     ensures { result ≡ is_range_there (range start size) (segment_model segment.now) }
@@ -66,7 +66,7 @@ fn does_any_share(segments: &[Segment<'_>], offset: u64) -> bool
     false
 }
 
-/// Whether a segment is loaded, and they do.
+/// Whether a segment is loaded, and its bytes begin in the page that has an offset of the file.
 fn shares_page(segment: &Segment<'_>, offset: u64) -> bool
     ensures { result ≡ is_page_shared offset (segment_model segment.now) }
 {

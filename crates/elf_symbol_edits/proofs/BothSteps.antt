@@ -46,7 +46,7 @@ module _ (pairs : List (List ℕ × List ℕ)) (image : Image) where
   abbrev is_dynamic : Bool
   is_dynamic = list_any (λ y. has_new_name pairs y.name) (drop 1 image.dynamic_symbols)
 
-  -- where one is to have another name and no name has to stay, all can change
+  -- where a dynamic symbol is to have another name and no name has to stay, all can change
   can_follow : list_any (has_new_name pairs) (fixed_names image) ≡ false → is_dynamic ≡ true → can_renumber image ≡ true
   can_follow free found = by_test (can_renumber image) refl
     where

@@ -78,7 +78,7 @@ module _ {A : Type 0} (test : A → Bool) where
   seconds (n ∷ ns) [] long = absurd (omega (arith, long))
   seconds (n ∷ ns) (x ∷ xs) long = ap (λ l. x ∷ l) (seconds ns xs (omega (arith, long)))
 
-  -- none of them has number 0
+  -- none of the elements has number 0
   others : (low : ℕ) (zs : List (ℕ × A)) → Rises low zs → 0 < low → map (λ z. z.1) (filter (λ z. not (passes z)) zs) ≡ filter (λ x. not (test x)) (map (λ z. z.1) zs)
   unfolding Rises
   others low [] rises some = refl
@@ -112,7 +112,7 @@ module _ {A : Type 0} (test : A → Bool) where
       ∙ kept 0 (zip ns xs) (numbers_passing test ns xs) (rises_from 0 ns xs rising (λ some. omega arith)) (λ n le. refl)
       ∙ behind_all ns xs long rising first
 
--- where none goes all are left
+-- where no number goes all elements are left
 pub none_left_out : {A : Type 0} (ns : List ℕ) (xs : List A) → length ns ≡ length xs → parts_left [] ns xs ≡ xs
 none_left_out [] [] long = refl
 none_left_out [] (x ∷ xs) long = absurd (omega (arith, long))

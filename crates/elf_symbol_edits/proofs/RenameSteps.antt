@@ -22,7 +22,7 @@ use Rattle.elf_symbol_edits.specs.SymbolEdit.{RenameSections, edited, written}
 
 -- ## What is made of a list from a place on
 
--- one more
+-- one element more is made
 pub maps_one : {A B : Type 0} (f : A → B) (made now whole : List B) (xs : List A) (i : ℕ) (x : A) → slice_get xs i ≡ Some x → now ≡ made ++ f x ∷ [] → made ++ map f (drop i xs) ≡ whole
     → now ++ map f (drop (i + 1) xs) ≡ whole
 maps_one {A} f made now whole xs i x at more so_far =
@@ -113,7 +113,7 @@ length-changed i f [] = refl
 length-changed zero f (s ∷ ss) = refl
 length-changed (suc i) f (s ∷ ss) = ap suc (length-changed i f ss)
 
--- as many sections as before
+-- an image has as many sections as before
 pub as_many : (i : ℕ) (name : Option (List ℕ)) (image new : Image) → new ≡ with_name_at i name image → length new.sections ≡ length image.sections
 as_many i None image new is = ap (λ (x : Image). length x.sections) is
 as_many i (Some name) image new is = ap (λ (x : Image). length x.sections) is ∙ length-changed i (with_section_name name) image.sections

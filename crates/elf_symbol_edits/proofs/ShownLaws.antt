@@ -134,7 +134,7 @@ module _ (image : Image) where
   abbrev without_interpreter : List ℕ → View
   without_interpreter gone = record (shown image) { interpreter = if does_interpreter_go gone image then None else (shown image).interpreter }
 
-  -- where none goes the interpreter stays
+  -- where no section goes the interpreter stays
   none_goes : does_interpreter_go [] image ≡ false
   none_goes = by_number (interpreter_number image)
     where

@@ -252,7 +252,8 @@ with_interpreter = record (with_symbols interpreter_section) {
 }
 
 pub record AlongRows : Type 0 where
-  -- with it go the symbol that is defined in it, but not the first, the interpreter, and its program headers, but not what is loaded
+  -- with the interpreter's section go the symbol that is defined in it, but not the first, the interpreter, and its program headers, but
+  -- not what is loaded
   pub interpreter_gone : step (DeleteSections (codes ".interp" ∷ [])) with_interpreter
       ≡ Ok (record with_interpreter {
         changed = true;

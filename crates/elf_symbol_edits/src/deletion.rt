@@ -160,7 +160,7 @@ impl Deletion {
             || !self.dynamic_symbols.is_empty() && !can_renumber(image)
     }
 
-    // The first cause that stands against it.
+    // The first cause that stands against the deletion.
     pub(crate) fn cause(&self, image: &Builder<'_>) -> Option<Cause>
         requires { AreRising (deletion_model self.now) }
         ensures { result ≡ cause_of_deletion (deletion_model self.now) image.now }

@@ -20,6 +20,6 @@ module _ (step : ℕ → ℕ → ℕ) (bytes : List ℕ) (i hash whole : ℕ) (s
   byte_next less other =
       sym (ap (fold step hash) (ap front_text (drop_more bytes i 0 less) ∙ front_text-byte (slice_index bytes i) (drop (i + 1) bytes) other)) ∙ so_far
 
-  -- none is
+  -- no byte is next
   pub none_next : length bytes ≤ i → hash ≡ whole
   none_next past = sym (ap (fold step hash) (ap front_text (drop_all i bytes past) ∙ front_text-none)) ∙ so_far

@@ -28,7 +28,7 @@ field_is : (form : Form) (fs gs : List (ℕ × ℕ)) (n x pos : ℕ) → widths 
 field_is form fs gs n x pos at fits =
     fixed_field-number form (pos, n) (fields form.order (fs ++ (n, x) ∷ gs)) ∙ subst (λ (p : ℕ). number_at form.order n p (fields form.order (fs ++ (n, x) ∷ gs)) ≡ x) at (number_at-fields form.order fs gs n x fits)
 
--- what holds of each element, from another that does
+-- what holds of each element, from another fact that holds of each
 by_each : {A : Type 0} (P Q : A → Type 0) → ((x : A) → P x → Q x) → (xs : List A) → AllByRecursion P xs → AllByRecursion Q xs
 by_each P Q weaker [] all = tt
 by_each P Q weaker (x ∷ xs) all = (weaker x all.0, by_each P Q weaker xs all.1)

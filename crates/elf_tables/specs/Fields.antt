@@ -18,7 +18,7 @@ halves numbers = map (λ number. (2, number)) numbers
 abbrev pub words : List ℕ → List (ℕ × ℕ)
 words numbers = map (λ number. (4, number)) numbers
 
--- how many bytes they take
+-- how many bytes numbers of these widths take
 abbrev pub widths : List (ℕ × ℕ) → ℕ
 widths [] = 0
 widths (f ∷ fs) = f.0 + widths fs

@@ -40,7 +40,7 @@ pub struct Finished<'t> {
     pub(crate) bytes: Vec<u8>,
     // The texts that the table was made of, in the order in which they were laid.
     pub(crate) texts: Vec<Keyed<'t>>,
-    // Where each of them stands.
+    // Where each of the texts stands.
     pub(crate) places: Vec<u32>,
     // Where each text stands, in the order in which they were added.
     pub(crate) in_order: Vec<u32>,

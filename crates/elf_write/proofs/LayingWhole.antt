@@ -113,7 +113,7 @@ left-next image interpreter sections places ps contents i number x bytes d stays
     of_data = tested ∙ ap (λ (n : ℕ). is_data_at interpreter n (section_model x)) at.of_number
         ∙ ap (λ (o : Option ℕ). is_data_at o (slice_index image.section_numbers i) (section_model x)) same
 
--- with it there
+-- the patches up to a section, with its own there
 pub pushed-next : (r : Resized) (ks : List KeptSection) (ps : List Place) (cs : List (List ℕ)) (i : ℕ) (old now new first : List Patch)
     → left_patches r ks ps cs i ≡ first ++ left_patches r ks ps cs (i + 1)
     → IsPushedTo r ks ps cs i old now → new ≡ now ++ first → IsPushedTo r ks ps cs (i + 1) old new
@@ -123,7 +123,7 @@ pushed-next r ks ps cs i old now new first is so_far done =
     ∙ ap (λ (l : List Patch). now ++ l) (sym is)
     ∙ so_far
 
--- all are there
+-- the patches of all sections are there
 pub pushed-all : (image : Image) (sections : List Section) (ps : List Place) (cs : List (List ℕ)) (i : ℕ) (old now : List Patch)
     → IsEdited image → map section_model sections ≡ image.sections → length sections ≤ i
     → IsPushedTo (resized image) (kept_sections image) ps cs i old now

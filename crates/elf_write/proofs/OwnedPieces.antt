@@ -14,7 +14,7 @@ one_lies pieces len i piece inside below is =
     let P : Patch → Type 0 = LiesIn len in
     subst P (get_or-map owned_patch pieces i piece (owned_patch piece) below ∙ ap owned_patch (sym is)) (inside i (owned_patch piece) (omega arith))
 
--- with one piece more laid
+-- pieces with one more laid
 pub laid-next : (pieces : List OwnedPiece) (i : ℕ) (piece : OwnedPiece) (old now : List ℕ) → i < length pieces → piece ≡ get_or pieces i piece
     → laid (drop i (owned_patches pieces)) now ≡ old
     → laid (drop (i + 1) (owned_patches pieces)) (put_at piece.offset piece.bytes.items now) ≡ old

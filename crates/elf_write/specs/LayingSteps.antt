@@ -45,7 +45,7 @@ is_rewritten_at interpreter number s =
 abbrev pub leaves_place_at : Option ℕ → Bool → ℕ → ImageSection → Bool
 leaves_place_at interpreter leave number s = is_rewritten_at interpreter number s && not (s.sh_type == SHT_DYNAMIC && leave)
 
--- where those stood that are written anew and for which nobody looks there
+-- where the sections stood that are written anew and for which nobody looks there
 abbrev pub rewritten_places : Resized → List KeptSection → List Range
 rewritten_places r kept = map (λ s. file_range (place_at_read s.section)) (filter (leaves_place r.read r.image) kept)
 

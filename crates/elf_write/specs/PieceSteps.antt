@@ -23,7 +23,7 @@ load_spans len segments = map (λ p. span_in len (file_part p)) (loads_of segmen
 
 -- ## Bytes that are composed
 
--- so many bytes: those of patches at their offsets, elsewhere what stays of those that were read
+-- so many bytes: the patches at their offsets, elsewhere what stays of the bytes that were read
 pub record IsOverBase (r : Resized) (patches : List Patch) (size : ℕ) (bytes : List ℕ) : Type 0 where
   pub sized : length bytes ≡ size
   pub stand : All (Stands bytes) patches

@@ -62,7 +62,7 @@ each_of_more P last (c ∷ cs) each is zero b at = each 0 b at
 each_of_more P last (c ∷ cs) each is (suc i) b at = each_of_more (λ j. P (suc j)) last cs (λ j. each (suc j)) is i b at
 
 module _ (image : Image) (plan : Plan) (made : List Made) (raw : List EntryNumbers) where
-  -- one more
+  -- the bytes of one section more
   pub one_more : (contents now : List (List ℕ)) (bytes : List ℕ) → AreBytesOf image plan made raw contents
       → IsBytesAt image plan made raw (length contents) bytes → now ≡ contents ++ bytes ∷ [] → AreBytesOf image plan made raw now
   one_more contents now bytes are is grown = record {
@@ -70,7 +70,7 @@ module _ (image : Image) (plan : Plan) (made : List Made) (raw : List EntryNumbe
         (ap (λ (l : List (List ℕ)). slice_get l i) (sym grown) ∙ at);
   }
 
-  -- all of them
+  -- the contents of all sections
   all_at : (r : Resized) (ks : List KeptSection) (ps : List Place) (cs : List (List ℕ)) → length ps ≡ length ks → length cs ≡ length ks
       → ((i : ℕ) (k : KeptSection) (p : Place) (c : List ℕ) → slice_get ks i ≡ Some k → slice_get ps i ≡ Some p → slice_get cs i ≡ Some c
       → IsMadeContent r plan made raw k p c)
@@ -128,7 +128,7 @@ three_ok (Err e) P Q R S all p q r = p
 
 -- ## By type
 
--- none of the types of tables that are made of the image's lists, or of string tables
+-- the type is none of tables that are made of the image's lists, or of string tables
 pub record HasNoTable (n : ℕ) : Type 0 where
   pub dynamic : n ≢ SHT_DYNAMIC
   pub strings : n ≢ SHT_STRTAB

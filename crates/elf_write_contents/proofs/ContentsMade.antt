@@ -136,7 +136,7 @@ plain_long r s bytes size kinds.GnuVersym h is long relocations = absurd (false�
 plain_long r s bytes size kinds.GnuVerdef h is long relocations = absurd (false≢true h)
 plain_long r s bytes size kinds.GnuVerneed h is long relocations = absurd (false≢true h)
 
--- none of the types of which the bytes are made, or of string tables and static symbols
+-- the type is none of which the bytes are made, or of string tables and static symbols
 pub record IsOther (n : ℕ) : Type 0 where
   pub dynamic : (n == SHT_DYNAMIC) ≡ false
   pub strings : (n == SHT_STRTAB) ≡ false

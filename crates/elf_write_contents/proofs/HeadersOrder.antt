@@ -30,7 +30,7 @@ module _ (read image : Image) (is : IsEditedReady read image) where
   pub count : length (final read image).dynamic_symbols ≡ length image.dynamic_symbols
   count = final_count read image (facts read image is)
 
-  -- all of them
+  -- the symbols up to the end are all of them
   pub behind_end : (i : ℕ) → length image.dynamic_symbols ≤ i
       → behind_locals (take i (final read image).dynamic_symbols) ≡ behind_locals (final read image).dynamic_symbols
   behind_end i past = ap behind_locals (take_all i (final read image).dynamic_symbols (omega (arith, past, count)))

@@ -28,7 +28,7 @@ shows_texts kinds.Hash = false
 shows_texts kinds.GnuHash = false
 shows_texts kinds.GnuVersym = false
 
--- one of a chain of tests
+-- one test of a chain of tests passes
 or_later : (b : Bool) (k rest : SectionData) → shows_texts (if b then k else rest) ≡ true → (b ≡ true) ⊎ (shows_texts rest ≡ true)
 or_later true k rest h = inl refl
 or_later false k rest h = inr h

@@ -28,7 +28,7 @@ fn does_word_fit(form: Form, number: u64) -> bool
     }
 }
 
-// Whether each of these does.
+// Whether each of these numbers fits a word of the class.
 fn do_words_fit(form: Form, numbers: &[u64]) -> bool
     ensures { result ≡ do_all_words_fit form numbers.now }
 {

@@ -48,7 +48,7 @@ pub not_in : (x y : Range) (k : ℕ) → AreApart x y → x.start ≤ k → k < 
 not_in x y k h begins ends = false_from_ne_true (has_position k y) (λ there.
     let at = has_at y k there in apart-meet x y k h begins ends at.0 at.1)
 
--- nor in an empty one
+-- a position isn't in an empty range
 not_in_empty : (x : Range) (k : ℕ) → x.size ≡ 0 → has_position k x ≡ false
 not_in_empty x k none = false_from_ne_true (has_position k x) (λ there.
     let at = has_at x k there in
@@ -219,7 +219,7 @@ module _ (w : Output) (is : IsPlannedOutput w) (f : ReadFacts w) where
 
   -- ## Data in the written file
 
-  -- where it was
+  -- data stands where it was
   pub data_offset : (i : ℕ) (at : SectionAt w f.parts i) → is_data r.read (kept_as i at.number at.section) ≡ true → is_stored (place_of at.old) ≡ true
       → is_stored at.place ≡ true → at.place.sh_offset ≡ at.old.sh_offset
   data_offset i at is_it stored stored_now =

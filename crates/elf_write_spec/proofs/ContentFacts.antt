@@ -81,7 +81,7 @@ module _ (w : Output) (is : IsPlannedOutput w) (f : ReadFacts w) (i : ℕ) (at :
   pub needs_shown : at.old.sh_type ≡ SHT_GNU_VERNEED → AreNeedsIn (resized w.image) linked_bytes at.bytes
   needs_shown h = shows SHT_GNU_VERNEED h refl kinds.GnuVerneed refl
 
-  -- as it was read
+  -- the section's bytes are as they were read
   content_read : at.section.content ≡ section_bytes (file_of f.parts) at.old
   content_read = ap (λ (x : ImageSection). x.content) at.of_old.fields
 

@@ -37,7 +37,7 @@ replicate-map f b [] same = refl
 replicate-map {A} {B} f b (x ∷ xs) same =
     ap (λ (l : List B). b ∷ l) (replicate-map f b xs (λ i y. same (suc i) y)) ∙ ap (λ (y : B). y ∷ map f xs) (sym (same zero x refl))
 
--- none that was cleared is none
+-- a version that wasn't there isn't there after an edit
 no_version : (old now : Option VersionId) → IsVersionOf old now → old ≡ None → now ≡ None
 no_version old now (inl same) none = same ∙ none
 no_version old now (inr cleared) none = cleared ∙ ap as_global none

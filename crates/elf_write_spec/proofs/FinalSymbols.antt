@@ -116,7 +116,7 @@ module _ (read image : Image) (f : ReadFacts read image) where
   pub final_count : length (final read image).dynamic_symbols ≡ length image.dynamic_symbols
   final_count = length-final read image all_symbols
 
-  -- none of none
+  -- where no dynamic symbols were read there are none
   pub final_none : read.dynamic_symbols ≡ [] → (final read image).dynamic_symbols ≡ []
   final_none none =
       no_items (final read image).dynamic_symbols

@@ -284,7 +284,7 @@ module _ (image again : Image) (moved : List ℕ) (same_places : places_in again
           each = made.2;
         }
 
-    -- all of them, in their order
+    -- all program headers, in their order
     pub in_order : (ps : List SegmentHeader) → ((p : SegmentHeader) → Has p ps → Has p image.segments)
         → AreHeadersInOrder r.read image again ps (flat_map (written_from r moved) ps)
     in_order [] among = refl

@@ -52,7 +52,7 @@ module _ (r : Resized) (rounds looked : ℕ) (moved : List ℕ) (reads : ReadsPl
       ≤ (if is_some o then segments_end r moved else table_offset r moved + header_count r moved * segment_header_size r.image.form))
       (sym none) (omega arith)
 
-  -- where it was
+  -- the program header table stands where it was, where it has a segment
   table_stays : (q : SegmentHeader) → table_load r ≡ Some q → table_offset r moved ≡ r.read.header.e_phoff
   unfolding table_offset
   table_stays q h =

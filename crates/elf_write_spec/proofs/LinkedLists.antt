@@ -39,7 +39,7 @@ count-cons test x xs = sum_by-cons (λ y. one_if (test y)) x xs
 pub count-append : {A : Type 0} (test : A → Bool) (xs ys : List A) → count_by test (xs ++ ys) ≡ count_by test xs + count_by test ys
 count-append test xs ys = sum_by-append (λ y. one_if (test y)) xs ys
 
--- none passes
+-- none is counted where none passes
 pub count-none : {A : Type 0} (test : A → Bool) (xs : List A) → ((i : ℕ) (x : A) → slice_get xs i ≡ Some x → test x ≡ false)
     → count_by test xs ≡ 0
 count-none test [] each = refl

@@ -128,7 +128,7 @@ module _ (r : Resized) (moved : List ℕ) (type : ℕ) where
   )
   count-other p (t ∷ ts) other = count-anchored p (t ∷ ts) other
 
-  -- else it is no more than one
+  -- a program header is made of at most one target, where there are no more
   length-one_made : (p : SegmentHeader) (targets : List Target) → length targets ≤ 1 → length (written_by r moved p targets) ≤ 1
   length-one_made p [] few = omega arith
   length-one_made p (t ∷ ts) few = omega (arith, few, length-map (t ∷ ts) (anchored_to r.image.form p))
@@ -168,7 +168,7 @@ unfolding behind_last_load
 count-behind type more [] = omega arith
 count-behind type more (p ∷ ps) = behind_step type more p ps (count-behind type more ps) (is_loaded p && not (list_any is_loaded ps))
 
--- none that is added has another type than that of loaded segments
+-- no program header that is added has another type than that of loaded segments
 count-added : (r : Resized) (moved : List ℕ) (type : ℕ) → (PT_LOAD == type) ≡ false → count_of type (added_headers r moved) ≡ 0
 count-added r moved type other = count-none (λ (p : SegmentHeader). p.p_type == type) (added_headers r moved) (λ i p at.
     let loaded : is_loaded p ≡ true =

@@ -86,7 +86,7 @@ final_symbol-alike image first y there = record { named = refl; bound = refl; de
 
 -- ## Names that are those that were read
 
--- there are as many symbols
+-- there are as many symbols as were read
 pub names_count : (read image : Image) → are_names_changed read image ≡ false → length image.dynamic_symbols ≡ length read.dynamic_symbols
 names_count read image same =
     let texts : texts_of_symbols image.dynamic_symbols ≡ texts_of_symbols read.dynamic_symbols =
@@ -130,7 +130,7 @@ pub order-by_bucket : (read image : Image) (buckets : ℕ) → are_names_changed
     → dynamic_order read image ≡ places_by_bucket buckets image.dynamic_symbols
 order-by_bucket read image buckets changed some = order-by_table read image (Some buckets) changed some
 
--- without one they stay in their order
+-- without a GNU hash table symbols stay in their order
 pub order-unbucketed : (read image : Image) → buckets_of image ≡ None → dynamic_order read image ≡ counted (length image.dynamic_symbols)
 order-unbucketed read image none = by_names (are_names_changed read image) refl
   where

@@ -43,7 +43,7 @@ use Rattle.elf_write_spec.proofs.NumberedSections.{kept_as}
 
 -- ## The entries of an image
 
--- none of them is a DT_NULL
+-- no entry of an image is a DT_NULL
 pub all_listed : (read now : Option (List Entry)) → edited.AreEntriesOf read now → All IsListed (list_at (λ es. es) now)
 all_listed None None h = All-nil IsListed
 all_listed None (Some now) h = absurd h

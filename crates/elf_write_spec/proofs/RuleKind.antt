@@ -225,7 +225,7 @@ symbols-at strings (y ∷ ys) (m ∷ ns) are zero n at = (y, refl, subst (IsSymb
 symbols-at strings (y ∷ ys) (m ∷ ns) are (suc j) n at = symbols-at strings ys ns are.1 j n at
 
 module _ (w : Output) (is : IsPlannedOutput w) (has : HasWrittenParts w) (f : ReadFacts w) where
-  -- at read
+  -- the numbers of sections in symbols that were read are plain
   plain_in : (s : SectionHeader) → Has s f.parts.sections → is_symbol_table s ≡ true → (y : SymbolNumbers)
       → Has y (symbols_of f.parts s) → IsPlain y.st_shndx
   plain_in s here table y y_here =

@@ -92,7 +92,7 @@ module _ (r : Resized) (plan : Plan) (raw : List EntryNumbers) (strings : List �
     | _ ↦ AreStaticRelocationsOf r s.section bytes
   ]) other are
 
-  -- nor against static ones that do
+  -- relocations that aren't against dynamic symbols that change, nor against static ones that do
   pub relocations_copied : (are_names_changed r.read r.image && is_against (table_number SHT_DYNSYM r.image) s.section) ≡ false
       → (is_static_renumbered r.read r.image && is_against (table_number SHT_SYMTAB r.image) s.section) ≡ false
       → AreRelocationsOf r s.section bytes → bytes ≡ s.section.content

@@ -84,7 +84,7 @@ module _ (read image : Image) (f : ReadFacts read image) where
 
   -- ## Where none went
 
-  -- there are as many
+  -- there are as many static symbols as were read
   pub static_count : is_static_renumbered read image ≡ false → length image.symbols ≡ length read.symbols
   static_count none =
       sym f.edit.symbols.numbered ∙ eqb-true (length image.symbol_numbers) (length read.symbols)

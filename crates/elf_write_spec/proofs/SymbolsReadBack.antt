@@ -53,7 +53,7 @@ named_are room texts (n ∷ ns) (v ∷ versions) (x ∷ xs) long wide all =
     ∙ ap (λ (zs : List NamedSymbol). x ∷ zs)
     (named_are room texts ns versions xs (omega (arith, long)) (omega (arith, wide)) (λ i z there. all (suc i) z there))
 
--- all of them are there, with their names
+-- all symbols are there, with their names
 pub symbols_made : (room : ℕ) (texts : Memory) (ns : List SymbolNumbers) (versions : List (Option VersionId)) (symbols : List NamedSymbol)
     → length versions ≡ length ns → AreSymbolsOf room texts ns versions symbols
     → (names_of room texts ns >>= λ names. Some (named_symbols ns names versions)) ≡ Some symbols

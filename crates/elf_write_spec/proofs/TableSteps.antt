@@ -119,7 +119,7 @@ module _ (size : ℕ) (change : List ℕ → List ℕ) where
       sym (ap (λ (n : ℕ). made ++ changed n rest) k) ∙ so_far
 
   module _ (keeps : (e : List ℕ) → length e ≡ size → length (change e) ≡ length e) where
-    -- one more entry is there, and those behind it
+    -- one entry more is there, and the bytes behind it
     here : (count : ℕ) (bytes : List ℕ) → suc count * size ≤ length bytes → length (take size bytes) ≡ size
     here count bytes room = length-take-le size bytes (omega (arith, suc-mul count size, room))
 

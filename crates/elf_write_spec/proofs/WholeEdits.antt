@@ -75,7 +75,7 @@ pub record SectionRead (read image : Image) (p : Parts) (i : ℕ) : Type 0 where
   pub is_section : slice_get image.sections i ≡ Some section
   pub is_kept : slice_get (kept_sections image) i ≡ Some (kept_as i number section)
   pub of_old : IsOfHeader p old section
-  -- as it was read, perhaps with another name
+  -- the section as it was read, perhaps with another name
   pub was : ImageSection
   pub is_was : slice_get read.sections number ≡ Some was
   pub was_old : IsSectionOf p old was

@@ -188,7 +188,7 @@ pub record SectionAt (w : Output) (p : Parts) (i : ℕ) : Type 0 where
   pub is_bytes : slice_get w.contents i ≡ Some bytes
   pub of_old : edits.IsOfHeader p old section
   pub written : IsSectionWritten w (kept_as i number section) place header bytes
-  -- as it was read, perhaps with another name
+  -- the section as it was read, perhaps with another name
   pub was : ImageSection
   pub is_was : slice_get (image_at_read w.image).sections number ≡ Some was
   pub was_old : IsSectionOf p old was

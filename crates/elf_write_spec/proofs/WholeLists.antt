@@ -9,7 +9,7 @@ use Rattle.elf_layout_plan.proofs.ForCallers.PlacedLists.{Has, has_cases, has_no
 
 -- ## Elements at positions
 
--- there is one at each position below the length
+-- there is an element at each position below the length
 pub there_at : {A : Type 0} (xs : List A) (i : ℕ) → i < length xs → (x : A) × (slice_get xs i ≡ Some x)
 there_at [] i less = absurd (omega (arith, less))
 there_at (x ∷ xs) zero less = (x, refl)
@@ -67,7 +67,7 @@ pub record FoundAt {A : Type 0} (test : A → Bool) (xs : List A) : Type 0 where
   pub is_first : find test xs ≡ Some element
   pub before : (j : ℕ) (y : A) → j < index → slice_get xs j ≡ Some y → test y ≡ false
 
--- none passes
+-- no element passes
 abbrev pub NonePasses : {A : Type 0} → (A → Bool) → List A → Type 0
 NonePasses {A} test xs = (j : ℕ) (y : A) → slice_get xs j ≡ Some y → test y ≡ false
 
@@ -122,7 +122,7 @@ pub find-no : {A : Type 0} (test : A → Bool) (xs : List A) → NonePasses test
 find-no test [] none = refl
 find-no test (x ∷ xs) none = find-step test x xs false (none zero x refl) ∙ find-no test xs (λ j y. none (suc j) y)
 
--- where none is found none passes
+-- where no element is found none passes
 pub none-passes : {A : Type 0} (test : A → Bool) (xs : List A) → find test xs ≡ None → NonePasses test xs
 none-passes test xs none = elim (first_at test xs) [
   | inl found ↦ absurd (none-some found.element (sym none ∙ found.is_first))

@@ -157,7 +157,7 @@ found-next page_size old p olds news type same (Gone first at_first can none) fa
     Gone first (ap (λ c. cond c (Some old) (segment_of_type type olds)) h ∙ at_first) can
     (ap (λ c. cond c (Some p) (segment_of_type type news)) also ∙ none)
 
--- one of a type that comes once went
+-- a program header of a type that comes once went
 found-gone : (page_size : Option ℕ) (old : SegmentHeader) (olds news : List SegmentHeader) (type : ℕ) → CanGo old
     → count_by (has_type type) (old ∷ olds) ≤ 1
     → Found page_size olds news type → (b : Bool) → has_type type old ≡ b → Found page_size (old ∷ olds) news type

@@ -94,14 +94,14 @@ pub record IsTableMadeOf (texts : List (List ℕ)) (bytes : List ℕ) : Type 0 w
   pub first : slice_get bytes 0 ≡ Some 0
   -- each text stands somewhere, a NUL behind it
   pub stand : (text : List ℕ) → Contains texts text → (place : ℕ) × StandsAt bytes place text
-  -- no byte more than they need, where texts share their ends
+  -- no byte more than the texts need, where they share their ends
   pub long : length bytes ≡ table_length texts
 
 -- The bytes of a string table: those that were read, or a table that is made anew.
 pub record IsStringTableOf (read image : Image) (s : KeptSection) (bytes : List ℕ) : Type 0 where
-  -- as it was read, where no text of it was added or changed
+  -- the table is as it was read, where no text of it was added or changed
   pub copied : IsTrue (is_table_copied read image s.number) → bytes ≡ s.section.content
-  -- else made of the texts that the image uses of it
+  -- the table is else made of the texts that the image uses of it
   pub anew : is_table_copied read image s.number ≡ false
       → IsTableMadeOf (texts_in_use read image s.number) bytes
 

@@ -46,8 +46,8 @@ pub record StandsAtTable (again : Image) (p q : SegmentHeader) : Type 0 where
 abbrev pub IsAtItsAddress : Image → KeptSection → Type 0
 IsAtItsAddress again s = (now : ImageSection) × (slice_get again.sections s.position ≡ Some now) × (now.sh_addr ≡ s.section.sh_addr)
 
--- Where it stands, by what p goes by: it is p; it has the table; it has just the one section; it is p, where none of the notes moved, or it
--- is over some of them.
+-- Where a program header q stands that is made of p, by what p goes by: q is p; it has the header table; it has just the one section; it is
+-- p, where none of the notes moved, or it is over some of them.
 abbrev pub StandsBy : Image → SegmentHeader → Anchor → SegmentHeader → Type 0
 StandsBy again p Itself q = q ≡ p
 StandsBy again p HeaderTable q = StandsAtTable again p q

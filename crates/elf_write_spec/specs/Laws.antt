@@ -63,7 +63,8 @@ abbrev pub WrittenFilesKeepHashes : Type 0
 WrittenFilesKeepHashes = (w : Output) → IsPlannedOutput w → are_names_changed (image_at_read w.image) w.image ≡ false
     → AreHashesSeen w.image w.plan.segments w.raw (written_bytes w)
 
--- Else look-ups find exactly the symbols that are defined and not local, by the names that they have now.
+-- Where the names of the dynamic symbols changed, look-ups find exactly the symbols that are defined and not local, by the names that they
+-- have now.
 abbrev pub WrittenFilesFindNames : Type 0
 WrittenFilesFindNames = (w : Output) → IsPlannedOutput w → are_names_changed (image_at_read w.image) w.image ≡ true
     → lists_tag DT_SYMTAB (list_at (λ es. es) w.image.entries) ≡ true

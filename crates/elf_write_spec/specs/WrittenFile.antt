@@ -250,5 +250,5 @@ pub record IsWrittenOf (image : Image) (file : List ℕ) : Type 0 where
   pub strings : EachSection image again (λ s now.
       s.section.sh_type ≡ SHT_STRTAB → IsStringTableOf read image s now.content)
   pub apart : IsEverythingApart again
-  -- the plan by which it is written
+  -- the plan by which the file is written
   pub by_plan : (plan : Plan) × IsPlan (resized image) plan × IsWrittenByPlan image plan file

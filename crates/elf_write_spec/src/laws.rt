@@ -31,7 +31,7 @@ pub fn written_files_keep_data()
     ensures { WrittenFilesKeepData }
 {}
 
-/// Every other byte keeps its value and its address.
+/// Every other byte keeps its value and its address in a written file.
 #[tactic(auto, using(crate::proofs::DataSeen::written_files_keep_others))]
 pub fn written_files_keep_others()
     ensures { WrittenFilesKeepOthers }
@@ -44,7 +44,8 @@ pub fn written_files_keep_hashes()
     ensures { WrittenFilesKeepHashes }
 {}
 
-/// Else look-ups in hash tables find exactly the symbols that are defined and not local, by the names that they have now.
+/// Where the names of dynamic symbols changed, look-ups in hash tables find exactly the symbols
+/// that are defined and not local, by the names that they have now.
 #[tactic(auto, using(crate::proofs::NamesFound::written_files_find_names))]
 pub fn written_files_find_names()
     ensures { WrittenFilesFindNames }

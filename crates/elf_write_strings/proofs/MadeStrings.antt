@@ -88,7 +88,7 @@ module _ (read image : Image) where
       by_size false is = refl
       by_size true is = absurd (past (length (content_read image number)) long (leb-true (length (content_read image number)) (2 ^ 32) is))
 
-  -- where offsets of one table don't reach, not all do
+  -- where the offsets of one table don't reach, not all do
   pub unreached : (number : ℕ) → IsEditedTable image number → do_offsets_reach read image number ≡ false → do_names_reach read image ≡ false
   unfolding do_names_reach
   unreached number edited far = by_all (list_all (do_offsets_reach read image) (edited_tables image)) refl
@@ -163,7 +163,7 @@ module _ (read image : Image) (made : List Made) (m : Made) where
 pub one_table : (read image : Image) (m : Made) → IsTold read image m → AreTold read image (m ∷ [])
 one_table read image m here n x found = subst (IsTold read image) (sym (only_told m n x found)) here
 
--- all of them
+-- the tables that are told, where the others that may change are as they were read
 pub are_strings : (read image : Image) (made : List Made) → AreTold read image made
     → ((n : ℕ) → dynamic_strings_number image ≡ Some n → made_of made n ≡ None → AreAsRead read image n)
     → ((n : ℕ) → link_of_type SHT_SYMTAB image ≡ Some n → made_of made n ≡ None → AreAsRead read image n)

@@ -168,7 +168,7 @@ module _ (ts : List (List ℕ)) (es : List Dynamic) (xs : List EntryNumbers) (wh
   nil_right [] = refl
   nil_right (y ∷ ys) = ap (λ (l : List ℕ). y ∷ l) (nil_right ys)
 
-  -- all were looked at
+  -- all entries were looked at
   all_looked : made ++ places_among (drop (length made) ts) (map entry_model (drop i es)) (drop i xs) ≡ whole
       → length es ≤ i → made ≡ whole
   all_looked all past =

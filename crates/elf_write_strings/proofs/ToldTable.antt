@@ -39,7 +39,7 @@ abbrev is_link : ℕ → Option KeptSection → Bool
 is_link number o = is_some_and (λ link. link == number) (o >>= λ s. Some s.section.sh_link)
 
 module _ (image : Image) (type number : ℕ) (is : IsEdited image) where
-  -- none is there
+  -- no section of the type is there
   pub user_none : type_position image type ≡ None → has_texts_in image type number ≡ false
   user_none none = elim (tables.link_at image type is) [
     | NoLink e nowhere ↦ ap (is_link number) nowhere

@@ -46,7 +46,7 @@ first_step : {A : Type 0} → (b : Bool) (y : A) (found : Option A) (n : ℕ) (x
 first_step true y found n x some few rest = absurd (omega arith)
 first_step false y found n x some few rest = rest (omega arith)
 
--- where one passes at most, a search finds it
+-- where one element passes at most, a search finds it
 only_one : {A : Type 0} → (test : A → Bool) (xs : List A) (i : ℕ) (x : A) → slice_get xs i ≡ Some x → test x ≡ true → count_by test xs ≤ 1
     → find test xs ≡ Some x
 only_one test [] i x at passes few = absurd (none-some x at)

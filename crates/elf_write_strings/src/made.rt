@@ -20,7 +20,7 @@ use std::alloc::{AllocError, Global};
 /// A string table of a written file, told anew: where each text stands in it (gABI, String Table).
 #[derive(Drop)]
 pub struct Made<'t> {
-    /// The number of its section in the file that was read.
+    /// The number of the table's section in the file that was read.
     pub number: usize,
     /// The table's bytes, and where each text stands in them.
     pub table: Finished<'t>,

@@ -54,7 +54,7 @@ count_shown strings [] (n ∷ ns) are = absurd are
 count_shown strings (y ∷ ys) [] are = absurd are
 count_shown strings (y ∷ ys) (n ∷ ns) are = ap suc (count_shown strings ys ns are.1)
 
--- one more behind them
+-- one record more behind the others
 one_more : (strings : List ℕ) (ys : List NamedSymbol) (ns : List SymbolNumbers) (y : NamedSymbol) (n : SymbolNumbers) → AreSymbolsOf strings ys ns
     → IsSymbolOf strings y n → AreSymbolsOf strings (ys ++ y ∷ []) (ns ++ n ∷ [])
 one_more strings [] [] y n are is = (is, tt)

@@ -67,7 +67,7 @@ module _ (read image : Image) (is : IsEditedReady read image) (made : List Made)
   pub static_copied : IsSectionOfType SHT_SYMTAB image s → made_of made s.sh_link ≡ None → true ≡ is_table_copied read image s.sh_link
   static_copied at none = sym (are.as_read s.sh_link (static_edited at) none).copied
 
-  -- or where the table that is told says so
+  -- strings that are told anew are copied where their table says so
   pub told_copied : (m : Made) → made_of made s.sh_link ≡ Some m → m.is_copied ≡ is_table_copied read image s.sh_link
   told_copied m found = (are.told s.sh_link m found).which ∙ ap (is_table_copied read image) (number_found made s.sh_link m found)
 
@@ -290,7 +290,7 @@ kept_sections read image same =
     ∙ ap (λ (ys : List NamedSymbol). are_same_symbols ys (map (final_symbol image) image.symbols)) same
     ∙ ap (are_same_symbols read.symbols) (sym (symbols_written read image))
 
--- all of them are, where no section went
+-- all symbols are kept where no section went
 pub all_kept : (read image : Image) → IsEditedReady read image → (s : ImageSection) → IsSectionOfType SHT_SYMTAB image s → image.symbols ≡ read.symbols
     → length image.sections ≡ length read.sections → true ≡ are_symbols_kept read image
 all_kept read image is s at same all = sym (all-each (is_section_kept image) image.symbols each) ∙ kept_sections read image same

@@ -213,7 +213,7 @@ module _ (read image : Image) (is : IsEditedReady read image) (s : ImageSection)
       (subst (λ (o : Option SectionHeader). AreStaticSymbols p o read.symbols)
       (found read image f SHT_SYMTAB static_type s r) f.holds.symbols)
 
--- where such a section links
+-- where a section of symbols links
 links : (read image : Image) → (f : ReadFacts read image) → (type : ℕ) → IsSymbolType type → (s : ImageSection) → IsSectionOfType type image s
     → link_of_type type image ≡ Some s.sh_link
 links read image f type kind s at =

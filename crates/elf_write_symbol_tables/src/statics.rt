@@ -163,7 +163,7 @@ fn is_section_kept(
     number == new_symbol_section(read, image, &renumbering.sections, number)
 }
 
-// Whether the section of each symbol does.
+// Whether the section of each symbol keeps its number.
 fn are_sections_kept(read: &Builder<'_>, image: &Builder<'_>, renumbering: &Renumbering) -> bool
     requires ready { IsEditedReady read.now image.now }
     requires renumbering { IsRenumbering read.now image.now renumbering.now }

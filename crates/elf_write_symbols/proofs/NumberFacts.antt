@@ -21,7 +21,7 @@ use Rattle.elf_write_spec.proofs.ForCallers.WholeLists.{FoundAt, NonePasses, fir
 
 -- ## So many of them
 
--- the first of these symbols have their places for their new numbers, and no other number has one
+-- the first of these symbols have their places for their new numbers, and no other number has such a place
 pub record AreNumberedTo (olds : List ℕ) (i : ℕ) (numbers : List ℕ) : Type 0 where
   pub there : (j n : ℕ) → j < i → slice_get olds j ≡ Some n → slice_index numbers n ≡ j
   pub gone : (n : ℕ) → ((j : ℕ) → j < i → slice_get olds j ≡ Some n → ⊥) → slice_index numbers n ≡ 0
@@ -30,7 +30,7 @@ pub record AreNumberedTo (olds : List ℕ) (i : ℕ) (numbers : List ℕ) : Type
 abbrev pub AreApart : List ℕ → Type 0
 AreApart olds = (i j n : ℕ) → slice_get olds i ≡ Some n → slice_get olds j ≡ Some n → i ≡ j
 
--- one more
+-- one symbol more has its new number
 pub numbered_more : (olds : List ℕ) (i n : ℕ) (numbers new : List ℕ) → AreApart olds → slice_get olds i ≡ Some n → n < length numbers
     → AreNumberedTo olds i numbers → new ≡ set numbers n i → AreNumberedTo olds (i + 1) new
 numbered_more olds i n numbers new apart at within before is = record {
@@ -72,7 +72,7 @@ module _ (read image : Image) (f : ReadFacts read image) where
   abbrev all : HasSymbols read image
   all = all_symbols read image f
 
-  -- which symbol it is
+  -- which symbol a number at read in the new order is of
   old-at : (j n : ℕ) → slice_get (dynamic_olds read image) j ≡ Some n
       → (m : ℕ) × (slice_get order j ≡ Some m) × (slice_get image.dynamic_symbol_numbers m ≡ Some n)
   old-at j n at =
@@ -121,7 +121,7 @@ module _ (read image : Image) (f : ReadFacts read image) where
   pub old_below : (m n : ℕ) → slice_get image.dynamic_symbol_numbers m ≡ Some n → n < length read.dynamic_symbols
   old_below = all.below
 
-  -- all of them
+  -- the numbers that are made are the new ones of all dynamic symbols
   pub dynamic_told : (numbers : List ℕ) (i : ℕ) → length numbers ≡ length read.dynamic_symbols → length order ≤ i
       → AreNumberedTo (dynamic_olds read image) i numbers → numbers ≡ new_dynamic_symbols read image
   dynamic_told numbers i long past are =

@@ -128,7 +128,7 @@ module _ (read image : Image) (f : ReadFacts read image) where
           (keeps_first read image f n s is).0 h ∙ sym h
           ∙ sym (ap (λ (o : Option KeptSection). elim o as (λ _. ℕ) [ Some k ↦ k.position | None ↦ n ]) is)
 
-  -- else it has the new one
+  -- where the table doesn't have 0, the number is the new one
   pub number_moves : (n : ℕ) → (new_section image n == 0) ≡ false → new_section image n ≡ new_number image n
   number_moves n some = by_kept (kept_at_number n image) refl some
     where

@@ -30,7 +30,7 @@ pub record HasVersion (version : Option VersionId) : Type 0 where
   pub is_id : version ≡ Some id
   pub fits : is_index_too_large id ≡ false
 
--- one that was read does
+-- a version that was read has an index that fits
 read_fits : (form : Form) (bytes : List ℕ) → is_index_too_large (version_id form bytes) ≡ false
 unfolding version_id
 read_fits form bytes =

@@ -28,14 +28,14 @@ pub record IsReordering (read image : Image) (r : Reordering) : Type 0 where
   pub numbers : AreNewNumbers (table_number SHT_DYNSYM image) (new_dynamic_symbols read image) r.numbers
   pub few : length image.dynamic_symbols < 2 ^ 32
 
--- there is one just where the names aren't those that were read
+-- there is a new order just where the names aren't those that were read
 abbrev pub IsReorderingFor : Image → Image → Option Reordering → Type 0
 IsReorderingFor read image None = are_names_changed read image ≡ false
 IsReorderingFor read image (Some r) = IsReordering read image r
 
 -- ## Static symbols
 
--- some of them went, and others are there, which relocations may name
+-- some static symbols went, and others are there, which relocations may name
 abbrev pub are_static_numbers_new : Image → Image → Bool
 are_static_numbers_new read image = is_static_renumbered read image && is_some (table_number SHT_SYMTAB image)
 

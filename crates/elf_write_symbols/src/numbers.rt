@@ -47,7 +47,7 @@ pub(crate) fn dynamic_numbers(
     Ok(numbers)
 }
 
-// Puts at the number at read of each static symbol where it stands.
+// Puts at the number at read of each static symbol where the symbol stands.
 fn number_static(numbers: &mut [u32], read: &Builder<'_>, image: &Builder<'_>)
     requires ready { IsEditedReady read.now image.now }
     requires few { length image.now.symbols < 2 ^ 32 }

@@ -15,7 +15,7 @@ pub struct NewSections {
     pub numbers: Vec<u16>,
 }
 
-// Puts at the number at read of each section where it stands.
+// Puts at the number at read of each section where the section stands.
 fn number_sections(numbers: &mut [u16], read: &Builder<'_>, image: &Builder<'_>)
     requires ready { IsEditedReady read.now image.now }
     requires none { numbers.old ≡ replicate (length read.now.sections) 0 }

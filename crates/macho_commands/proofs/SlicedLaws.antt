@@ -117,7 +117,7 @@ steps_in : (calls : List Call) (file : List ℕ) (parts : List Part) → ArePart
 steps_in calls file [] are = refl
 steps_in calls file (p ∷ parts) are = rw (are.0.steps, steps_in calls file parts are.1) refl
 
--- how they lie
+-- the parts of a file lie apart
 apart_after : (a : FatArch) (start size : ℕ) (parts : List Part) → a.offset + a.size ≤ start → AreRising start size (map arch_in parts) → ApartFrom a (map slice_in parts)
 apart_after a start size [] low rising = tt
 apart_after a start size (p ∷ parts) low rising =

@@ -45,7 +45,7 @@ asked (batch path calls) = several (Ok calls)
 asked (sign path) = several (Ok [])
 asked (verify path) = several (Ok [])
 
--- what comes of it: new bytes, or what is found wrong first
+-- what comes of a command: new bytes, or what is found wrong first
 pub data Outcome : Type 0 where
   bytes : List ℕ → Outcome
   -- the words name no edits
@@ -248,6 +248,6 @@ pub record WritesBy (signs : Signs) (a : Asked) (file : List ℕ) (fronts : List
   pub is : outcome_by signs a file ≡ bytes (laid slots (fronts_on fronts file))
   pub shows : ShowsBy signs a file (laid slots (fronts_on fronts file))
 
--- what a command makes of them
+-- what a command makes of the bytes of a file
 abbrev pub Writes : Signing → MachoMeaning → List ℕ → List Front → List Slot → Type 0
 Writes choice meaning file fronts slots = WritesBy (signs_of choice meaning) (asked meaning) file fronts slots

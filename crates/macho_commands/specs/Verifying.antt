@@ -9,7 +9,7 @@ use Rattle.macho_commands.specs.Engine.Asked.{several}
 use Rattle.macho_commands.specs.declared.error.MachoCommandError.{MachoCommandError}
 use Rattle.macho_commands.specs.declared.error.MachoCommandError.TheVariants.{Macho, Memory, Signing}
 
--- none of any part of a file does
+-- no page of any part of a file fails to fit
 unfoldable pub do_pages_fit : List ℕ → Bool
 do_pages_fit bytes = list_all has_none (parts_checked bytes)
 

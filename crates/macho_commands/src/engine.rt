@@ -90,7 +90,7 @@ pub fn run_macho_telling(
 /// What a command writes over the bytes of a file, and the line of its note.
 #[derive(Drop)]
 struct Made {
-    /// The fronts of its edits.
+    /// The fronts of the command's edits.
     fronts: Vec<Front>,
     /// The slots of signatures, which are laid behind the fronts.
     slots: Vec<Slot>,

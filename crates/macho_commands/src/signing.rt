@@ -13,10 +13,10 @@ pub enum Signing {
 /// Which slots of ad-hoc code signatures are made anew.
 #[derive(Clone, Copy, Debug)]
 pub enum Signs {
-    /// None.
+    /// No slots.
     Nothing,
     /// The slots of the pages in which the edit changed a byte.
     Touched,
-    /// All.
+    /// All slots.
     Whole,
 }

@@ -40,7 +40,7 @@ without_one p xs i h unmet = sym (skip_one p (take i xs) (drop (i + 1) xs) (get_
 abbrev BuildsNone : (List ℕ → Bool) → Result (List ℕ) Cause → Type 0
 BuildsNone p built = (c : List ℕ) → built ≡ Ok c → p c ≡ false
 
--- nor does the command at the place that was found
+-- the command at the place that was found doesn't pass either
 abbrev FindsNone : (List ℕ → Bool) → List (List ℕ) → Option ℕ → Type 0
 FindsNone p old place = (i : ℕ) → place ≡ Some i → (i < length old) × (p (get_or old i []) ≡ false)
 

@@ -119,7 +119,7 @@ old_fit old edited same told =
     let p : Part = get_or (parts_of old) k e in
     fit_told (part_bytes old p) (part_bytes edited p) (same.each k e here) (each k e here))
 
--- where they hold those of the new ones, these are told to fit
+-- where the slots hold the hashes of the new pages, these are told to fit
 new_fit : (edited new : List ℕ) → InEachPart TellsSameLayout edited new → FitIn edited new → DoAdhocFit new
 unfolding parts_checked
 new_fit edited new same fits =

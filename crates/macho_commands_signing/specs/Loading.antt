@@ -25,7 +25,7 @@ pub record IsFirstOf (loaded : Loaded) (file : List ℕ) : Type 0 where
   pub first : loaded.bytes.items ≡ take (2 ^ 32) file
   pub long : loaded.length ≡ length loaded.bytes.items
 
--- or its front
+-- what was read of a file is its front
 pub record IsFrontRead (loaded : Loaded) (file : List ℕ) : Type 0 where
   pub front : IsFrontOf loaded.bytes.items file
   pub long : loaded.length ≡ length file

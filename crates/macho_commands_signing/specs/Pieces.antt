@@ -25,6 +25,6 @@ abbrev pub LaysOn : List Piece → List Piece → List ℕ → List ℕ → Type
 LaysOn old new before after =
     (file : List ℕ) → laid (patches_of old) file ≡ before → laid (patches_of new) file ≡ after
 
--- where the old pieces lie in so many bytes, the new ones do
+-- where the old pieces lie in so many bytes, the new pieces do too
 abbrev pub LiesOn : ℕ → List Piece → List Piece → Type 0
 LiesOn len old new = All (LiesIn len) (patches_of old) → All (LiesIn len) (patches_of new)

@@ -21,7 +21,7 @@ pub(crate) const LONG_FRONT: usize = 1 << 20;
 pub struct Loaded {
     /// The file's first bytes.
     pub bytes: Vec<u8>,
-    /// How many bytes it has, if it has no more than `MOST_BYTES`.
+    /// How many bytes the file has, if it has no more than `MOST_BYTES`.
     pub length: u64,
 }
 

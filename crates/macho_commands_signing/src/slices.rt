@@ -25,7 +25,7 @@ const MOST_SLICES: usize = 32;
 pub struct SliceFront {
     /// Where the slice begins in the file.
     pub offset: u64,
-    /// How many bytes it has.
+    /// How many bytes the slice has.
     pub size: u32,
     /// The slice's first bytes.
     pub bytes: Vec<u8>,

@@ -18,7 +18,7 @@ use Rattle.macho_edits.specs.Built.{built_dylib, built_rpath, built_size, dylib_
 use Rattle.macho_edits.proofs.BuiltLaws.{AreWords, dylib_built-at_ok, dylib_of-built_dylib, length-fields, rpath_built-at_ok, rpath_of-built_rpath}
 use Rattle.macho_edits.specs.Call.Cause.{too_long}
 
--- one more field
+-- the fields of a command with one more
 pub fields-push : (order : ByteOrder2) (xs : List ℕ) (x : ℕ) → fields order (xs ++ x ∷ []) ≡ fields order xs ++ bytes_of order 4 x
 fields-push order [] x = append-nil (bytes_of order 4 x)
 fields-push order (y ∷ ys) x = ap (λ (r : List ℕ). bytes_of order 4 y ++ r) (fields-push order ys x) ∙ sym (append_assoc (bytes_of order 4 y) (fields order ys) (bytes_of order 4 x))

@@ -4,7 +4,7 @@ use Rattle.std.specs.List.{position, position_or_len, prefix_len, remove}
 use Rattle.std.proofs.lemmas.List.{drop-map, length-map, map-append, map-set, map_push, take-map}
 use Rattle.patch_bytes.specs.ByteString.{StringValue, bytes_of_each, owned_string}
 
--- one more behind them
+-- one string more behind the others
 pub pushed : (old new : List StringValue) (s : StringValue) (bytes : List ℕ) → new ≡ old ++ s ∷ [] → s ≡ owned_string bytes → bytes_of_each old ++ bytes ∷ [] ≡ bytes_of_each new
 pushed old new s bytes is owned =
     ap (λ (x : StringValue). bytes_of_each old ++ x.bytes ∷ []) (sym owned)

@@ -9,7 +9,7 @@ pub data Call : Type 0 where
   change_install_id : (new : List ℕ) → Call
   change_install_name : (old new : List ℕ) → Call
 
--- why it is refused
+-- why an edit is refused
 pub data Cause : Type 0 where
   -- no rpath command has this text
   rpath_missing : (text : List ℕ) → Cause

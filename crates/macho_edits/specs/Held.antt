@@ -11,7 +11,7 @@ pub record Held : Type 0 where
   pub state : State
   pub is_edited : Bool
 
--- the parsed file in it
+-- the parsed file in a container
 abbrev pub image_model : Held → Image
 image_model held = record { bytes = laid_bytes held.state; is_edited = held.is_edited }
 

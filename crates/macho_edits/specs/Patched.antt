@@ -94,7 +94,7 @@ as_load_dylib c = option_map (λ fields. (c, fields)) (load_dylib_in c.command)
 abbrev pub as_id : LoadCommand → Option (LoadCommand × DylibCommand)
 as_id c = option_map (λ fields. (c, fields)) (id_in c.command)
 
--- all such commands of a list, in order
+-- all commands of a list that hold an rpath, the name of a library or the library's own name, in order
 abbrev pub rpaths_in : List LoadCommand → List (LoadCommand × RpathCommand)
 rpaths_in commands = filter_map as_rpath commands
 

@@ -33,7 +33,7 @@ pub enum MachoError {
     NoRoom {
         /// Where the commands would end.
         needed: u64,
-        /// The greatest offset where they may end.
+        /// The greatest offset where the commands may end.
         available: u64,
     },
     /// There was no memory.

@@ -71,7 +71,7 @@ unfolding contents_of
 contents_of-none order c a b d =
     rw (ne_eqb (cmd_of order c) LC_SEGMENT a, ne_eqb (cmd_of order c) LC_SEGMENT_64 b, ne_eqb (cmd_of order c) LC_SYMTAB d) refl
 
--- nor does one that holds a text
+-- a command that holds a text names no content
 no_text : (cmd kind : ℕ) → is_text_kind kind ≡ false → is_text_kind cmd ≡ true → cmd ≡ kind → ⊥
 no_text cmd kind out text same = let e : is_text_kind cmd ≡ is_text_kind kind = ap is_text_kind same in cc
 

@@ -161,7 +161,7 @@ some_share-IsPermutation xs ys moved =
       | inr apart ↦ false_from_ne_true (some_share ys) (λ e. both_ways (some_share xs) apart (shared_kept ys xs (IsPermutation-sym xs ys moved) e)) ∙ sym apart
     ]
 
--- nor do the empty ones
+-- empty slices don't matter
 pub some_share-filter : (archs : List FatArch) → some_share (filter (λ a. nat_lt 0 a.size) archs) ≡ some_share archs
 some_share-filter [] = refl
 some_share-filter (a ∷ rest) =
@@ -179,7 +179,7 @@ some_share-filter (a ∷ rest) =
 pub rises_rest : (a : FatArch) (rest : List FatArch) → IsNonDecreasingBy (λ b. b.offset) (a ∷ rest) → IsNonDecreasingBy (λ b. b.offset) rest
 rises_rest a rest up = λ i j d order within. up (suc i) (suc j) d (omega arith) (omega arith)
 
--- where the second begins behind the first's end, all do
+-- where the second slice begins behind the first one's end, all do
 pub apart_from_first : (a b : FatArch) (rest : List FatArch) → IsNonDecreasingBy (λ c. c.offset) (b ∷ rest) → a.offset + a.size ≤ b.offset → list_any (share_byte a) (b ∷ rest) ≡ false
 apart_from_first a b rest up behind =
     list_any_none (share_byte a) (b ∷ rest)

@@ -12,7 +12,7 @@ use Rattle.macho_image.specs.Commands.{cut_commands, least, located_commands}
 use Rattle.macho_image.proofs.CommandLaws.{command_passes}
 use Rattle.macho_image.proofs.ContentLaws.{least-append}
 
--- a command that fails is the first that does
+-- a command that fails is the first one that fails
 pub fails_first : (order : ByteOrder2) (count i : ℕ) (rest : List ℕ) (all : Option MachFault) (fault : MachFault) → i < count → area_fault order (count - i) rest ≡ all → command_fault order rest ≡ Some fault → all ≡ Some fault
 fails_first order count i rest all fault within before fails =
     let left : count - i ≡ suc (count - (i + 1)) = omega arith in

@@ -43,7 +43,7 @@ before_nul-append (b ∷ text) rest none =
     let left : before_nul (text ++ 0 ∷ rest) ≡ text = before_nul-append text rest (All-tail P b text none) in
     rw (here, left) refl
 
--- before nothing
+-- a text with no NUL, before nothing
 pub before_nul-all : (text : List ℕ) → HoldsNoNul text → before_nul text ≡ text
 before_nul-all [] none = refl
 before_nul-all (b ∷ text) none =

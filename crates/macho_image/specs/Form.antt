@@ -44,7 +44,7 @@ ctx_of bytes = unwrap_or (form_of bytes) (form W64 Little)
 abbrev pub ncmds_of : Ctx → List ℕ → ℕ
 ncmds_of ctx bytes = number_at ctx.le 4 NCMDS_AT bytes
 
--- how many bytes the header says that they have
+-- how many bytes the header says that the load commands have
 abbrev pub sizeofcmds_of : Ctx → List ℕ → ℕ
 sizeofcmds_of ctx bytes = number_at ctx.le 4 SIZEOFCMDS_AT bytes
 

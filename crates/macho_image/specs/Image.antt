@@ -14,7 +14,7 @@ pub record Image : Type 0 where
 abbrev pub fresh_image : List ℕ → Image
 fresh_image bytes = record { bytes = bytes; is_edited = false }
 
--- where both counts of a header end
+-- where the two counts of a header end
 abbrev pub COUNTS_END : ℕ
 COUNTS_END = SIZEOFCMDS_AT + 4
 

@@ -8,7 +8,7 @@ use Rattle.macho_image.specs.Commands.{cut_commands, least, located_commands}
 use Rattle.macho_image.specs.Form.{header_size}
 use Rattle.macho_image.specs.Prepared.{NewArea}
 
--- the area, with what it is for
+-- the prepared area, with what it is for
 abbrev pub new_area_of : Inside → NewArea
 new_area_of p = record { form = p.ctx; count = p.count; area = p.area.items; copy = option_map (λ copy. copy.items) p.copy }
 

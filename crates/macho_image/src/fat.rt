@@ -27,7 +27,7 @@ pub struct FatArch {
     pub cpusubtype: u32,
     /// Where the slice begins in the file, in bytes.
     pub offset: u32,
-    /// How many bytes it has.
+    /// How many bytes the slice has.
     pub size: u32,
     /// The slice's alignment, as a power of 2.
     pub align: u32,

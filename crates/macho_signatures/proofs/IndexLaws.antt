@@ -48,7 +48,7 @@ none_bad_of len end len' end' n s made first second is good =
     let Q : ℕ → Type 0 = λ m. list_any (is_bad_blob len m) (first_blobs s n) ≡ false in
     subst P first (subst Q second (none_bad len end n s made is good))
 
--- all were read
+-- all blobs were read
 pub all_blobs : (s : List ℕ) (i n : ℕ) (made : List Blob) → i ≤ n → n ≤ i → made ≡ first_blobs s i → made ≡ first_blobs s n
 all_blobs s i n made below above is = let e : i ≡ n = omega arith in is ∙ ap (first_blobs s) e
 

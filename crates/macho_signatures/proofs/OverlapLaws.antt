@@ -137,7 +137,7 @@ some_overlap-IsPermutation xs ys moved =
 pub rises_rest : (a : Blob) (rest : List Blob) → IsNonDecreasingBy (λ b. b.offset) (a ∷ rest) → IsNonDecreasingBy (λ b. b.offset) rest
 rises_rest a rest up = λ i j d order within. up (suc i) (suc j) d (omega arith) (omega arith)
 
--- where the second begins behind the first's end, all do
+-- where the second blob begins behind the first one's end, all do
 pub apart_from_first : (a b : Blob) (rest : List Blob) → IsNonDecreasingBy (λ c. c.offset) (b ∷ rest) → a.offset + a.size ≤ b.offset → list_any (overlap a) (b ∷ rest) ≡ false
 apart_from_first a b rest up behind =
     list_any_none (overlap a) (b ∷ rest)

@@ -11,7 +11,7 @@ use Rattle.macho_signatures.specs.declared.renewal.Slot.{Slot}
 abbrev pub meets_page : Directory → ℕ → ByteRange → Bool
 meets_page d page range = nat_lt (max range.begin (page_start d page)) (min range.end (page_end d page))
 
--- some byte of some of the ranges does
+-- some byte of some of the ranges lies in the page
 unfoldable pub is_touched : Directory → List ByteRange → ℕ → Bool
 is_touched d touched page = list_any (meets_page d page) touched
 

@@ -76,7 +76,7 @@ long_directory length f hash_offset scatter =
 abbrev pub file : Fields → List ℕ
 file f = abc ++ with f
 
--- accepted, and what it tells
+-- a signature is accepted, and what it tells
 pub record AcceptedRows : Type 0 where
   pub accepted : signature_fault 3 98 (file good) ≡ None
   pub padded : signature_fault 3 100 (file good ++ 0 ∷ 0 ∷ []) ≡ None
@@ -126,7 +126,7 @@ pub record DirectoryRows : Type 0 where
   pub magic : signature_fault 3 98 (file (record good { magic = 0xfade0c01 })) ≡ Some BadDirectory
   pub early : signature_fault 3 98 (file (record good { version = 0x20000 })) ≡ Some BadDirectory
   pub late : signature_fault 3 98 (file (record good { version = 0x20601 })) ≡ Some BadDirectory
-  -- the fields of the latest version don't lie in it
+  -- the fields of the latest version don't lie in the directory
   pub fields : signature_fault 3 98 (file (record good { version = 0x20600 })) ≡ Some BadDirectory
   pub slots_before : signature_fault 3 98 (file (record good { hash_offset = 43 })) ≡ Some BadDirectory
   pub special : signature_fault 3 98 (file (record good { special = 1 })) ≡ Some BadDirectory

@@ -26,9 +26,9 @@ pub(crate) const BLOB_HEADER: usize = 8;
 pub(crate) struct Blob {
     /// The type of its slot, `CSSLOT_..` of cs_blobs.h.
     pub(crate) kind: u32,
-    /// Where it begins, from the SuperBlob on.
+    /// Where the blob begins, from the SuperBlob on.
     pub(crate) offset: u32,
-    /// How many bytes it says that it has.
+    /// How many bytes the blob says that it has.
     pub(crate) size: u32,
 }
 

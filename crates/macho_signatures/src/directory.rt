@@ -61,7 +61,7 @@ impl HashKind {
 /// A code directory of a file: `CS_CodeDirectory` of cs_blobs.h. Positions are from the beginning of the thin file.
 #[derive(Clone, Copy, Debug, PartialEq, Eq)]
 pub struct Directory {
-    /// The version of its layout.
+    /// The version of the directory's layout.
     pub version: u32,
     /// The flags of the signature, `CS_ADHOC` 0x2 and others.
     pub flags: u32,
@@ -77,7 +77,7 @@ pub struct Directory {
     pub slots: usize,
     /// Where the identifier stands.
     pub identifier: usize,
-    /// How many bytes it has before its NUL.
+    /// How many bytes the identifier has before its NUL.
     pub identifier_len: usize,
 }
 

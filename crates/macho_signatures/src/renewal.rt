@@ -12,18 +12,18 @@ use std::alloc::{AllocError, Global};
 /// Bytes of a file: those from `begin` on that stand before `end`.
 #[derive(Clone, Copy, Debug, PartialEq, Eq)]
 pub struct ByteRange {
-    /// Where they begin.
+    /// Where the range begins.
     pub begin: usize,
-    /// Where they end.
+    /// Where the range ends.
     pub end: usize,
 }
 
 /// A slot with what is to stand in it.
 #[derive(Clone, Copy, Debug, PartialEq, Eq)]
 pub struct Slot {
-    /// Where it stands in the thin file.
+    /// Where the slot stands in the thin file.
     pub place: usize,
-    /// The hash of its page.
+    /// The hash of the slot's page.
     pub hash: PageHash,
 }
 

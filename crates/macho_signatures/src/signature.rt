@@ -29,7 +29,7 @@ pub const CMS_MAGIC: u32 = 0xfade_0b01;
 /// A code signature.
 #[derive(Debug, Drop)]
 pub struct Signature {
-    /// Where it begins in the thin file.
+    /// Where the signature begins in the thin file.
     pub start: usize,
     /// The signature's code directories, in the order of its index.
     pub directories: Vec<Directory>,

@@ -166,7 +166,7 @@ signs_adhoc old new rest signature place found made long ok told behind read adh
       placed = held_placed bytes found holds plain;
     }
 
--- none of one that an identity made
+-- there are no slots of a signature that an identity made
 pub signs_none : (old new rest signature : List ℕ) (place : Place) (found : Signature) (made : ThinSlots) → file_fault new ≡ None → signature_place new ≡ Ok (Some place) → length new ≤ place.dataoff → IsReadAt place.dataoff signature found → found.is_signed ≡ true → made.is_left ≡ true → made.slots.items ≡ [] → HasSignature (new ++ rest) place signature → SignsThin (since (old ++ rest)) (new ++ rest) made
 signs_none old new rest signature place found made ok told behind read signed left slots has =
     let pages : Pages = since (old ++ rest) in
@@ -182,7 +182,7 @@ signs_none old new rest signature place found made ok told behind read signed le
       placed = no_slots_placed bytes none;
     }
 
--- none without a signature
+-- there are no slots without a signature
 pub signs_plain : (old new rest : List ℕ) (made : ThinSlots) → length (new ++ rest) < 2 ^ 32 → file_fault new ≡ None → signature_place new ≡ Ok None → made.is_left ≡ false → made.slots.items ≡ [] → SignsThin (since (old ++ rest)) (new ++ rest) made
 signs_plain old new rest made short ok told left slots =
     let pages : Pages = since (old ++ rest) in

@@ -25,7 +25,7 @@ parts_of bytes =
     if begins_fat bytes then map slice_part (archs_of bytes)
     else (record { offset = 0; size = length bytes } ∷ [])
 
--- the bytes of one of them
+-- the bytes of one of the thin files in a file
 abbrev pub part_bytes : List ℕ → Part → List ℕ
 part_bytes bytes part = take part.size (drop part.offset bytes)
 

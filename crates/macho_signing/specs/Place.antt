@@ -18,7 +18,7 @@ signature_commands order commands = filter (λ c. cmd_of order c == LC_CODE_SIGN
 abbrev pub place_of : ByteOrder2 → List ℕ → Place
 place_of order c = record { dataoff = number_at order 4 8 c; datasize = number_at order 4 12 c }
 
--- what the one of them tells, if there is any
+-- what the one command that tells of a signature tells, if there is any
 abbrev pub place_in : ByteOrder2 → List (List ℕ) → Result (Option Place) SigningFault
 place_in order [] = Ok None
 place_in order (c ∷ []) = if nat_lt (length c) LINKEDIT_COMMAND_SIZE then Err BadCommand else Ok (Some (place_of order c))

@@ -17,9 +17,9 @@ use std::alloc::{AllocError, Global};
 /// A thin file in a file: a slice of a fat one, or the whole.
 #[derive(Clone, Copy, Debug, PartialEq, Eq)]
 pub struct Part {
-    /// Where it begins in the file.
+    /// Where the part begins in the file.
     pub offset: usize,
-    /// How many bytes it has.
+    /// How many bytes the part has.
     pub size: usize,
 }
 

@@ -23,16 +23,16 @@ pub const LINKEDIT_COMMAND_SIZE: usize = 16;
 /// What a load command tells of a signature.
 #[derive(Clone, Copy, Debug, PartialEq, Eq)]
 pub struct Place {
-    /// Where it begins in the thin file.
+    /// Where the signature begins in the thin file.
     pub dataoff: u32,
-    /// How many bytes it has.
+    /// How many bytes the signature has.
     pub datasize: u32,
 }
 
 /// What is found of a signature in a thin file.
 #[derive(Clone, Copy, Debug, PartialEq, Eq)]
 pub struct Found {
-    /// Where it lies, if there is one.
+    /// Where the signature lies, if there is one.
     pub place: Option<Place>,
     /// Where the load commands end.
     pub commands_end: usize,

@@ -6,7 +6,7 @@ use crate::file::Part;
 /// Which pages get their slots made anew.
 #[derive(Clone, Copy, Debug)]
 pub enum Scope<'a> {
-    /// All of them.
+    /// All pages.
     All,
     /// The pages in which a byte differs from these bytes, which are as many as those of the file.
     Since(&'a [u8]),

@@ -122,7 +122,7 @@ fn shrink(
     shrink_to(alloc, file, prefixes.as_slice(), answers, out)
 }
 
-/// Shrinks them to directories that these prefixes begin.
+/// Shrinks run paths to directories that these prefixes begin.
 fn shrink_to(
     alloc: Global,
     file: &mut ElfContainer<'_>,

@@ -16,7 +16,7 @@ pub(crate) fn edit(alloc: Global, line: &str, out: &mut String) -> Result<(), Al
     edit_entries(alloc, needed, entries.as_slice(), out)
 }
 
-/// Does them to entries.
+/// Does edits to entries.
 fn edit_entries(
     alloc: Global,
     needed: u32,

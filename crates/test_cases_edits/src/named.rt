@@ -84,7 +84,7 @@ fn rename(
     }
 }
 
-/// Makes a call by which they go.
+/// Makes a call by which symbols or sections go.
 fn delete(
     alloc: Global,
     writer: &mut Writer<'_>,

@@ -87,7 +87,7 @@ pub(crate) fn shrink_list(alloc: Global, line: &str, out: &mut String) -> Result
     shrink_entries(alloc, entries.as_slice(), rest, out)
 }
 
-/// Shrinks them by the prefixes and the answers of a line.
+/// Shrinks the run paths of a list by the prefixes and the answers of a line.
 fn shrink_entries(
     alloc: Global,
     entries: &[Dynamic<'_>],
@@ -99,7 +99,7 @@ fn shrink_entries(
     shrink_to(alloc, entries, prefixes.as_slice(), answers, out)
 }
 
-/// Shrinks them to directories that these prefixes begin.
+/// Shrinks run paths to directories that these prefixes begin.
 fn shrink_to(
     alloc: Global,
     entries: &[Dynamic<'_>],

@@ -53,7 +53,7 @@ fn run_alone<C: Cases>(rt: &HostRuntime, cases: &C, line: &str) -> io::Result<()
     print!(rt; "{out}")
 }
 
-/// What comes of it, once more where memory was refused.
+/// What comes of a line, once more where memory was refused.
 fn answer_again<C: Cases>(
     alloc: Global,
     cases: &C,
@@ -81,7 +81,7 @@ fn run_on_bytes<C: Cases>(rt: &HostRuntime, cases: &C, bytes: &[u8], line: &str)
     print!(rt; "{out}")
 }
 
-/// What comes of it, once more where memory was refused.
+/// What comes of a line for a file of these bytes, once more where memory was refused.
 fn answer_on_file_again<C: Cases>(
     alloc: Global,
     cases: &C,

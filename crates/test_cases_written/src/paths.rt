@@ -15,7 +15,7 @@ pub(crate) fn print_path(rt: &HostRuntime, file: &ElfContainer<'_>, path: &str) 
     Ok(())
 }
 
-/// Writes it, and prints what came of it.
+/// Writes a file to a path, and prints what came of it.
 fn print_written(rt: &HostRuntime, file: &ElfContainer<'_>, path: &str) -> io::Result<()> {
     tell_path(rt, file, path)?;
     match content(rt, path) {
@@ -24,7 +24,7 @@ fn print_written(rt: &HostRuntime, file: &ElfContainer<'_>, path: &str) -> io::R
     }
 }
 
-/// Writes it, again where memory was refused.
+/// Writes a file to a path, again where memory was refused.
 fn tell_path(rt: &HostRuntime, file: &ElfContainer<'_>, path: &str) -> io::Result<()> {
     match file.write_to_path(rt, path) {
         Err(ElfError::Memory) => tell_answer(rt, &file.write_to_path(rt, path)),

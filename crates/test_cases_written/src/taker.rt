@@ -4,7 +4,7 @@ ghost use Rattle.std.specs.Prelude.{◌≡◌, None, Some, if◌then◌else◌, 
 use std::io;
 use std::io::{ErrorKind, Write};
 
-/// Compares what it takes with what it wants.
+/// Compares what the writer takes with what it wants.
 #[derive(Drop)]
 pub(crate) struct Taker<'a> {
     want: &'a [u8],

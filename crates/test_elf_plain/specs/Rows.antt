@@ -40,7 +40,7 @@ pub record SmallRows (s : Small) (size : ℕ) : Type 0 where
   pub loaded : loader_view (small_file s) 0 ≡ Some small_view
   pub counted : dynamic_symbol_count (small_file s) ≡ 0
 
--- with one change it is refused, for the reason that the change gives
+-- with one change the small library is refused, for the reason that the change gives
 pub record ChangedSmallRows (s : Small) : Type 0 where
   pub relocatable : IsRefused (small_file (record s { header = record s.header { e_type = 1 } })) Unsupported
   pub no_memory : IsRefused (small_file (record s { load = record s.load { p_memsz = s.places.names - 1 } })) (Disagree 2)

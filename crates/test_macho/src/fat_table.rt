@@ -29,7 +29,8 @@ pub(crate) fn lay_record(file: &mut [u8], index: usize, arch: &FatArch) {
     lay(file, place, &numbers, ByteOrder2::Big);
 }
 
-// A file of this length, with a header that tells so many slices, and records of these.
+// A file of this length, with a header that tells so many slices, and records of slices at these
+// places.
 fn file_with(
     alloc: Global,
     length: usize,

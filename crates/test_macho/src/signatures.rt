@@ -13,7 +13,7 @@ use std::alloc::Global;
 enum What {
     // That the signature is accepted.
     Nothing,
-    // All of it.
+    // All of the signature.
     Whole,
     // Whether no identity signed.
     IsAdhoc,

@@ -15,7 +15,7 @@ use std::alloc::{AllocError, Global};
 /// A section with its new size.
 #[derive(Clone, Copy)]
 pub struct Part {
-    /// Where it stands among the sections of the edited image, from 0.
+    /// Where the section stands among the sections of the edited image, from 0.
     pub position: usize,
     /// The section's number at read.
     pub(crate) number: usize,
@@ -64,7 +64,7 @@ pub struct Piece {
     pub p_flags: u32,
     /// Where its bytes begin in the file.
     pub offset: u128,
-    /// Where they are loaded.
+    /// Where the bytes of the program header are loaded.
     pub address: u128,
     /// The segment's physical address.
     pub physical: u128,

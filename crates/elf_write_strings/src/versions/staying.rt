@@ -38,7 +38,7 @@ fn names_staying<'n>(
     Ok(kept)
 }
 
-// The records of libraries that stay, each with those of its versions that do.
+// The records of libraries that stay, each with its versions that stay.
 fn needs_staying<'n>(
     alloc: Global,
     needs: &'n [VersionNeed<'_>],

@@ -56,7 +56,7 @@ pub(crate) fn run(rt: &HostRuntime, line: &str, way: Way) -> io::Result<()> {
     run_from(rt, line, way, &before)
 }
 
-/// Does it, where the file was read before.
+/// Does what the words of a line ask, where the file was read before.
 fn run_from(rt: &HostRuntime, line: &str, way: Way, before: &Option<Vec<u8>>) -> io::Result<()> {
     run_line(rt, line, way, before)?;
     print_file(rt, before)
@@ -129,7 +129,7 @@ fn execute_in_way(rt: &HostRuntime, words: &[&str], way: Way) -> Result<(), Arwe
     }
 }
 
-/// Does it by the module of its command.
+/// Does what words ask by the module of their command.
 fn execute_by_module(rt: &HostRuntime, words: &[&str]) -> Result<(), ArwenError> {
     modules::execute(rt, command_of(rt, words)?)
 }

@@ -23,7 +23,7 @@ fn changed(at: usize, word: u32) -> [u8; 378] {
 
 // A place of the signature, the word that is put there, what is looked at then, and what it shows or why it is refused.
 const CHANGES: &[(usize, u32, What, &str)] = &[
-    // As it is.
+    // The signature as it is.
     (0, 0xfade_0cc0, What::Whole, SHOWN),
     // How long the identity's message is.
     (340, 8, What::IsAdhoc, "true"),

@@ -6,7 +6,7 @@ use Rattle.elf_image_uses.specs.Staying.{staying, stays}
 use Rattle.elf_image_uses.proofs.ListSteps.{some_from}
 use Rattle.elf_image_uses.proofs.needed.is_gone_named.Given as goal
 
--- none of the sections so far stays and names one
+-- none of the sections so far stays and names a section that goes
 abbrev pub invariant-loop-i : goal.invariant-loop-i
 invariant-loop-i l =
     some_from (stays l.gone) (λ s. list_any (names_section s.section) l.gone) (kept_sections l.image) l.i

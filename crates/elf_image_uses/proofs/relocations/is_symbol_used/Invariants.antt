@@ -7,7 +7,7 @@ use Rattle.elf_image_uses.specs.Staying.{staying, stays}
 use Rattle.elf_image_uses.proofs.ListSteps.{some_from}
 use Rattle.elf_image_uses.proofs.relocations.is_symbol_used.Given as goal
 
--- none of the sections so far names one
+-- none of the sections so far names a symbol of these
 abbrev pub invariant-loop-i : goal.invariant-loop-i
 invariant-loop-i l =
     some_from (stays l.gone) (λ s. list_any (λ n. not (n == 0) && names_symbol l.form l.table n s.section) l.numbers) (kept_sections l.image) l.i

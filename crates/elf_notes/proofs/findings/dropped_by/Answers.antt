@@ -1,4 +1,4 @@
--- Both lists are joined.
+-- Both lists of names are joined.
 use Rattle.std.proofs.Common.{◌≡◌, ◌∙◌, ◌++◌, ap, filter, map, List, Bor}
 use Rattle.std.proofs.lemmas.Result.{IfOk-weaker}
 use Rattle.elf_edits.specs.Edit.{Edit}

@@ -4,6 +4,6 @@ use Rattle.elf_edits.specs.EditModel.{edit_model}
 use Rattle.elf_notes.specs.Notes.{has_no_names}
 use Rattle.elf_notes.proofs.findings.has_no_names.Given as goal
 
--- none so far lacks them
+-- no edit so far lacks names
 abbrev pub invariant-loop-edit : goal.invariant-loop-edit
 invariant-loop-edit l = list_any has_no_names (map edit_model (drop l.edit-index l.edits)) ≡ list_any has_no_names (map edit_model l.edits)

@@ -9,7 +9,7 @@ pub loop-back-init : goal.loop-back-init
 unfolding front_number
 loop-back-init c = refl
 
--- with one byte more, whichever it is
+-- there is room for one byte more, whichever it is
 room_for : (text : List ℕ) (back key : ℕ) → AreBytes text → back < 8 → key ≡ front_number back (reverse text) → key * 256 + 255 < 2 ^ 64
 room_for text back key bytes within is = end-fits back key within (subst (λ (n : ℕ). n < 256 ^ back) (sym is) (end-low text back bytes))
 

@@ -1,4 +1,4 @@
--- There are as many as sections were looked at, and each is its section's.
+-- There are as many contents as sections were looked at, and each is its section's.
 use Rattle.std.proofs.Common.{◌≡◌, length}
 use Rattle.patch_bytes.specs.ByteString.{bytes_of_each}
 use Rattle.elf_write_contents.specs.ContentSteps.{AreBytesOf}

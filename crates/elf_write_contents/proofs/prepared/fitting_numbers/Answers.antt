@@ -1,4 +1,4 @@
--- Where those of headers or of relocations don't fit, not all numbers do.
+-- Where the numbers of headers or of relocations don't fit, not all numbers do.
 use Rattle.std.proofs.Common.{sym, ◌∙◌}
 use Rattle.elf_write_contents.proofs.NumbersUnfit.{headers_unfit}
 use Rattle.elf_write_contents.proofs.PreparedFaults.{relocations_far}

@@ -1,4 +1,4 @@
--- All pages fit just where those of each slice do.
+-- All pages fit just where the pages of each slice do.
 use Rattle.std.proofs.Common.{ap, map, ◌∙◌}
 use Rattle.std.specs.List.{list_all}
 use Rattle.macho_signing.specs.Check.{checked_model}

@@ -1,4 +1,4 @@
--- Where the slices from one on rise from where those before it end, all do.
+-- Where the slices from one on rise from where the ones before it end, all rise.
 use Rattle.std.proofs.Common.{drop}
 use Rattle.macho_commands_signing.specs.Slices.{AreRising}
 use Rattle.macho_commands_signing.proofs.slices.are_rising.Given as goal

@@ -1,4 +1,4 @@
--- None so far has such a page.
+-- No part so far has a page that doesn't fit.
 use Rattle.std.proofs.Common.{◌≡◌, drop, map}
 use Rattle.std.specs.List.{list_all}
 use Rattle.macho_signing.specs.Check.{checked_model}

@@ -1,4 +1,4 @@
--- Where the fronts differ, the files do.
+-- Where the fronts differ, the files differ.
 use Rattle.std.proofs.Common.{◌≡◌, ◌-◌, ℕ, List, arith, drop, not, subst, take}
 use Rattle.std.specs.Str.{bytes_eq}
 use Rattle.macho_signatures.specs.Pages.{page_end}

@@ -1,4 +1,4 @@
--- All are there where there are as many.
+-- All symbols are there where there are as many as were read.
 use Rattle.std.proofs.Common.{length, sym, ap, ◌∙◌}
 use Rattle.std.proofs.lemmas.Bool.{eq-eqb, eqb-true}
 use Rattle.elf_image_symbols.specs.EditedList.{EditedList}

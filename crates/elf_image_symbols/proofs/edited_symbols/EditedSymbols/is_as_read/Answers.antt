@@ -1,4 +1,4 @@
--- All are there, and each change leaves its symbol as it was.
+-- All symbols are there, and each change leaves its symbol as it was.
 use Rattle.std.proofs.Common.{◌<◌, List, length, map-id, sym, ◌∙◌, subst}
 use Rattle.std.specs.List.{All}
 use Rattle.elf_format.specs.Views.{NamedSymbol}

@@ -1,4 +1,4 @@
--- All are there, and each change leaves the name of its symbol.
+-- All symbols are there, and each change leaves the name of its symbol.
 use Rattle.std.proofs.Common.{◌<◌, ℕ, List, length, sym, ap, ◌∙◌, subst}
 use Rattle.std.specs.List.{All}
 use Rattle.std.proofs.lemmas.Bool.{both_ways, false≢true}

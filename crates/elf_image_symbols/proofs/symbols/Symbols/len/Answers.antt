@@ -1,4 +1,4 @@
--- As many as records.
+-- As many symbols as records.
 use Rattle.std.proofs.Common.{◌/◌, length, ap, ◌∙◌}
 use Rattle.elf_image_symbols.proofs.SeenSteps.{seen_long}
 use Rattle.elf_image_symbols.proofs.symbols.Symbols.len.Goals as goal

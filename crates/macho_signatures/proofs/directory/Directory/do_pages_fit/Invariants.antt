@@ -1,4 +1,4 @@
--- All so far fit.
+-- All pages so far fit.
 use Rattle.std.proofs.Common.{◌≡◌, true}
 use Rattle.std.specs.List.{list_all, range_with_len}
 use Rattle.macho_signatures.specs.Pages.{is_fit}

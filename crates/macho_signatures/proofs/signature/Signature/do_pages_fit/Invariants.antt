@@ -1,4 +1,4 @@
--- All so far fit.
+-- All directories so far fit.
 use Rattle.std.proofs.Common.{◌≡◌, true, take}
 use Rattle.std.specs.List.{list_all}
 use Rattle.macho_signatures.specs.Pages.{is_fit, pages_of}
