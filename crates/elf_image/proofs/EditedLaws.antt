@@ -21,9 +21,9 @@ use Rattle.elf_format.specs.Records.{entry_numbers, entry_size}
 use Rattle.elf_format.specs.Rules.{ArePartsOf, MeetsRules, dynamic_texts_of, file_of, linked_texts, raw_entries, texts_of}
 use Rattle.elf_format.specs.Versions.{VersionNeeds}
 use Rattle.elf_format.specs.Views.{NamedSymbol, section_memory}
-use Rattle.elf_image_parts.specs.DynamicList.{IsListed, holds_nul}
+use Rattle.elf_image_headers.specs.DynamicList.{IsListed, holds_nul}
 use Rattle.elf_image.proofs.Unclaimed.{none_went}
-use Rattle.elf_image_parts.specs.Segments.{loads_end}
+use Rattle.elf_image_headers.specs.Segments.{loads_end}
 use Rattle.elf_image.specs.Edited.{AreEntriesOf, AreKept, ArePicked, AreSameNeeds, AreSegments, IsEdited, IsEditOf, IsInterpreterOf, IsName, IsSameDynamicSymbol, IsSameSection, IsSameSymbol, kept_segment}
 use Rattle.elf_image.specs.ReadImage.{AreDynamicSymbols, AreStaticSymbols, HoldsParts}
 use Rattle.elf_image.proofs.ReadComplete.{read_is_complete}

@@ -9,7 +9,7 @@ use Rattle.std.proofs.lemmas.Option.{none-some}
 use Rattle.elf_format.specs.declared.constants.TheConstants.{DT_NULL}
 use Rattle.elf_format.specs.Dynamic.{Auto, Entry, Integer, Text}
 use Rattle.elf_format.specs.Image.{entry_tag}
-use Rattle.elf_image_parts.specs.DynamicList.{IsListed, KeepsTables, can_delete, can_follow, can_retag, is_free_tag, is_table_tag, is_text_tag, retagged, table_tag, tables_of, with_tag, with_tag_at, without_tag}
+use Rattle.elf_image_headers.specs.DynamicList.{IsListed, KeepsTables, can_delete, can_follow, can_retag, is_free_tag, is_table_tag, is_text_tag, retagged, table_tag, tables_of, with_tag, with_tag_at, without_tag}
 use Rattle.elf_image.specs.Edited.{AreEntriesOf}
 
 -- an entry whose tag is no table's names no table

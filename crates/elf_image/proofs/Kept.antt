@@ -10,7 +10,7 @@ use Rattle.elf_format.specs.Dynamic.{Entry}
 use Rattle.elf_format.specs.File.{segment_of_type}
 use Rattle.elf_format.specs.Image.{Image}
 use Rattle.elf_format.specs.Versions.{VersionNeeds}
-use Rattle.elf_image_parts.specs.DynamicList.{all_but_last, holds_nul}
+use Rattle.elf_image_headers.specs.DynamicList.{all_but_last, holds_nul}
 use Rattle.elf_image.specs.Complete.{IsComplete}
 use Rattle.elf_image.specs.Edited.{AreEntriesOf, AreSegments, IsEdited, IsInterpreterOf}
 

@@ -9,7 +9,7 @@ use Rattle.elf_format.specs.declared.constants.TheConstants.{PT_GNU_STACK, PT_IN
 use Rattle.elf_format.specs.declared.records.SegmentHeader.{SegmentHeader}
 use Rattle.elf_format.specs.File.{segment_of_type}
 use Rattle.elf_image.specs.Edited.{AreKept, AreSegments, AreUnclaimed, CanGo, kept_segment}
-use Rattle.elf_image_parts.specs.Segments.{added_stack, loads_end, with_align, with_load_align, with_stack_added, with_stack_flags}
+use Rattle.elf_image_headers.specs.Segments.{added_stack, loads_end, with_align, with_load_align, with_stack_added, with_stack_flags}
 use Rattle.elf_image.proofs.Unclaimed.{end_aligned, end_same, find_unclaimed, loads_flagged, loads_pushed}
 
 -- ## Program headers

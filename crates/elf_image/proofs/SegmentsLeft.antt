@@ -11,7 +11,7 @@ use Rattle.elf_format.specs.declared.records.SegmentHeader.{SegmentHeader}
 use Rattle.elf_format.specs.File.{segment_of_type}
 use Rattle.elf_format.specs.Image.{Image}
 use Rattle.elf_format.specs.Options.{is_one_of}
-use Rattle.elf_image_parts.specs.Segments.{added_stack, loads_end}
+use Rattle.elf_image_headers.specs.Segments.{added_stack, loads_end}
 use Rattle.elf_image.specs.Along.{begins_in, is_deserted}
 use Rattle.elf_image.specs.Deleted.{does_interpreter_go, segments_left}
 use Rattle.elf_image.specs.Edited.{AreKept, AreSegments, AreUnclaimed, CanGo, kept_segment}

@@ -13,9 +13,9 @@ use Rattle.elf_format.specs.Image.{Image}
 use Rattle.elf_image.specs.Complete.{IsComplete}
 use Rattle.elf_image.specs.Edited.{AreKept, AreSegments, CanGo, IsEdited, IsReclaimed, kept_segment}
 use Rattle.elf_image.specs.Leave.{spare_facts, with_dynamic_move}
-use Rattle.elf_image_parts.specs.Segments.{added_stack, loads_end}
-use Rattle.elf_image_parts.specs.declared.segment.TheConstants.{MOST_SEGMENTS}
-use Rattle.elf_image_parts.specs.Spare.{SpareFacts, can_reclaim, could_be_spare, count_others, filled_in_sections, filled_in_spare, fixed_end, has_place, is_spare, others_end, segments_reclaimed, without_spare}
+use Rattle.elf_image_headers.specs.Segments.{added_stack, loads_end}
+use Rattle.elf_image_headers.specs.declared.segment.TheConstants.{MOST_SEGMENTS}
+use Rattle.elf_image_headers.specs.Spare.{SpareFacts, can_reclaim, could_be_spare, count_others, filled_in_sections, filled_in_spare, fixed_end, has_place, is_spare, others_end, segments_reclaimed, without_spare}
 use Rattle.elf_image.proofs.SegmentsKept.{gone_kept}
 use Rattle.elf_image.proofs.Unclaimed.{end_filtered, end_less, more_went}
 

@@ -12,7 +12,7 @@ use Rattle.elf_format.specs.Placement.{memory_part}
 use Rattle.elf_format.specs.Ranges.{end_of}
 use Rattle.elf_image.specs.Edited.{AreUnclaimed, IsReclaimed}
 use Rattle.elf_image.proofs.ListsLeft.{count_first}
-use Rattle.elf_image_parts.specs.Segments.{added_stack, loads_end, with_align, with_load_align, with_stack_added, with_stack_flags}
+use Rattle.elf_image_headers.specs.Segments.{added_stack, loads_end, with_align, with_load_align, with_stack_added, with_stack_flags}
 
 -- ## What is left of those that were read
 

@@ -2,7 +2,7 @@
 use Rattle.std.specs.Prelude.{map, Option}
 use Rattle.std.specs.Option.{option_map}
 use Rattle.std.specs.Global.{Vec}
-use Rattle.elf_image_parts.specs.declared.dynamic.Dynamic.{Dynamic}
+use Rattle.elf_image_headers.specs.declared.dynamic.Dynamic.{Dynamic}
 use Rattle.elf_image_versions.specs.declared.version.Versions.{Versions}
 use Rattle.elf_image.specs.ImageModel.{definition_model, entry_model, needs_model}
 use Rattle.elf_image.specs.ImageSteps.{ListedParts}

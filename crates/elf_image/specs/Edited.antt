@@ -12,9 +12,9 @@ use Rattle.elf_format.specs.Versions.{VersionNeeds}
 use Rattle.elf_format.specs.Views.{NamedSymbol}
 use Rattle.elf_image_symbols.specs.EditedList.{as_global}
 use Rattle.elf_image.specs.Complete.{IsComplete}
-use Rattle.elf_image_parts.specs.DynamicList.{IsListed, all_but_last, holds_nul, tables_of}
-use Rattle.elf_image_parts.specs.Segments.{added_stack, loads_end}
-use Rattle.elf_image_parts.specs.Spare.{has_place}
+use Rattle.elf_image_headers.specs.DynamicList.{IsListed, all_but_last, holds_nul, tables_of}
+use Rattle.elf_image_headers.specs.Segments.{added_stack, loads_end}
+use Rattle.elf_image_headers.specs.Spare.{has_place}
 
 -- ## Sections and symbols
 

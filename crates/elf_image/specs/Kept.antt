@@ -7,7 +7,7 @@ use Rattle.elf_format.specs.File.{segment_of_type}
 use Rattle.elf_format.specs.Image.{Image, ImageSection, image_of}
 use Rattle.elf_format.specs.Options.{first_there, is_some_and}
 use Rattle.elf_format.specs.Places.{Place}
-pub use Rattle.elf_image_parts.specs.Spare.{link_in_sections, stands_as_interpreter}
+pub use Rattle.elf_image_headers.specs.Spare.{link_in_sections, stands_as_interpreter}
 
 -- the image as its source was read, before any edit
 abbrev pub image_at_read : Image → Image

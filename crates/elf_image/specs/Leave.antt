@@ -1,7 +1,7 @@
 -- Spare segments of an image, and the leave with which they go.
 use Rattle.std.specs.Prelude.{true}
 use Rattle.elf_format.specs.Image.{Image}
-use Rattle.elf_image_parts.specs.Spare.{SpareFacts, segments_reclaimed}
+use Rattle.elf_image_headers.specs.Spare.{SpareFacts, segments_reclaimed}
 
 -- what decides on the spare segments of an image
 abbrev pub spare_facts : Image → SpareFacts

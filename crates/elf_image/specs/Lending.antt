@@ -4,7 +4,7 @@ use Rattle.std.specs.Borrow.{Fml, Lends, LendsIf, LendsIfOk, MutBor, u32}
 use Rattle.std.specs.declared.alloc.AllocError.{AllocError}
 use Rattle.elf_format.specs.Image.{Image}
 use Rattle.elf_format.specs.declared.records.SegmentHeader.{SegmentHeader}
-use Rattle.elf_image_parts.specs.Segments.{with_stack_added, with_stack_flags}
+use Rattle.elf_image_headers.specs.Segments.{with_stack_added, with_stack_flags}
 use Rattle.elf_image.specs.contracts.builder.Builder.{the_row}
 use mir.Syntax.{named}
 

@@ -17,11 +17,11 @@ pub mod ImageModel
 pub mod SymbolsRead
 pub mod SymbolEdits
 pub mod BuilderModel
-pub use Rattle.elf_image_parts.specs.DynamicTag
-pub use Rattle.elf_image_parts.specs.DynamicList
-pub use Rattle.elf_image_parts.specs.Segments
-pub use Rattle.elf_image_parts.specs.Spare
-pub use Rattle.elf_image_parts.specs.LendingFlags
+pub use Rattle.elf_image_headers.specs.DynamicTag
+pub use Rattle.elf_image_headers.specs.DynamicList
+pub use Rattle.elf_image_headers.specs.Segments
+pub use Rattle.elf_image_headers.specs.Spare
+pub use Rattle.elf_image_headers.specs.LendingFlags
 pub mod Lending
 pub mod Kept
 pub mod Leave
@@ -44,5 +44,5 @@ pub use Rattle.elf_image_versions.specs.declared.version.VersionDef
 pub use Rattle.elf_image_symbols.specs.FrontText
 pub use Rattle.elf_image_symbols.specs.Loan
 pub use Rattle.elf_image_symbols.specs.TableSymbols
-pub use Rattle.elf_image_parts.specs.declared.section.Section
+pub use Rattle.elf_image_headers.specs.declared.section.Section
 pub use Rattle.elf_image_symbols.specs.EditedList

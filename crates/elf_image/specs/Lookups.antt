@@ -6,7 +6,7 @@ use Rattle.elf_format.specs.declared.constants.TheConstants.{PT_INTERP, SHT_DYNA
 use Rattle.elf_format.specs.File.{segment_of_type}
 use Rattle.elf_format.specs.Image.{Image, image_of}
 use Rattle.elf_format.specs.Options.{first_there}
-use Rattle.elf_image_parts.specs.Spare.{stands_as_interpreter}
+use Rattle.elf_image_headers.specs.Spare.{stands_as_interpreter}
 
 -- the section that had a number at read
 abbrev pub section_position : Image → ℕ → Option ℕ

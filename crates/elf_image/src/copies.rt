@@ -7,9 +7,9 @@ ghost use Rattle.elf_image.specs.ImageSteps.{listed_model};
 use crate::builder::Builder;
 use crate::read::Listed;
 use crate::version::Versions;
-use elf_image_parts::dynamic::Dynamic;
-use elf_image_parts::section::Section;
-use elf_image_parts::segment;
+use elf_image_headers::dynamic::Dynamic;
+use elf_image_headers::section::Section;
+use elf_image_headers::segment;
 use patch_bytes::ByteString;
 use std::alloc::{AllocError, Global};
 

@@ -3,27 +3,27 @@ ghost use Rattle.std.specs.Prelude.{◌≡◌, ◌<◌, ◌==◌, All, IfOk, Mat
 ghost use Rattle.std.specs.Borrow.{sem};
 ghost use Rattle.std.specs.List.{remove};
 ghost use Rattle.elf_format.specs.declared.constants.TheConstants.{PT_GNU_STACK as STACK};
-ghost use Rattle.elf_image_parts.specs.DynamicList.{IsListed, KeepsTables, all_but_last, can_delete, can_retag, can_follow, holds_nul, is_free_tag, retagged, with_tag_at, without_tag};
+ghost use Rattle.elf_image_headers.specs.DynamicList.{IsListed, KeepsTables, all_but_last, can_delete, can_retag, can_follow, holds_nul, is_free_tag, retagged, with_tag_at, without_tag};
 ghost use Rattle.elf_image.specs.File.{segment_of_type};
 ghost use Rattle.elf_image.specs.Edited.{AreSameNeeds};
 ghost use Rattle.elf_image.specs.ImageModel.{entry_model, needs_model, segment_model};
-ghost use Rattle.elf_image_parts.specs.Segments.{added_stack as added_header, with_load_align, with_stack_added, with_stack_flags};
-ghost use Rattle.elf_image_parts.specs.SpareFrom.{reclaimable};
+ghost use Rattle.elf_image_headers.specs.Segments.{added_stack as added_header, with_load_align, with_stack_added, with_stack_flags};
+ghost use Rattle.elf_image_headers.specs.SpareFrom.{reclaimable};
 ghost use Rattle.elf_image.specs.Leave.{spare_facts, with_dynamic_move};
 
 use crate::builder::{Builder, Segment};
-use elf_image_parts::dynamic::Dynamic;
-use elf_image_parts::entries::{remove_entry, remove_tagged, retag_entries, retag_entry};
-use elf_image_parts::segment::STACK_FLAGS;
-use elf_image_parts::segments::{added_stack, align_loads, flag_stack, stack_position};
-use elf_image_parts::spare::{SpareFrom, SpareParts, reclaim};
+use elf_image_headers::dynamic::Dynamic;
+use elf_image_headers::entries::{remove_entry, remove_tagged, retag_entries, retag_entry};
+use elf_image_headers::segment::STACK_FLAGS;
+use elf_image_headers::segments::{added_stack, align_loads, flag_stack, stack_position};
+use elf_image_headers::spare::{SpareFrom, SpareParts, reclaim};
 use elf_image_versions::version::VersionNeed;
 use patch_bytes::ByteString;
 use std::alloc::{AllocError, Global};
 
 impl<'data> Builder<'data> {
     ghost use Rattle.elf_image.specs.Lending.{LendsAddedFlags, LendsFlagsOfStack, LendsStackFlags};
-    ghost use Rattle.elf_image_parts.specs.declared.segment.TheConstants.{STACK_FLAGS as ADDED_FLAGS};
+    ghost use Rattle.elf_image_headers.specs.declared.segment.TheConstants.{STACK_FLAGS as ADDED_FLAGS};
 
     /// Puts another dynamic list in place of the one that is there (gABI, Dynamic Section). The caller sees that
     /// it names the same tables in the same order, and that each entry may stand before the DT_NULL. Takes no

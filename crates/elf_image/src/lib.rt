@@ -16,8 +16,8 @@ pub use elf_format::machine::machine_of;
 pub use elf_format::{
     ElfFault, Form, Header, SectionData, VersionId, constants, laws as format_laws, records,
 };
-pub use elf_image_parts::segments::loads_end;
-pub use elf_image_parts::spare::is_movable_type;
-pub use elf_image_parts::{Dynamic, Section, dynamic, section, segment};
+pub use elf_image_headers::segments::loads_end;
+pub use elf_image_headers::spare::is_movable_type;
+pub use elf_image_headers::{Dynamic, Section, dynamic, section, segment};
 pub use elf_image_symbols::{EditedSymbols, Symbol, Symbols, SymbolsNow};
 pub use elf_image_versions::version::{self, VersionDef, VersionNeed, VersionNeedName, Versions};

@@ -8,8 +8,8 @@ use crate::builder::Builder;
 use elf_format::constants::{SHT_DYNAMIC, SHT_DYNSYM};
 use elf_format::numbers::{part, read_file_header};
 use elf_format::records::SegmentHeader;
-use elf_image_parts::section::Section;
-use elf_image_parts::spare::{interpreter_segment, link_in_sections, stands_as_interpreter};
+use elf_image_headers::section::Section;
+use elf_image_headers::spare::{interpreter_segment, link_in_sections, stands_as_interpreter};
 
 impl<'data> Builder<'data> {
     /// Where the section that had this number at read stands now (gABI, Sections); `None` where it is gone, or where

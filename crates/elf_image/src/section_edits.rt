@@ -9,7 +9,7 @@ ghost use Rattle.elf_image.specs.ImageModel.{section_model, segment_model, text_
 ghost use Rattle.elf_image.specs.SectionEdits.{with_section_name};
 
 use crate::builder::{Builder, Segment};
-use elf_image_parts::section::Section;
+use elf_image_headers::section::Section;
 use patch_bytes::ByteString;
 
 impl<'data> Builder<'data> {

@@ -12,7 +12,7 @@ use Rattle.elf_layout_plan.specs.Anchors.{is_loaded_section}
 use Rattle.elf_tables.specs.Complete.{IsComplete}
 use Rattle.elf_tables.specs.Edited.{AreUnclaimed}
 use Rattle.elf_tables.specs.Kept.{KeptSection, kept_sections, place_at_read}
-use Rattle.elf_image_parts.specs.Segments.{loads_end}
+use Rattle.elf_image_headers.specs.Segments.{loads_end}
 use Rattle.elf_layout_plan.specs.Memory.{Resized, has_lost_load, sized_sections}
 use Rattle.elf_layout_plan.specs.Sizes.{new_size}
 use Rattle.elf_layout_plan.proofs.ApartLists.{Each, Pairs}

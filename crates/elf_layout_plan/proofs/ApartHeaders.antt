@@ -18,7 +18,7 @@ use Rattle.elf_format.specs.Placement.{file_part}
 use Rattle.elf_format.specs.Ranges.{apart, end_of, lies_in, range}
 use Rattle.elf_format.specs.Records.{file_header_size, segment_header_size}
 use Rattle.elf_tables.specs.Edited.{IsReclaimed}
-use Rattle.elf_image_parts.specs.Segments.{loads_end}
+use Rattle.elf_image_headers.specs.Segments.{loads_end}
 use Rattle.elf_layout_plan.specs.Added.{AddedLoad, added_loads, header_count, keeps_range, keeps_section_range, kept_end, load_alignment, memory_end}
 use Rattle.elf_layout_plan.specs.Apart.{addresses_of}
 use Rattle.elf_layout_plan.specs.Blocks.{Block}

@@ -23,7 +23,7 @@ use Rattle.elf_format.specs.Ranges.{all_apart, apart, end_of}
 use Rattle.elf_format.specs.Rules.{MeetsRules, file_of, header_ranges}
 use Rattle.elf_tables.specs.Edited.{AreKept, AreSegments, AreUnclaimed, CanGo, IsEditOf, IsEdited, IsReclaimed, kept_segment}
 use Rattle.elf_tables.specs.ReadImage.{HoldsParts}
-use Rattle.elf_image_parts.specs.Segments.{added_stack, loads_end}
+use Rattle.elf_image_headers.specs.Segments.{added_stack, loads_end}
 use Rattle.elf_tables.proofs.ForCallers.ReadImageLaws.{read_images_hold_parts}
 use Rattle.elf_layout_plan.specs.Anchors.{is_loaded_section}
 use Rattle.elf_tables.specs.Kept.{KeptSection, interpreter_number, kept_from, is_numbered, kept_sections, place_at_read, stands_as_interpreter}

@@ -15,7 +15,7 @@ use Rattle.elf_layout_plan.specs.Added.{greatest, had_memory, memory_end}
 use Rattle.elf_layout_plan.specs.Blocks.{overlaps, stay_apart}
 use Rattle.elf_layout_plan.specs.Anchors.{is_loaded_section}
 use Rattle.elf_tables.specs.Kept.{kept_sections, place_at_read}
-use Rattle.elf_image_parts.specs.Segments.{loads_end}
+use Rattle.elf_image_headers.specs.Segments.{loads_end}
 use Rattle.elf_layout_plan.specs.Memory.{Resized, SizedSection, blocks_with, edge_blocks, fixed_block, has_lost_load, header_blocks, is_out_of_loads, is_displaced, is_uninitialized_of_threads, section_block, sized_sections, takes_memory}
 use Rattle.elf_layout_plan.specs.Sizes.{new_size}
 use Rattle.elf_layout_plan.proofs.ApartBlocks.{Neither, greatest-each, greatest-start, neither-before, neither-displaced, or-false, stay_neither, stay_over, stay_pairs}

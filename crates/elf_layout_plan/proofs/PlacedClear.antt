@@ -11,7 +11,7 @@ use Rattle.elf_format.specs.Placement.{crosses_file_end, file_end, is_uninitiali
 use Rattle.elf_format.specs.Places.{Place, is_set, occupies_file, occupies_memory}
 use Rattle.elf_layout_plan.specs.Added.{AddedLoad, added_loads, memory_end}
 use Rattle.elf_tables.specs.Kept.{place_at_read}
-use Rattle.elf_image_parts.specs.Segments.{loads_end}
+use Rattle.elf_image_headers.specs.Segments.{loads_end}
 use Rattle.elf_layout_plan.specs.Memory.{Resized, SizedSection, has_lost_load, sized_sections, takes_memory}
 use Rattle.elf_layout_plan.specs.Standing.{is_unloaded, place_in, places}
 use Rattle.elf_layout_plan.specs.Written.{written_segments}

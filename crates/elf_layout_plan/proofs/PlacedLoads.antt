@@ -11,7 +11,7 @@ use Rattle.elf_format.specs.declared.constants.TheConstants.{PT_GNU_STACK, PT_LO
 use Rattle.elf_format.specs.declared.records.SegmentHeader.{SegmentHeader}
 use Rattle.elf_format.specs.File.{is_loaded, loads_of}
 use Rattle.elf_tables.specs.Edited.{AreKept, AreSegments, AreUnclaimed, CanGo, IsReclaimed, kept_segment}
-use Rattle.elf_image_parts.specs.Segments.{added_stack, loads_end}
+use Rattle.elf_image_headers.specs.Segments.{added_stack, loads_end}
 use Rattle.elf_tables.proofs.ForCallers.Unclaimed.{any_unclaimed, one_went}
 use Rattle.elf_layout_plan.proofs.PlacedLists.{Has, Pairs, has_cases, has_none, has_same, has_there, pairs-first, pairs-more, pairs-none, pairs-rest}
 

@@ -23,8 +23,8 @@ use Rattle.elf_format.specs.Ranges.{all_apart, apart, end_of, lies_in, range}
 use Rattle.elf_format.specs.Records.{file_header_size, segment_header_size}
 use Rattle.elf_format.specs.Rules.{ArePartsOf, MeetsRules, file_of, header_ranges, segment_table_range}
 use Rattle.elf_tables.specs.Edited.{ArePicked, AreUnclaimed, IsEditOf, IsEdited, IsReclaimed, IsSameSection}
-use Rattle.elf_image_parts.specs.Segments.{loads_end}
-use Rattle.elf_image_parts.specs.Spare.{has_place}
+use Rattle.elf_image_headers.specs.Segments.{loads_end}
+use Rattle.elf_image_headers.specs.Spare.{has_place}
 use Rattle.elf_tables.specs.ReadImage.{AreSectionsOf, HoldsParts}
 use Rattle.elf_tables.proofs.ForCallers.ReadImageLaws.{read_images_hold_parts}
 use Rattle.elf_tables.specs.Kept.{KeptSection, image_at_read, kept_from, kept_sections, place_at_read}

@@ -11,7 +11,7 @@ use Rattle.elf_format.specs.declared.records.SegmentHeader.{SegmentHeader}
 use Rattle.elf_format.specs.Records.{file_header_size, segment_header_size}
 use Rattle.elf_layout_plan.specs.Anchors.{HeaderTable, Itself, Notes, OneSection, is_loaded_section, is_moved, anchor_of}
 use Rattle.elf_format.specs.Image.{Image, ImageSection}
-use Rattle.elf_image_parts.specs.Segments.{loads_end}
+use Rattle.elf_image_headers.specs.Segments.{loads_end}
 use Rattle.elf_tables.specs.Kept.{KeptSection}
 use Rattle.elf_layout_plan.specs.Memory.{Resized, SizedSection, has_lost_load, sized_sections, takes_memory}
 use Rattle.elf_layout_plan.specs.Rounds.{added_flags, flags_for, headers_needed, sections_at}

@@ -12,8 +12,8 @@ use Rattle.elf_format.specs.declared.records.SegmentHeader.{SegmentHeader}
 use Rattle.elf_format.specs.Records.{file_header_size, segment_header_size}
 use Rattle.elf_format.specs.Places.{is_set, occupies_file, occupies_memory}
 use Rattle.elf_layout_plan.specs.Blocks.{Block}
-use Rattle.elf_image_parts.specs.Segments.{loads_end}
-pub use Rattle.elf_image_parts.specs.Spare.{is_movable_type}
+use Rattle.elf_image_headers.specs.Segments.{loads_end}
+pub use Rattle.elf_image_headers.specs.Spare.{is_movable_type}
 use Rattle.elf_tables.specs.Kept.{KeptSection, dynamic_strings_number, interpreter_number, is_numbered, kept_sections, place_at_read}
 
 -- An image whose sections have new sizes, and the image that was read from its source.

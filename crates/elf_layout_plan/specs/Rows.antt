@@ -4,7 +4,7 @@ use Rattle.elf_format.specs.declared.records.SegmentHeader.{SegmentHeader}
 use Rattle.elf_format.specs.declared.section_data.SectionData.TheVariants as kinds
 use Rattle.elf_format.specs.Dynamic.{Auto, Text}
 use Rattle.elf_format.specs.Image.{Image, ImageSection}
-use Rattle.elf_image_parts.specs.Segments.{added_stack}
+use Rattle.elf_image_headers.specs.Segments.{added_stack}
 use Rattle.elf_layout_plan.specs.Memory.{Resized}
 use Rattle.elf_layout_plan.specs.Plan.{IsOverlapping, IsPlan, Plan}
 use Rattle.elf_layout_plan.specs.RowParts.{after_edit, image_of_parts, names_section, no_place, null_section, place, section, segment}

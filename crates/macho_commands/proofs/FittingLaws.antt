@@ -8,9 +8,9 @@ use Rattle.macho_signing.specs.Check.{Found, checking_fault, part_checked, parts
 use Rattle.macho_signing.specs.File.{part_bytes, parts_of}
 use Rattle.macho_signing.specs.Thin.{Pages, all, has_identity, since}
 use Rattle.macho_signing.specs.declared.file.Part.{Part}
-use Rattle.macho_commands_signing.specs.Kept.{DoAdhocFit, InEachPart, IsAdhocNamedApart, TellsSame, TellsSameLayout, TellsSamePlace}
-use Rattle.macho_commands_signing.specs.Verdicts.{has_none}
-use Rattle.macho_commands_signing.proofs.ForCallers.{IsKept, behind_ends, each_after, each_weaker, edit_keeps, edit_long, edit_reads, edited_keeps, edited_tells, layouts_after, named_apart, read_ends, signed_tells, signing_ends, slots_read, tells_after, touched_fit, whole_fit}
+use Rattle.macho_commands_stores.specs.Kept.{DoAdhocFit, InEachPart, IsAdhocNamedApart, TellsSame, TellsSameLayout, TellsSamePlace}
+use Rattle.macho_commands_stores.specs.Verdicts.{has_none}
+use Rattle.macho_commands_stores.proofs.ForCallers.{IsKept, behind_ends, each_after, each_weaker, edit_keeps, edit_long, edit_reads, edited_keeps, edited_tells, layouts_after, named_apart, read_ends, signed_tells, signing_ends, slots_read, tells_after, touched_fit, whole_fit}
 use Rattle.macho_commands.specs.Engine.{Asked, ShowsBy, ShowsEdited, ShowsSigned, asked, signs_of}
 use Rattle.macho_commands.specs.Fitting.{EditTellsPlace, EditKeepsSignatures, ReadEditKeepsSignatures, SigningFits, SigningReads, SigningTellsSame, SigningVerifies, WholeFits}
 use Rattle.macho_commands.specs.Verifying.{do_pages_fit}

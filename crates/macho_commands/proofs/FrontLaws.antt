@@ -23,11 +23,11 @@ use Rattle.arwen_macho.specs.ContainerShown.{ShowsFile}
 use Rattle.arwen_macho.specs.Shown.{Shows}
 use Rattle.arwen_macho.specs.declared.macho.MachoType.{MachoType}
 use Rattle.arwen_macho.proofs.ForCallers.{first_bytes}
-use Rattle.macho_commands_signing.specs.Signed.{is_signed_file}
+use Rattle.macho_commands_stores.specs.Signed.{is_signed_file}
 use Rattle.macho_commands.specs.Engine.{AreAsked, Asked, Outcome, ShowsEdited, edited_file, written}
 use Rattle.macho_commands.specs.Engine.Asked.{one, several}
 use Rattle.macho_commands.specs.Engine.Outcome.{bytes, refused, refused_batch}
-use Rattle.macho_commands_signing.specs.Loading.{IsThinFront}
+use Rattle.macho_commands_stores.specs.Loading.{IsThinFront}
 use Rattle.macho_commands.specs.Loading.{FrontDecides, with_rest}
 
 -- ---- a file that begins as an accepted one

@@ -11,7 +11,7 @@ use Rattle.byte_store.specs.Laid.{LiesIn, Patch, laid}
 use Rattle.command_words.specs.Rows.{Text}
 use Rattle.command_words.specs.declared.noting.Notes.{Notes}
 use Rattle.command_words.specs.declared.noting.Notes.TheVariants.{LeftOut, Wanted}
-use Rattle.macho_commands_signing.specs.Loading.{IsFrontOf}
+use Rattle.macho_commands_stores.specs.Loading.{IsFrontOf}
 use Rattle.macho_commands.specs.Engine.{Asked, Outcome, ShowsBy, Tells, outcome_by, outcome_of}
 use Rattle.macho_commands.specs.Engine.Outcome.{bytes, no_edits, no_file, not_signed, refused, refused_batch}
 use Rattle.macho_commands.specs.Loading.{with_rest}

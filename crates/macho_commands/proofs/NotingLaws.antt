@@ -13,9 +13,9 @@ use Rattle.macho_commands.specs.Notes.{TellsBy, TellsCommand, TellsOf, TellsWant
 use Rattle.macho_commands.specs.declared.signing.Signing.{Signing}
 use Rattle.macho_commands.specs.declared.signing.Signs.{Signs}
 use Rattle.macho_commands.specs.declared.signing.Signs.TheVariants.{Nothing, Touched, Whole}
-use Rattle.macho_commands_signing.specs.Signed.{is_signed_file}
+use Rattle.macho_commands_stores.specs.Signed.{is_signed_file}
 use Rattle.macho_signatures.specs.declared.renewal.Slot.{Slot}
-use Rattle.macho_commands_signing.specs.declared.loading.Loaded.{Loaded}
+use Rattle.macho_commands_stores.specs.declared.loading.Loaded.{Loaded}
 use Rattle.macho_commands.proofs.StoreLaws.{ReadsStore, told_all}
 
 -- what is told of the file that was read is told of its bytes

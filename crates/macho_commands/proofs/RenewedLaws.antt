@@ -32,14 +32,14 @@ use Rattle.macho_signatures.proofs.RenewedLaws.{all_slots, before_slots, page_ha
 use Rattle.macho_signing.proofs.JoinedLaws.{SignsParts, parts_are, signs_parts}
 use Rattle.macho_signing.proofs.SignedLaws.{ArePlacedIn}
 use Rattle.macho_signing.proofs.ThinLaws.{thin_slots_lie}
-use Rattle.macho_commands_signing.proofs.ForCallers.{edit_keeps}
-use Rattle.macho_commands_signing.proofs.PieceLaws.{with_slot-is}
-use Rattle.macho_commands_signing.proofs.StepSignature.{fat_parts, thin_parts}
-use Rattle.macho_commands_signing.proofs.SliceLaws.{rising_within}
-use Rattle.macho_commands_signing.specs.Loading.{IsFrontOf}
-use Rattle.macho_commands_signing.specs.Renewing.{IsSignedFront, SignedFront, SignsFront, slot_patch, slots_of}
-use Rattle.macho_commands_signing.specs.Slices.{AreRising, HasSlices, whole_arch}
-use Rattle.macho_commands_signing.specs.declared.slices.SliceFront.{SliceFront}
+use Rattle.macho_commands_stores.proofs.ForCallers.{edit_keeps}
+use Rattle.macho_commands_stores.proofs.PieceLaws.{with_slot-is}
+use Rattle.macho_commands_stores.proofs.StepSignature.{fat_parts, thin_parts}
+use Rattle.macho_commands_stores.proofs.SliceLaws.{rising_within}
+use Rattle.macho_commands_stores.specs.Loading.{IsFrontOf}
+use Rattle.macho_commands_stores.specs.Renewing.{IsSignedFront, SignedFront, SignsFront, slot_patch, slots_of}
+use Rattle.macho_commands_stores.specs.Slices.{AreRising, HasSlices, whole_arch}
+use Rattle.macho_commands_stores.specs.declared.slices.SliceFront.{SliceFront}
 use Rattle.macho_commands.specs.Engine.{AreAsked, Asked, IsSignedOutcome, ShowsBy, ShowsEdited, ShowsSigned, asked, outcome, outcome_by, outcome_of, signs_of}
 use Rattle.macho_commands.specs.Engine.Outcome.{bytes as new_bytes}
 use Rattle.macho_commands.specs.Loading.{with_rest}

@@ -16,12 +16,12 @@ use Rattle.macho_image.specs.Fat.{table_end}
 use Rattle.macho_image.specs.declared.fat.FatArch.{FatArch}
 use Rattle.macho_signatures.specs.Renewed.{SlotLies}
 use Rattle.macho_signatures.specs.declared.renewal.Slot.{Slot}
-use Rattle.macho_commands_signing.proofs.SliceLaws.{rising_within}
-use Rattle.macho_commands_signing.specs.Loading.{IsFrontOf}
-use Rattle.macho_commands_signing.specs.Renewing.{AreAsLong, IsLow, IsSignedFront, SignedFront, SignsFronts, slot_patch, slots_of}
-use Rattle.macho_commands_signing.specs.Slices.{AreFrontsOf, AreFrontsRead, AreRising, whole_arch}
-use Rattle.macho_commands_signing.specs.declared.slices.SliceFront.{SliceFront}
-use Rattle.macho_commands_signing.specs.declared.slices.SliceFronts.{SliceFronts}
+use Rattle.macho_commands_stores.proofs.SliceLaws.{rising_within}
+use Rattle.macho_commands_stores.specs.Loading.{IsFrontOf}
+use Rattle.macho_commands_stores.specs.Renewing.{AreAsLong, IsLow, IsSignedFront, SignedFront, SignsFronts, slot_patch, slots_of}
+use Rattle.macho_commands_stores.specs.Slices.{AreFrontsOf, AreFrontsRead, AreRising, whole_arch}
+use Rattle.macho_commands_stores.specs.declared.slices.SliceFront.{SliceFront}
+use Rattle.macho_commands_stores.specs.declared.slices.SliceFronts.{SliceFronts}
 use Rattle.macho_commands.specs.Engine.{Asked, MayFail, Outcome, Tells, asked, outcome_of, signs_of}
 use Rattle.macho_commands.specs.Meaning.{MachoMeaning, file_of}
 use Rattle.macho_commands.specs.Notes.{TellsBy, TellsLeft, TellsWantedAt, left_line}

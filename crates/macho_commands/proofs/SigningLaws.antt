@@ -1,7 +1,7 @@
 -- What signing makes of edits.
 use Rattle.std.proofs.Common.{◌≡◌, ◌≢◌, ◌∙◌, ℕ, List, [], ◌∷◌, length, None, ap, arith, refl, subst, sym}
 use Rattle.std.specs.List.{All}
-use Rattle.macho_commands_signing.proofs.PieceLaws.{length-put_at}
+use Rattle.macho_commands_stores.proofs.PieceLaws.{length-put_at}
 use Rattle.std.proofs.lemmas.List.Elements.{All-head, All-tail}
 use Rattle.arwen_macho.specs.declared.front.Front.{Front}
 use Rattle.arwen_macho.specs.Fronts.{LiesIn, fronts_on}

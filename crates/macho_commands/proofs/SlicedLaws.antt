@@ -19,9 +19,9 @@ use Rattle.macho_commands.specs.Engine.Outcome.{bytes as new_bytes, no_edits, no
 use Rattle.macho_commands.specs.declared.error.MachoCommandError.{MachoCommandError}
 use Rattle.macho_commands.specs.declared.error.MachoCommandError.TheVariants.{Edits, Io, Macho, MachoBatch, Memory, Signing as signing, Unfit}
 use Rattle.macho_commands.specs.Sliced.{MakesFront, MakesFronts, RefusesFronts, is_signed_front}
-use Rattle.macho_commands_signing.specs.Loading.{IsFrontOf, IsThinFront}
-use Rattle.macho_commands_signing.specs.Signed.{is_signed, is_signed_file, is_signed_slice}
-use Rattle.macho_commands_signing.specs.declared.slices.SliceFront.{SliceFront}
+use Rattle.macho_commands_stores.specs.Loading.{IsFrontOf, IsThinFront}
+use Rattle.macho_commands_stores.specs.Signed.{is_signed, is_signed_file, is_signed_slice}
+use Rattle.macho_commands_stores.specs.declared.slices.SliceFront.{SliceFront}
 use Rattle.arwen_macho.proofs.ForCallers.{ApartFrom, AreLaid, AreShown, OutsideAll, SameTable, accepted_slice, accepted_whole, archs_same, behind_slices, fat_shows, fat_step_ok, get_or-laid_over, length-laid_over, length-put_at, shown-laid_over, slice-put_at_apart, table_same, take-laid_over}
 use Rattle.arwen_macho.specs.Container.{as_fat, as_thin, container_bytes, container_step, first_container}
 use Rattle.arwen_macho.specs.ContainerShown.{ShowsFile}
@@ -31,8 +31,8 @@ use Rattle.arwen_macho.specs.FatShown.{FatShows, IsOutside}
 use Rattle.arwen_macho.specs.Found.{Found, begins_fat, container_found, found_first, slice_found, slices_found}
 use Rattle.arwen_macho.specs.Shown.{Shows}
 use Rattle.arwen_macho.specs.FatState.{FatState, Slice, bytes_laid_over, fat_laid_bytes, fat_step, first_fat_state, first_slice, step_slices}
-use Rattle.macho_commands_signing.proofs.SliceLaws.{rising_within}
-use Rattle.macho_commands_signing.specs.Slices.{AreRising, HasSlices}
+use Rattle.macho_commands_stores.proofs.SliceLaws.{rising_within}
+use Rattle.macho_commands_stores.specs.Slices.{AreRising, HasSlices}
 use Rattle.macho_edits.specs.Call.{Call}
 use Rattle.macho_edits.specs.Held.{is_edited_by}
 use Rattle.macho_edits.specs.State.{Refusal, State, first_state, laid_bytes, step}

@@ -31,12 +31,12 @@ use Rattle.macho_commands.specs.Notes.{TellsBy, TellsWanted, TellsWantedAt, note
 use Rattle.macho_commands.specs.Sliced.{AddsFront, EditedSlice, IsLoadedFront, IsMade, MakesEdited, MakesFronts, RefusesFronts, TellsFronts, edited_bytes, is_signed_front, slice_patches}
 use Rattle.macho_commands.specs.declared.error.MachoCommandError.{MachoCommandError}
 use Rattle.macho_commands.specs.declared.error.MachoCommandError.TheVariants.{Edits, Io, Macho, MachoBatch, Memory, Signing as signing, Unfit}
-use Rattle.macho_commands_signing.specs.Loading.{IsThinFront}
-use Rattle.macho_commands_signing.specs.Pieces.{ArePartsOf}
-use Rattle.macho_commands_signing.specs.Slices.{AreFrontsOf, AreRising, AreSlicesRead}
-use Rattle.macho_commands_signing.specs.declared.slices.SliceFront.{SliceFront}
-use Rattle.macho_commands_signing.specs.declared.slices.SliceFronts.{SliceFronts}
-use Rattle.macho_commands_signing.proofs.SliceLaws.{later, rising_within}
+use Rattle.macho_commands_stores.specs.Loading.{IsThinFront}
+use Rattle.macho_commands_stores.specs.Pieces.{ArePartsOf}
+use Rattle.macho_commands_stores.specs.Slices.{AreFrontsOf, AreRising, AreSlicesRead}
+use Rattle.macho_commands_stores.specs.declared.slices.SliceFront.{SliceFront}
+use Rattle.macho_commands_stores.specs.declared.slices.SliceFronts.{SliceFronts}
+use Rattle.macho_commands_stores.proofs.SliceLaws.{later, rising_within}
 use Rattle.macho_image.proofs.ForCallers.{found}
 use Rattle.macho_image.specs.Fat.{slice_of, table_end}
 use Rattle.macho_image.specs.declared.fat.FatArch.{FatArch}

@@ -15,9 +15,9 @@ use Rattle.arwen_macho.specs.declared.front.Front.{Front}
 use Rattle.arwen_macho.specs.Fronts.{fronts_on}
 use Rattle.macho_commands.specs.Failures.{WritesEnd}
 use Rattle.macho_commands.specs.Stores.{FailsPatch, IsPartOf, Patched, Torn}
-use Rattle.macho_commands_signing.specs.Loading.{IsFirstOf, IsFrontRead, IsLoaded}
-use Rattle.macho_commands_signing.specs.Pieces.{ArePartsOf, ArePiecesOf}
-use Rattle.macho_commands_signing.specs.declared.loading.Loaded.{Loaded}
+use Rattle.macho_commands_stores.specs.Loading.{IsFirstOf, IsFrontRead, IsLoaded}
+use Rattle.macho_commands_stores.specs.Pieces.{ArePartsOf, ArePiecesOf}
+use Rattle.macho_commands_stores.specs.declared.loading.Loaded.{Loaded}
 use Rattle.macho_commands.specs.declared.signing.Signing.{Signing}
 use Rattle.macho_commands.specs.declared.signing.Signs.{Signs}
 use Rattle.macho_commands.specs.declared.signing.Signs.TheVariants.{Nothing, Touched, Whole}

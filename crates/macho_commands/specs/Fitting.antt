@@ -1,7 +1,7 @@
 -- What commands leave of code signatures: that those fit again which fitted, and what a file tells of them.
 use Rattle.std.specs.Prelude.{ℕ, ◌≡◌, ◌≢◌, true, false, List, All, None}
 use Rattle.command_words.specs.Rows.{Text}
-use Rattle.macho_commands_signing.specs.Kept.{DoAdhocFit, InEachPart, IsAdhocNamedApart, IsSignatureBehind, KeepsSignature, TellsSame, TellsSameLayout, TellsSamePlace}
+use Rattle.macho_commands_stores.specs.Kept.{DoAdhocFit, InEachPart, IsAdhocNamedApart, IsSignatureBehind, KeepsSignature, TellsSame, TellsSameLayout, TellsSamePlace}
 use Rattle.macho_signing.specs.Check.{checking_fault, parts_checked}
 use Rattle.macho_signing.specs.File.{part_bytes, parts_of}
 use Rattle.macho_commands.specs.Engine.{IsSignedOutcome, signs_of}

@@ -3,8 +3,8 @@ use Rattle.std.specs.Prelude.{ℕ, ◌≡◌, ◌<◌, ◌^◌, ◌++◌, List, 
 use Rattle.arwen_macho.specs.Container.{first_container}
 use Rattle.macho_commands.specs.Engine.{Asked, Outcome, ShowsEdited, outcome_of}
 use Rattle.macho_commands.specs.Engine.Outcome.{bytes, no_edits, no_file, refused, refused_batch, not_signed}
-use Rattle.macho_commands_signing.specs.Loading.{IsThinFront}
-use Rattle.macho_commands_signing.specs.Signed.{is_signed_file}
+use Rattle.macho_commands_stores.specs.Loading.{IsThinFront}
+use Rattle.macho_commands_stores.specs.Signed.{is_signed_file}
 
 -- the outcome of a file, by that of its front: new bytes have the rest of the file behind them
 abbrev pub with_rest : List ℕ → Outcome → Outcome

@@ -11,7 +11,7 @@ use Rattle.macho_commands.specs.Meaning.{MachoMeaning, file_of}
 use Rattle.macho_commands.specs.declared.signing.Signing.{Signing}
 use Rattle.macho_commands.specs.declared.signing.Signs.{Signs}
 use Rattle.macho_commands.specs.declared.signing.Signs.TheVariants.{Nothing, Touched, Whole}
-use Rattle.macho_commands_signing.specs.Signed.{is_signed_file}
+use Rattle.macho_commands_stores.specs.Signed.{is_signed_file}
 use Rattle.macho_signing.specs.File.{has_identity_in, parts_of}
 use Rattle.command_words.specs.declared.noting.Notes.{Notes}
 use Rattle.command_words.specs.declared.noting.Notes.TheVariants.{LeftOut, Wanted}

@@ -12,9 +12,9 @@ use Rattle.macho_commands.specs.Engine.{Asked, ShowsEdited, Tells, outcome_of}
 use Rattle.macho_commands.specs.Engine.Outcome.{bytes}
 use Rattle.macho_commands.specs.Notes.{note_line}
 use Rattle.macho_commands.specs.declared.error.MachoCommandError.{MachoCommandError}
-use Rattle.macho_commands_signing.specs.Loading.{IsThinFront}
-use Rattle.macho_commands_signing.specs.Signed.{is_signed_file}
-use Rattle.macho_commands_signing.specs.declared.slices.SliceFront.{SliceFront}
+use Rattle.macho_commands_stores.specs.Loading.{IsThinFront}
+use Rattle.macho_commands_stores.specs.Signed.{is_signed_file}
+use Rattle.macho_commands_stores.specs.declared.slices.SliceFront.{SliceFront}
 
 -- a front that was read of a slice
 pub record IsLoadedFront (front : SliceFront) : Type 0 where

@@ -3,7 +3,7 @@ use Rattle.std.specs.Prelude.{ℕ, ◌≡◌, Bool, List, [], None, Ok, Some, �
 use Rattle.std.specs.List.{list_all}
 use Rattle.arwen_macho.specs.Found.{container_found}
 use Rattle.macho_signing.specs.Check.{checking_fault, parts_checked}
-use Rattle.macho_commands_signing.specs.Verdicts.{has_none}
+use Rattle.macho_commands_stores.specs.Verdicts.{has_none}
 use Rattle.macho_commands.specs.Engine.{Tells, outcome_of}
 use Rattle.macho_commands.specs.Engine.Asked.{several}
 use Rattle.macho_commands.specs.declared.error.MachoCommandError.{MachoCommandError}

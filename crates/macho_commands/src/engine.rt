@@ -25,7 +25,7 @@ use crate::verifying::verify_file;
 use arwen_macho::macho::{Front, MachoBatchError, MachoContainer, MachoEdit, lay_fronts};
 use byte_store::Store;
 use command_words::{NotDone, Notes, OpensOnce, RegularFiles, words_of};
-use macho_commands_signing::{
+use macho_commands_stores::{
     Loaded, changes_of, front_changes, load_for_edits, load_fronts, load_slices, standing_pieces,
     write_changes_of,
 };

@@ -22,7 +22,7 @@ pub use engine::{
     macho_execute, macho_execute_telling, patch_path, patch_store, run_macho, run_macho_telling,
 };
 pub use error::MachoCommandError;
-pub use macho_commands_signing::Verdict;
+pub use macho_commands_stores::Verdict;
 pub use signing::Signing;
 pub use tables::macho_table;
 pub use verifying::verify_bytes;

@@ -5,7 +5,7 @@ ghost use Rattle.macho_commands.specs.Notes.{TellsLeft, TellsOf};
 use crate::signing::Signs;
 use arwen_macho::macho::MachoType;
 use command_words::Notes;
-use macho_commands_signing::{is_signed_file, note_if};
+use macho_commands_stores::{is_signed_file, note_if};
 use std::alloc::{AllocError, Global};
 
 /// What is told of a signature that an edit left.

@@ -6,7 +6,7 @@ ghost use Rattle.macho_commands.specs.Failures.{HasCause, WritesEnd};
 ghost use Rattle.macho_commands.specs.Meaning.{macho_command_model};
 ghost use Rattle.macho_commands.specs.Stores.{FailsPatch};
 ghost use Rattle.macho_commands.specs.Renewed.{PatchesOr};
-ghost use Rattle.macho_commands_signing.specs.Slices.{AreFrontsRead};
+ghost use Rattle.macho_commands_stores.specs.Slices.{AreFrontsRead};
 
 use crate::command::MachoCommand;
 use crate::error::MachoCommandError;
@@ -15,7 +15,7 @@ use crate::signing::{Signing, Signs};
 use crate::sliced::{Sliced, edited_fronts};
 use byte_store::{OwnedPiece, Store};
 use command_words::Notes;
-use macho_commands_signing::{SliceFronts, lent_pieces, load_slots, write_changes_of};
+use macho_commands_stores::{SliceFronts, lent_pieces, load_slots, write_changes_of};
 use std::alloc::{AllocError, Global};
 
 /// Edits a file in its place, of whose slices the fronts were read, and makes the slots of the pages that this touches anew,

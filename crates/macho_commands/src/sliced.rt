@@ -7,7 +7,7 @@ ghost use Rattle.macho_commands.specs.Meaning.{file_of, macho_command_model};
 ghost use Rattle.macho_commands.specs.Notes.{TellsWanted, TellsWantedAt};
 ghost use Rattle.macho_commands.specs.Sliced.{AddsFront, IsLoadedFront, MakesEdited, MakesFronts, RefusesFronts, TellsFronts};
 ghost use Rattle.macho_commands.specs.Stores.{FailsPatch, Patched};
-ghost use Rattle.macho_commands_signing.specs.Slices.{AreSlicesRead};
+ghost use Rattle.macho_commands_stores.specs.Slices.{AreSlicesRead};
 
 use crate::command::MachoCommand;
 use crate::engine::fronts_of;
@@ -15,7 +15,7 @@ use crate::error::MachoCommandError;
 use crate::signing::{Signing, Signs};
 use byte_store::{OwnedPiece, Store};
 use command_words::Notes;
-use macho_commands_signing::{
+use macho_commands_stores::{
     SliceFront, SliceFronts, front_changes, lent_pieces, push_changes_at, standing_pieces,
     write_changes_of,
 };

@@ -9,7 +9,7 @@ use crate::error::MachoCommandError;
 use arwen_macho::macho::{MachoContainer, MachoError};
 use byte_store::{Opens, ReadError, load_up_to};
 use command_words::{MOST_BYTES, RegularFiles};
-use macho_commands_signing::{Verdict, verdict_of};
+use macho_commands_stores::{Verdict, verdict_of};
 use macho_signing::check_file;
 use std::alloc::Global;
 use std::rt::Files;

@@ -15,7 +15,7 @@ use elf_format::records::SectionHeader;
 use elf_format::section_data::SectionData;
 use elf_format::texts::text;
 use elf_format::view_fault::ViewFault;
-use elf_image_parts::section::Section;
+use elf_image_headers::section::Section;
 use elf_image_versions::headers::Headers;
 use patch_bytes::ByteString;
 use std::alloc::Global;

@@ -3,7 +3,7 @@ use Rattle.std.proofs.Common.{◌∙◌, arith, sym}
 use Rattle.std.proofs.lemmas.Result.{err_from_is_err_and}
 use Rattle.arwen_macho.specs.Fronts.{fronts_on}
 use Rattle.macho_signatures.specs.Renewed.{laid as slots_on}
-use Rattle.macho_commands_signing.specs.declared.loading.Loaded.{Loaded}
+use Rattle.macho_commands_stores.specs.declared.loading.Loaded.{Loaded}
 use Rattle.macho_commands.specs.Engine.{signs_of}
 use Rattle.macho_commands.specs.Meaning.{macho_command_model}
 use Rattle.macho_commands.proofs.NotingLaws.{told_of_store}

@@ -7,8 +7,8 @@ use Rattle.byte_store.specs.Laid.{Patch, patches_of}
 use Rattle.macho_commands.specs.Engine.{asked}
 use Rattle.macho_commands.specs.Meaning.{macho_command_model}
 use Rattle.macho_commands.specs.Sliced.{IsLoadedFront, MakesEdited, RefusesFronts}
-use Rattle.macho_commands_signing.specs.Renewing.{AreAsLong, IsLow, SignsFronts}
-use Rattle.macho_commands_signing.specs.declared.slices.SliceFront.{SliceFront}
+use Rattle.macho_commands_stores.specs.Renewing.{AreAsLong, IsLow, SignsFronts}
+use Rattle.macho_commands_stores.specs.declared.slices.SliceFront.{SliceFront}
 use Rattle.macho_commands.proofs.RenewedRuns.{Makes, edited_long, makes_inside, may_refuse_renewed, patched_renewed, read_loaded, read_low, refused_renewed, told_renewed, torn_renewed}
 use Rattle.macho_commands.proofs.StoreLaws.{torn_by}
 use Rattle.macho_commands.proofs.renewed.patch_renewed.Goals as goal

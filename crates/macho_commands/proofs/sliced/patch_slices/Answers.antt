@@ -6,7 +6,7 @@ use Rattle.std.proofs.lemmas.Result.{err_from_is_err_and}
 use Rattle.macho_commands.specs.Engine.{asked}
 use Rattle.macho_commands.specs.Meaning.{file_of, macho_command_model}
 use Rattle.macho_commands.specs.Sliced.{IsLoadedFront, RefusesFronts, TellsFronts}
-use Rattle.macho_commands_signing.specs.declared.slices.SliceFront.{SliceFront}
+use Rattle.macho_commands_stores.specs.declared.slices.SliceFront.{SliceFront}
 use Rattle.macho_image.specs.Fat.{table_end}
 use Rattle.byte_store.specs.Laid.{patches_of}
 use Rattle.macho_commands.proofs.SlicedRuns.{inside_all, loaded_all, makes_lent, may_refuse, patched_slices, refused_slices, told_slices, torn_slices}

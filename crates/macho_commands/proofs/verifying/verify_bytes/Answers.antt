@@ -2,7 +2,7 @@
 use Rattle.std.proofs.Common.{ap, map, ◌∙◌}
 use Rattle.std.specs.List.{list_all}
 use Rattle.macho_signing.specs.Check.{checked_model}
-use Rattle.macho_commands_signing.specs.Verdicts.{has_none}
+use Rattle.macho_commands_stores.specs.Verdicts.{has_none}
 use Rattle.macho_commands.specs.Verifying.{do_pages_fit}
 use Rattle.macho_commands.proofs.verifying.verify_bytes.Goals as goal
 

@@ -8,8 +8,8 @@ use Rattle.elf_format.specs.declared.records.SegmentHeader.{SegmentHeader}
 use Rattle.elf_format.specs.Image.{Image}
 use Rattle.elf_image.specs.File.{segment_of_type}
 use Rattle.elf_image.specs.ImageModel.{segment_model}
-use Rattle.elf_image_parts.specs.Segments.{added_stack, with_stack_flags}
-use Rattle.elf_image_parts.proofs.ForCallers.EditSteps.{flags_pushed, is_stack, pushed_found, pushed_place}
+use Rattle.elf_image_headers.specs.Segments.{added_stack, with_stack_flags}
+use Rattle.elf_image_headers.proofs.ForCallers.EditSteps.{flags_pushed, is_stack, pushed_found, pushed_place}
 use Rattle.elf_image.proofs.builder.Builder.add_stack.Goals as goal
 
 pub stack_flags_at-requires : goal.stack_flags_at-requires

@@ -6,11 +6,11 @@ use Rattle.elf_image.specs.Edited.{IsEdited}
 use Rattle.elf_image.specs.ImageModel.{segment_model}
 use Rattle.elf_image.specs.Leave.{spare_facts, with_dynamic_move}
 use Rattle.elf_image.specs.declared.builder.Builder.TheInside.{Inside}
-use Rattle.elf_image_parts.specs.declared.segment.Segment.{Segment}
-use Rattle.elf_image_parts.specs.declared.spare.SpareFrom.{SpareFrom}
-use Rattle.elf_image_parts.specs.Spare.{segments_reclaimed}
-use Rattle.elf_image_parts.specs.SpareFrom.{left, reclaimable}
-use Rattle.elf_image_parts.proofs.ForCallers.SpareSteps.{left_is}
+use Rattle.elf_image_headers.specs.declared.segment.Segment.{Segment}
+use Rattle.elf_image_headers.specs.declared.spare.SpareFrom.{SpareFrom}
+use Rattle.elf_image_headers.specs.Spare.{segments_reclaimed}
+use Rattle.elf_image_headers.specs.SpareFrom.{left, reclaimable}
+use Rattle.elf_image_headers.proofs.ForCallers.SpareSteps.{left_is}
 use Rattle.elf_image.proofs.SegmentsReclaimed.{dynamic_moves}
 use Rattle.elf_image.proofs.builder.Builder.allow_dynamic_move.Goals as goal
 

@@ -5,10 +5,10 @@ use Rattle.std.specs.Option.{option_map}
 use Rattle.std.specs.Global.{Vec}
 use Rattle.elf_format.specs.Dynamic.{Entry}
 use Rattle.elf_format.specs.Image.{Image}
-use Rattle.elf_image_parts.specs.declared.dynamic.Dynamic.{Dynamic}
+use Rattle.elf_image_headers.specs.declared.dynamic.Dynamic.{Dynamic}
 use Rattle.elf_image.specs.BuilderModel.{image_model}
 use Rattle.elf_image.specs.ImageModel.{entry_model}
-use Rattle.elf_image_parts.specs.DynamicList.{can_delete}
+use Rattle.elf_image_headers.specs.DynamicList.{can_delete}
 use Rattle.elf_image.proofs.EntriesKept.{entries_removed}
 use Rattle.elf_image.proofs.Kept.{with_entries, with_list}
 use Rattle.elf_image.proofs.builder.Builder.delete_dynamic.Goals as goal

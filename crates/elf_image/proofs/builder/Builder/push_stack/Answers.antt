@@ -7,10 +7,10 @@ use Rattle.elf_format.specs.Image.{Image}
 use Rattle.elf_image.specs.BuilderModel.{image_model}
 use Rattle.elf_image.specs.Edited.{AreSegments, IsEdited}
 use Rattle.elf_image.specs.ImageModel.{segment_model}
-use Rattle.elf_image_parts.specs.Segments.{with_stack_added}
+use Rattle.elf_image_headers.specs.Segments.{with_stack_added}
 use Rattle.elf_image.proofs.Kept.{with_segments}
 use Rattle.std.proofs.lemmas.List.{map-append}
-use Rattle.elf_image_parts.specs.declared.segment.Segment.{Segment}
+use Rattle.elf_image_headers.specs.declared.segment.Segment.{Segment}
 use Rattle.elf_image.proofs.SegmentsKept.{segments_pushed, type_added}
 use Rattle.elf_image.proofs.builder.Builder.push_stack.Goals as goal
 

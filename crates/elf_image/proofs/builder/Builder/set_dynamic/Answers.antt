@@ -3,7 +3,7 @@ use Rattle.elf_format.specs.Dynamic.{Entry}
 use Rattle.elf_format.specs.Image.{Image}
 use Rattle.elf_image.specs.BuilderModel.{image_model}
 use Rattle.elf_image.specs.ImageModel.{entry_model}
-use Rattle.elf_image_parts.specs.DynamicList.{KeepsTables}
+use Rattle.elf_image_headers.specs.DynamicList.{KeepsTables}
 use Rattle.elf_image.proofs.EntriesKept.{entries_set}
 use Rattle.elf_image.proofs.Kept.{with_entries}
 use Rattle.elf_image.proofs.builder.Builder.set_dynamic.Goals as goal

@@ -6,7 +6,7 @@ use Rattle.elf_format.specs.declared.records.SegmentHeader.{SegmentHeader}
 use Rattle.elf_image.specs.BuilderModel.{image_model}
 use Rattle.elf_image.specs.Edited.{AreSegments}
 use Rattle.elf_image.specs.ImageModel.{segment_model}
-use Rattle.elf_image_parts.specs.Segments.{with_load_align}
+use Rattle.elf_image_headers.specs.Segments.{with_load_align}
 use Rattle.elf_image.proofs.Kept.{with_segments}
 use Rattle.elf_image.proofs.SegmentsKept.{segments_aligned, type_aligned}
 use Rattle.elf_image.proofs.builder.Builder.set_load_align.Goals as goal

@@ -3,10 +3,10 @@ use Rattle.std.specs.Prelude.{position}
 use Rattle.std.specs.Borrow.{Bor}
 use Rattle.elf_format.specs.declared.constants.TheConstants.{PT_GNU_STACK}
 use Rattle.elf_format.specs.Image.{Image}
-use Rattle.elf_image_parts.specs.declared.segment.Segment.{Segment}
+use Rattle.elf_image_headers.specs.declared.segment.Segment.{Segment}
 use Rattle.elf_image.specs.File.{segment_of_type}
 use Rattle.elf_image.specs.ImageModel.{segment_model}
-use Rattle.elf_image_parts.proofs.ForCallers.EditSteps.{first_seen, is_stack, none_seen}
+use Rattle.elf_image_headers.proofs.ForCallers.EditSteps.{first_seen, is_stack, none_seen}
 use Rattle.elf_image.proofs.builder.Builder.stack.Goals as goal
 
 pub returns-in_err-at : goal.returns-in_err-at

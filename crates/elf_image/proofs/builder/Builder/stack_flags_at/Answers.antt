@@ -8,9 +8,9 @@ use Rattle.elf_image.specs.File.{segment_of_type}
 use Rattle.elf_image.specs.BuilderModel.{image_model}
 use Rattle.elf_image.specs.Edited.{AreSegments}
 use Rattle.elf_image.specs.ImageModel.{segment_model}
-use Rattle.elf_image_parts.specs.LendingFlags.{with_flags}
-use Rattle.elf_image_parts.specs.Segments.{with_stack_flags}
-use Rattle.elf_image_parts.proofs.ForCallers.EditSteps.{first_seen, flags_set, is_stack, place_within}
+use Rattle.elf_image_headers.specs.LendingFlags.{with_flags}
+use Rattle.elf_image_headers.specs.Segments.{with_stack_flags}
+use Rattle.elf_image_headers.proofs.ForCallers.EditSteps.{first_seen, flags_set, is_stack, place_within}
 use Rattle.elf_image.proofs.Kept.{with_segments}
 use Rattle.elf_image.proofs.LookupSteps.{position-map}
 use Rattle.elf_image.proofs.SegmentsKept.{segments_flagged, type_flagged}

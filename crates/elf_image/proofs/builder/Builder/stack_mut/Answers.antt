@@ -4,9 +4,9 @@ use Rattle.elf_format.specs.declared.constants.TheConstants.{PT_GNU_STACK}
 use Rattle.elf_format.specs.declared.records.SegmentHeader.{SegmentHeader}
 use Rattle.elf_format.specs.Image.{Image}
 use Rattle.elf_image.specs.File.{segment_of_type}
-use Rattle.elf_image_parts.specs.declared.segment.Segment.{Segment}
+use Rattle.elf_image_headers.specs.declared.segment.Segment.{Segment}
 use Rattle.elf_image.specs.ImageModel.{segment_model}
-use Rattle.elf_image_parts.proofs.ForCallers.EditSteps.{is_stack, none_seen}
+use Rattle.elf_image_headers.proofs.ForCallers.EditSteps.{is_stack, none_seen}
 use Rattle.elf_image.proofs.LookupSteps.{position-map}
 use Rattle.elf_image.proofs.builder.Builder.stack_mut.Goals as goal
 

@@ -4,7 +4,7 @@ use Rattle.std.specs.Prelude.{◌==◌, position}
 use Rattle.std.proofs.lemmas.Iterator.{YieldsList-from_slice}
 use Rattle.std.proofs.lemmas.Iterator.Search.{position_from_yields_List}
 use Rattle.elf_format.specs.Image.{Image}
-use Rattle.elf_image_parts.specs.declared.section.Section.{Section}
+use Rattle.elf_image_headers.specs.declared.section.Section.{Section}
 use Rattle.elf_image.specs.ImageModel.{section_model}
 use Rattle.elf_image.proofs.LookupSteps.{position-map}
 use Rattle.elf_image.proofs.builder.Builder.type_position.Goals as goal

@@ -1,7 +1,0 @@
-use Rattle.std.proofs.Common.{◌≡◌, drop, map}
-use Rattle.elf_image_parts.specs.PartModels.{section_model}
-use Rattle.elf_image_parts.specs.Spare.{link_in_sections}
-use Rattle.elf_image_parts.proofs.spare.link_in_sections.Given as goal
-
-abbrev pub invariant-loop-section : goal.invariant-loop-section
-invariant-loop-section l = link_in_sections l.kind (map section_model (drop l.section-index l.sections)) ≡ link_in_sections l.kind (map section_model l.sections)
