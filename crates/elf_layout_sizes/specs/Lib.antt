@@ -6,4 +6,3 @@ pub mod SizingModel
 pub mod MadeTables
 pub mod KnownTables
 pub use Rattle.elf_layout_plan.specs.Staying
-pub use Rattle.elf_layout_plan.specs.WrittenNeeds

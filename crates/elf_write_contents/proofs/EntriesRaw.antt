@@ -13,7 +13,7 @@ use Rattle.elf_image.specs.Edited.{IsEdited}
 use Rattle.elf_image.specs.Lookups.{type_position}
 use Rattle.elf_image.specs.Kept.{KeptSection, image_at_read, link_of_type}
 use Rattle.elf_layout_plan.specs.Staying.{Staying, staying_entries}
-use Rattle.elf_write_symbol_tables.specs.Written.{AreWritten}
+use Rattle.elf_layout_plan.specs.WrittenNeeds.{AreWritten}
 use Rattle.elf_layout_plan.specs.Memory.{Resized}
 use Rattle.elf_layout_plan.specs.Needs.{written_entries}
 use Rattle.elf_layout_plan.specs.Plan.{Plan, resized}

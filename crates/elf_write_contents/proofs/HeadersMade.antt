@@ -23,7 +23,7 @@ use Rattle.elf_image.specs.declared.section.Section.{Section}
 use Rattle.elf_image.specs.ImageModel.{section_model}
 use Rattle.elf_image.specs.Kept.{image_at_read, kept_sections}
 use Rattle.elf_layout_plan.specs.Staying.{Staying, unmarked_needs}
-use Rattle.elf_write_symbol_tables.specs.Written.{AreWritten}
+use Rattle.elf_layout_plan.specs.WrittenNeeds.{AreWritten}
 use Rattle.elf_layout_plan.specs.Memory.{Resized, sized_sections}
 use Rattle.elf_layout_plan.specs.Plan.{Plan, plan_for, resized}
 use Rattle.elf_layout_plan.specs.Standing.{place_in, places}

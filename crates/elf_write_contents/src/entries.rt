@@ -9,7 +9,7 @@ ghost use Rattle.elf_image.specs.Kept.{image_at_read};
 ghost use Rattle.elf_layout_plan.specs.Plan.{resized};
 ghost use Rattle.elf_write_spec.specs.Contents.{spelled_list, table_value as value_of_table};
 ghost use Rattle.elf_layout_plan.specs.Staying.{staying_entries};
-ghost use Rattle.elf_write_symbol_tables.specs.Written.{AreWritten};
+ghost use Rattle.elf_layout_plan.specs.WrittenNeeds.{AreWritten};
 ghost use Rattle.elf_write_contents.specs.EntrySteps.{numbers_with, places_behind as places_left, value_with};
 ghost use Rattle.elf_write_symbol_tables.specs.WrittenStrings.{AreStrings};
 ghost use Rattle.elf_write_contents.specs.Inner.{AreRaw, IsPlanned};

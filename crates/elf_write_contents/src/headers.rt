@@ -11,7 +11,7 @@ ghost use Rattle.elf_tables.specs.declared.fault.TableFault.TheVariants.{NumberT
 ghost use Rattle.elf_tables.specs.Strings.{place_of};
 ghost use Rattle.elf_write_symbol_tables.specs.Found.{is_local as is_local_symbol};
 ghost use Rattle.elf_image_symbols.specs.Loan.{symbols_now};
-ghost use Rattle.elf_write_symbol_tables.specs.Written.{AreWritten};
+ghost use Rattle.elf_layout_plan.specs.WrittenNeeds.{AreWritten};
 ghost use Rattle.elf_write_spec.specs.Final.{final, new_number as number_of};
 ghost use Rattle.elf_write_spec.specs.Headers.{Reads, behind_locals as behind_all, written_header};
 ghost use Rattle.elf_write_contents.specs.HeaderSteps.{IsHeaderAt, IsKnown, header_by, headers_read, info_by};

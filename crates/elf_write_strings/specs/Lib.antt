@@ -5,6 +5,5 @@ pub mod VersionPlaces
 pub mod WrittenStrings
 pub use Rattle.elf_layout_sizes.specs.MadeTables
 pub use Rattle.elf_layout_sizes.specs.Staying
-pub use Rattle.elf_layout_sizes.specs.Written
 pub use Rattle.elf_layout_plan.specs.Needs
 pub use Rattle.elf_layout_plan.specs.Texts

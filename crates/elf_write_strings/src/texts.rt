@@ -8,7 +8,7 @@ ghost use Rattle.elf_image.specs.Kept.{image_at_read};
 ghost use Rattle.elf_image.specs.Lookups.{type_position};
 ghost use Rattle.elf_format.specs.declared.constants.TheConstants.{SHT_DYNAMIC as DYNAMIC};
 ghost use Rattle.elf_layout_sizes.specs.Staying.{staying_entries};
-ghost use Rattle.elf_layout_sizes.specs.Written.{AreWritten};
+ghost use Rattle.elf_layout_plan.specs.WrittenNeeds.{AreWritten};
 ghost use Rattle.elf_layout_plan.specs.Needs.{written_entries};
 ghost use Rattle.elf_layout_plan.specs.Texts.{is_subsequence, texts_of_entries};
 ghost use Rattle.elf_tables.specs.Strings.{place_of};

@@ -5,7 +5,6 @@ pub use Rattle.elf_write_strings.specs.MadeTables
 pub use Rattle.elf_write_strings.specs.PlacedTexts
 pub use Rattle.elf_write_strings.specs.Staying
 pub use Rattle.elf_write_strings.specs.VersionPlaces
-pub use Rattle.elf_write_strings.specs.Written
 pub use Rattle.elf_write_strings.specs.WrittenStrings
 pub use Rattle.elf_image_symbols.specs.TableSymbols
 pub use Rattle.elf_write_symbols.specs.Fits

@@ -6,7 +6,7 @@ ghost use Rattle.elf_layout_plan.specs.Plan.{resized};
 ghost use Rattle.elf_layout_plan.specs.PlanModel.{place_model};
 ghost use Rattle.elf_write_spec.specs.Contents.{address_of_type as address_of_kind, strings_place as place_of_strings, table_value as value_of_table};
 ghost use Rattle.elf_write_spec.specs.Final.{final};
-ghost use Rattle.elf_write_symbol_tables.specs.Written.{AreWritten};
+ghost use Rattle.elf_layout_plan.specs.WrittenNeeds.{AreWritten};
 ghost use Rattle.elf_write_contents.specs.EntrySteps.{place_at as place_there};
 
 use elf_image::Builder;

@@ -6,7 +6,7 @@ use Rattle.elf_format.specs.Image.{Image}
 use Rattle.elf_format.specs.Options.{list_at}
 use Rattle.elf_image.specs.ImageModel.{entry_model}
 use Rattle.elf_layout_plan.specs.Staying.{staying_entries}
-use Rattle.elf_write_symbol_tables.specs.Written.{AreWritten}
+use Rattle.elf_layout_plan.specs.WrittenNeeds.{AreWritten}
 use Rattle.elf_layout_plan.specs.Needs.{written_entries}
 use Rattle.elf_layout_plan.specs.Plan.{resized}
 use Rattle.elf_layout_plan.specs.Texts.{texts_of_entries}
