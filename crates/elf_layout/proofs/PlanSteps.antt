@@ -45,16 +45,16 @@ parts_found r rounds moved s segments same stands written =
 pub ended_within : (r : Resized) (rounds : Rounds) → IsEnded r rounds → All (λ p. p < length r.image.sections) rounds.moved.items
 ended_within r rounds ended = moved_within r rounds.looked rounds.moved.items ended.1.move
 
-plan_for : (r : Resized) (rounds looked : ℕ) (moved : List ℕ) (before : List (List ℕ)) → AreRounds r before looked moved → rounds ≡ length before + 1
+is_plan_for : (r : Resized) (rounds looked : ℕ) (moved : List ℕ) (before : List (List ℕ)) → AreRounds r before looked moved → rounds ≡ length before + 1
     → does_plan_fit r.image.form (plan_for r rounds looked moved) ≡ true → IsPlan r (plan_for r rounds looked moved)
 unfolding plan_for
-plan_for r rounds looked moved before ended count fits = record { before = before; moved = moved; ended = ended; counted = count; follows = refl; fits = fits }
+is_plan_for r rounds looked moved before ended count fits = record { before = before; moved = moved; ended = ended; counted = count; follows = refl; fits = fits }
 
 pub planned : (r : Resized) (rounds : Rounds) (parts : Plan) → IsEnded r rounds → AreParts r rounds parts → does_plan_fit r.image.form parts ≡ true → IsPlan r parts
 planned r rounds parts ended found fit =
     let moved : List ℕ = rounds.moved.items in
     let P : Plan → Type 0 = λ plan. does_plan_fit r.image.form plan ≡ true → IsPlan r plan in
-    subst P (sym found.are) (plan_for r rounds.count rounds.looked moved ended.0 ended.1 ended.2) fit
+    subst P (sym found.are) (is_plan_for r rounds.count rounds.looked moved ended.0 ended.1 ended.2) fit
 
 too_large_for : (r : Resized) (rounds looked : ℕ) (moved : List ℕ) (before : List (List ℕ)) → AreRounds r before looked moved → rounds ≡ length before + 1
     → does_plan_fit r.image.form (plan_for r rounds looked moved) ≡ false → IsTooLarge r
