@@ -1,16 +1,15 @@
 //! What the program answers when it does not do what was asked.
 ghost use Rattle.std.specs.Prelude.{◌≡◌, Some};
-ghost use Rattle.arwen_cli.specs.Fault.{answer_to, answer_to_batch, answer_to_elf, answer_to_elf_batch, answer_to_elf_command, answer_to_line, answer_to_macho_command, answer_to_show_command};
-ghost use Rattle.arwen_cli.specs.Fault.{answer_to_read, answer_to_words, fault_told, status_of, words_told};
-ghost use Rattle.arwen_cli.specs.declared.cli.error.ArwenError.TheVariants.{Io, Memory};
+ghost use Rattle.arwen_cli_faults.specs.Fault.{answer_to_elf_command, answer_to_macho_command, answer_to_read, answer_to_show_command, answer_to_words, fault_told, or_elf_memory, or_memory, status_of, words_told};
+ghost use Rattle.arwen_cli_faults.specs.declared.error.ArwenError.TheVariants.{Elf, ElfBatch, Io, Macho, MachoBatch, Memory};
 
-use crate::cli::line_error::LineError;
-use arwen_cli_overlaps::commands::ElfCommandError;
-use arwen_cli_overlaps::commands::files::{ElfBatchError, ElfError};
-use arwen_cli_show::{ElfCauses, MachoCauses, ShowCommandError};
+use crate::causes::{FaultHead, LastCause};
+use arwen_cli_show::ShowCommandError;
 use arwen_macho::macho::{MachoBatchError, MachoError};
 use byte_store::ReadError;
 use command_words::{EditFault, EditsError};
+use elf_commands::ElfCommandError;
+use elf_commands::files::{ElfBatchError, ElfError};
 use macho_commands::MachoCommandError;
 use macho_signing::SigningFault;
 use std::alloc::{AllocError, AllocFailed};
@@ -88,17 +87,6 @@ impl ArwenError {
     }
 }
 
-impl From<LineError> for ArwenError {
-    ghost from_gives = { λ e answer. answer ≡ answer_to_line e };
-
-    fn from(error: LineError) -> ArwenError {
-        match error {
-            LineError::Text { text, status } => ArwenError::Line { text, status },
-            LineError::Memory => ArwenError::Memory,
-        }
-    }
-}
-
 impl From<MachoCommandError> for ArwenError {
     ghost from_gives = { λ e answer. answer ≡ answer_to_macho_command e };
 
@@ -142,7 +130,7 @@ impl From<ShowCommandError> for ArwenError {
 }
 
 impl From<MachoError> for ArwenError {
-    ghost from_gives = { λ e answer. answer ≡ answer_to e };
+    ghost from_gives = { λ e answer. answer ≡ or_memory (Macho e) e };
 
     fn from(error: MachoError) -> ArwenError {
         match error {
@@ -153,7 +141,7 @@ impl From<MachoError> for ArwenError {
 }
 
 impl From<ElfError> for ArwenError {
-    ghost from_gives = { λ e answer. answer ≡ answer_to_elf e };
+    ghost from_gives = { λ e answer. answer ≡ or_elf_memory (Elf e) e };
 
     fn from(error: ElfError) -> ArwenError {
         match error {
@@ -164,7 +152,7 @@ impl From<ElfError> for ArwenError {
 }
 
 impl From<MachoBatchError> for ArwenError {
-    ghost from_gives = { λ e answer. answer ≡ answer_to_batch e };
+    ghost from_gives = { λ e answer. answer ≡ or_memory (MachoBatch e) e.fault };
 
     fn from(error: MachoBatchError) -> ArwenError {
         match error.fault {
@@ -178,7 +166,7 @@ impl From<MachoBatchError> for ArwenError {
 }
 
 impl From<ElfBatchError> for ArwenError {
-    ghost from_gives = { λ e answer. answer ≡ answer_to_elf_batch e };
+    ghost from_gives = { λ e answer. answer ≡ or_elf_memory (ElfBatch e) e.fault };
 
     fn from(error: ElfBatchError) -> ArwenError {
         match error.fault {
@@ -257,72 +245,8 @@ pub struct FaultLine<'a> {
 
 impl fmt::Display for FaultLine<'_> {
     fn fmt<W: fmt::Write>(&self, f: &mut fmt::Formatter<W>) -> fmt::Result {
-        let outer = self.error;
-        match outer {
-            ArwenError::Line { text, .. } => write!(f, "{text}"),
-            ArwenError::Memory | ArwenError::NotAllShown | ArwenError::NotAllFit => {
-                write!(f, "{outer}")
-            }
-            _ => {
-                let cause = InnerCause { error: outer };
-                write!(f, "{outer}: {cause}")
-            }
-        }
-    }
-}
-
-/// What a fault has behind its own words.
-#[derive(Clone, Copy)]
-pub(crate) struct InnerCause<'a> {
-    pub(crate) error: &'a ArwenError,
-}
-
-impl fmt::Display for InnerCause<'_> {
-    fn fmt<W: fmt::Write>(&self, f: &mut fmt::Formatter<W>) -> fmt::Result {
-        match self.error {
-            ArwenError::Macho(fault) => write!(f, "{}", MachoCauses { fault }),
-            ArwenError::Elf(fault) => write!(f, "{}", ElfCauses { fault }),
-            ArwenError::Io(fault) => write!(f, "{fault}"),
-            ArwenError::Edits(fault) => write!(f, "{fault}"),
-            ArwenError::ElfBatch(batch) => write!(f, "{}", ElfBatchCauses { batch }),
-            ArwenError::MachoBatch(batch) => write!(f, "{}", MachoBatchCauses { batch }),
-            ArwenError::Signing(fault) => write!(f, "{fault}"),
-            ArwenError::Line { .. }
-            | ArwenError::Memory
-            | ArwenError::NotAllShown
-            | ArwenError::NotAllFit => Ok(()),
-        }
-    }
-}
-
-/// A refused batch of edits of an ELF file: which edit, and its causes.
-#[derive(Clone, Copy)]
-struct ElfBatchCauses<'a> {
-    batch: &'a ElfBatchError,
-}
-
-impl fmt::Display for ElfBatchCauses<'_> {
-    fn fmt<W: fmt::Write>(&self, f: &mut fmt::Formatter<W>) -> fmt::Result {
-        let index = self.batch.index;
-        let causes = ElfCauses {
-            fault: &self.batch.fault,
-        };
-        write!(f, "edit {index}: {causes}")
-    }
-}
-
-/// The same of a Mach-O file.
-#[derive(Clone, Copy)]
-struct MachoBatchCauses<'a> {
-    batch: &'a MachoBatchError,
-}
-
-impl fmt::Display for MachoBatchCauses<'_> {
-    fn fmt<W: fmt::Write>(&self, f: &mut fmt::Formatter<W>) -> fmt::Result {
-        let index = self.batch.index;
-        let causes = MachoCauses {
-            fault: &self.batch.fault,
-        };
-        write!(f, "edit {index}: {causes}")
+        let head = FaultHead { error: self.error };
+        let last = LastCause { error: self.error };
+        write!(f, "{head}{last}")
     }
 }
