@@ -22,10 +22,9 @@ pub use arwen_cli_faults::commands::elf::{
 pub use arwen_cli_faults::commands::{
     ElfCommand, ElfCommandError, GroupEdit, SymbolTexts, elf, parse_elf_edits, plain_edits,
 };
-pub use arwen_cli_faults::{ArwenError, FaultLine};
-use arwen_cli_peers::{is_quiet, is_signed_by};
-pub use arwen_cli_faults::show;
 use arwen_cli_faults::show::Args;
+pub use arwen_cli_faults::{ArwenError, FaultLine, show};
+use arwen_cli_peers::{is_quiet, is_signed_by};
 pub use command::Command;
 pub use command_words::{
     EditFault, EditKind, EditsError, FileBytes, KeyValueError, MOST_BYTES, NotDone, Notes,

@@ -22,14 +22,7 @@ use std::alloc::{AllocError, Global};
 /// asked for, and then makes the plan: in place, or at the path of the output. The first of which not all is done ends it,
 /// with a line that names it and the causes, for which it is read once more. Error: `AllocError`, where there was no memory for
 /// that line.
-pub fn files_ending<
-    'p,
-    F: Opens<'p>,
-    C: Creates<'p>,
-    B: FileBytes,
-    P: Probe,
-    W: CountedWrite,
->(
+pub fn files_ending<'p, F: Opens<'p>, C: Creates<'p>, B: FileBytes, P: Probe, W: CountedWrite>(
     alloc: Global,
     files: &F,
     outputs: &C,
