@@ -2,7 +2,7 @@
 //! loader is told. Prints what it takes from them.
 #![tactic(auto)]
 
-use arwen_cli::cli::{ArwenError, execute, fault_line};
+use arwen_cli::cli::{ArwenError, RegularBytes, execute, fault_line};
 pub use arwen_cli::{cli, commands, elf, macho, patcher, utils};
 use arwen_cli_runners::{helped_peer, peer_of, run_line};
 use std::alloc::{AllocError, Global};
@@ -77,7 +77,7 @@ fn report(rt: &HostRuntime, words: &[&str], error: &ArwenError) -> io::Result<()
         ArwenError::Line { text, status: 0 } => rt.print(text),
         ArwenError::Line { text, .. } => rt.eprint(text),
         ArwenError::NotAllShown => Ok(()),
-        _ => match fault_line(rt, words, error) {
+        _ => match fault_line(rt.alloc(), &RegularBytes { files: rt }, words, error) {
             Ok(line) => rt.eprintln(line),
             Err(_) => rt.eprintln(error.line()),
         },

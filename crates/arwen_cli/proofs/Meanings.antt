@@ -4,16 +4,16 @@ use Rattle.std.specs.Prelude.{option_and_then, option_map, slice_get}
 use Rattle.std.proofs.lemmas.List.{length-map}
 use Rattle.clap.specs.Lexer.{usize_max}
 use Rattle.command_words.proofs.ForCallers.{meant_with-named, named-map}
-use Rattle.arwen_cli_overlaps.specs.Meaning.{ElfMeaning, Reading, elf_lines}
+use Rattle.arwen_cli_faults.specs.Meaning.{ElfMeaning, Reading, elf_lines}
 use Rattle.macho_commands.specs.Meaning.{MachoMeaning, macho_lines}
-use Rattle.arwen_cli_overlaps.specs.ElfEngine.{ElfMayFail as ElfCommandMayFail}
-use Rattle.arwen_cli_overlaps.specs.ElfCommandError.TheVariants as elf_error
+use Rattle.arwen_cli_faults.specs.ElfEngine.{ElfMayFail as ElfCommandMayFail}
+use Rattle.arwen_cli_faults.specs.ElfCommandError.TheVariants as elf_error
 use Rattle.macho_commands.specs.declared.error.MachoCommandError.TheVariants as macho_error
-use Rattle.arwen_cli_show.specs.Args.{ShowMeaning, meaning_of_args}
-use Rattle.arwen_cli_show.specs.declared.command.ShowCommandError.TheVariants as show_error
+use Rattle.arwen_cli_faults.specs.Args.{ShowMeaning, meaning_of_args}
+use Rattle.arwen_cli_faults.specs.ShowCommandError.TheVariants as show_error
 use Rattle.arwen_cli.specs.Fault.{IsOfLine}
-use Rattle.arwen_cli.specs.declared.cli.error.ArwenError.{ArwenError}
-use Rattle.arwen_cli.specs.declared.cli.error.ArwenError.TheVariants.{Memory}
+use Rattle.arwen_cli_faults.specs.declared.error.ArwenError.{ArwenError}
+use Rattle.arwen_cli_faults.specs.declared.error.ArwenError.TheVariants.{Memory}
 use Rattle.arwen_cli.specs.Meaning.{Meaning, of_elf, of_macho, of_show}
 use Rattle.command_words.specs.Rows.{Given, Line, Named, Text, asked_by_words, asked_with, given_by, kind_of, line_named, meant_by, meant_with, named, named_of}
 use Rattle.command_words.specs.WordValues.{TellsNoValue}

@@ -4,18 +4,19 @@ use Rattle.std.specs.Prelude.{if◌then◌else◌, option_and_then, option_map}
 use Rattle.std.specs.List.{list_any}
 use Rattle.std.specs.Result.{result_ok}
 use Rattle.std.specs.Str.{bytes_eq}
-use Rattle.arwen_cli_overlaps.specs.ElfEngine.{ElfMayFail as CommandMayFail}
-use Rattle.arwen_cli_overlaps.specs.Meaning.{ElfMeaning, Reading, elf_lines}
-use Rattle.arwen_cli_overlaps.specs.ElfCommandError.{ElfCommandError}
+use Rattle.arwen_cli_faults.specs.ElfEngine.{ElfMayFail as CommandMayFail}
+use Rattle.arwen_cli_faults.specs.Meaning.{ElfMeaning, Reading, elf_lines}
+use Rattle.arwen_cli_faults.specs.ElfCommandError.{ElfCommandError}
 use Rattle.macho_commands.specs.Engine.{MayFail}
 use Rattle.macho_commands.specs.Meaning.{MachoMeaning, macho_lines}
 use Rattle.macho_commands.specs.declared.error.MachoCommandError.{MachoCommandError}
-use Rattle.arwen_cli_show.specs.Args.{meaning_of_args}
-use Rattle.arwen_cli_show.specs.declared.command.ShowCommandError.{ShowCommandError}
-use Rattle.arwen_cli.specs.Fault.{IsOfLine, answer_to_elf_command, answer_to_macho_command, answer_to_show_command}
+use Rattle.arwen_cli_faults.specs.Args.{meaning_of_args}
+use Rattle.arwen_cli_faults.specs.ShowCommandError.{ShowCommandError}
+use Rattle.arwen_cli_faults.specs.Fault.{answer_to_elf_command, answer_to_macho_command, answer_to_show_command}
+use Rattle.arwen_cli.specs.Fault.{IsOfLine}
 use Rattle.arwen_cli.specs.Meaning.{Meaning, of_elf, of_macho, of_show}
 use Rattle.command_words.specs.Rows.{Text, meant_by}
-use Rattle.arwen_cli.specs.declared.cli.error.ArwenError.{ArwenError}
+use Rattle.arwen_cli_faults.specs.declared.error.ArwenError.{ArwenError}
 
 -- ---- what words mean
 

@@ -1,8 +1,8 @@
 -- What a line asks for: a command of either kind of file, or to show files.
 use Rattle.arwen_cli.specs.declared.cli.command.Command.{Command}
 use Rattle.arwen_cli.specs.declared.cli.command.Command.TheVariants.{Elf, Macho, Show}
-use Rattle.arwen_cli_show.specs.Args.{ShowMeaning, args_model}
-use Rattle.arwen_cli_overlaps.specs.Meaning.{ElfMeaning, elf_command_model}
+use Rattle.arwen_cli_faults.specs.Args.{ShowMeaning, args_model}
+use Rattle.arwen_cli_faults.specs.Meaning.{ElfMeaning, elf_command_model}
 use Rattle.macho_commands.specs.Meaning.{MachoMeaning, macho_command_model}
 
 -- what is asked for

@@ -3,8 +3,8 @@ use Rattle.std.specs.Prelude.{◌≡◌, ◌||◌, Bool, true, List, Some, codes
 use Rattle.std.specs.Str.{bytes_eq}
 use Rattle.command_words.specs.Rows.{Given, Text, named, named_of}
 use Rattle.elf_format.specs.Options.{is_some_and}
-use Rattle.arwen_cli_overlaps.specs.Meaning.{ElfMeaning, elf_lines}
-use Rattle.arwen_cli_overlaps.specs.Moving.{meant_moving}
+use Rattle.arwen_cli_faults.specs.Meaning.{ElfMeaning, elf_lines}
+use Rattle.arwen_cli_faults.specs.Moving.{meant_moving}
 use Rattle.arwen_cli.specs.Parser.{IsTaken}
 use Rattle.arwen_cli_peers.specs.Lines.{without_move}
 

@@ -4,34 +4,32 @@ ghost use Rattle.arwen_cli.specs.Line.{ElfMayFail, LineMayFail, MachoMayFail, Me
 ghost use Rattle.arwen_cli.specs.Meaning.{shown};
 ghost use Rattle.arwen_cli_peers.specs.Lines.{notes_asked};
 ghost use Rattle.arwen_cli.specs.Signing.{signing_asked};
-ghost use Rattle.arwen_cli_overlaps.specs.Meaning.{elf_command_model};
+ghost use Rattle.arwen_cli_faults.specs.Meaning.{elf_command_model};
 ghost use Rattle.macho_commands.specs.Meaning.{macho_command_model};
 
 mod build;
 mod command;
-mod error;
 mod file;
 mod line;
 mod line_error;
 mod parser;
 mod telling;
 
-pub use arwen_cli_overlaps::commands::elf::{
+pub use arwen_cli_faults::commands::elf::{
     FileProbe, Probe, edit_path, edit_store, print_path, print_store, run_elf, shrink_path,
     shrink_store,
 };
-pub use arwen_cli_overlaps::commands::{
+pub use arwen_cli_faults::commands::{
     ElfCommand, ElfCommandError, GroupEdit, SymbolTexts, elf, parse_elf_edits, plain_edits,
 };
+use arwen_cli_faults::show::Args;
+pub use arwen_cli_faults::{ArwenError, FaultLine, show};
 use arwen_cli_peers::{is_quiet, is_signed_by};
-pub use arwen_cli_show as show;
-use arwen_cli_show::Args;
 pub use command::Command;
 pub use command_words::{
     EditFault, EditKind, EditsError, FileBytes, KeyValueError, MOST_BYTES, NotDone, Notes,
     RegularBytes, ValueError, parse_key_val,
 };
-pub use error::{ArwenError, FaultLine};
 pub use file::read_bytes;
 pub use line::parse_line;
 pub use macho_commands::{

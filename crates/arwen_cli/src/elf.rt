@@ -1,5 +1,5 @@
 //! ELF files: the container that the program works with, and what goes with it.
-pub use arwen_cli_overlaps::commands::files::{
+pub use arwen_cli_faults::commands::files::{
     BuilderExt, CountedWrite, ElfBatchError, ElfContainer, ElfEdit, ElfError, ModifyCause, Needed,
     ProbeAnswer, Reason, Removed, Sink, Task, Writer, changes, container, machine_of, rewriter,
     write_all_counted,

@@ -1,3 +1,2 @@
-pub mod BracketLaws
 pub mod EndLaws
 pub mod RunLaws

@@ -66,18 +66,18 @@ module _ {W : Type 0} (written : W → Option (List ℕ)) (failed : W → ℕ) (
       before.0 (written now) (subst (λ (left : List (String Global)). AreDone finds prints plan contents (map string_bytes left) (written now) (written now)) (sym (drop_all i paths past)) refl)
 
   -- the ending that tells a fault is that of all files
-  pub ends_by : {E : Type 0} (r : Result Ending E) (path : Text) (now : W) (e : PatchelfError) → IfOk r (IsFaultEnding plan (contents path) path e)
+  pub ends_by : {E : Type 0} (again : Text → Option (List ℕ)) (r : Result Ending E) (path : Text) (now : W) (e : PatchelfError) → IfOk r (IsFaultEnding plan (again path) path e)
       → StopsAt written failed finds prints plan contents answered (map string_bytes paths) first now path e
-      → IfOk r (EndsFiles written failed finds prints plan contents answered (map string_bytes paths) first now)
-  ends_by (Ok (Failed line)) path now e is stops = (path, e, stops, is)
-  ends_by (Ok Done) path now e is stops = absurd is
-  ends_by (Ok (Told text)) path now e is stops = absurd is
-  ends_by (Err x) path now e is stops = tt
+      → IfOk r (EndsFiles written failed finds prints plan contents answered again (map string_bytes paths) first now)
+  ends_by again (Ok (Failed line)) path now e is stops = (path, e, stops, is)
+  ends_by again (Ok Done) path now e is stops = absurd is
+  ends_by again (Ok (Told text)) path now e is stops = absurd is
+  ends_by again (Err x) path now e is stops = tt
 
 -- what an ending of files says of any line
-pub read_ends : {W : Type 0} {E : Type 0} (written : W → Option (List ℕ)) (failed : W → ℕ) (finds : Finding) (prints : List Print) (plan : PlanMeant) (contents : Text → Option (List ℕ)) (answered : Text → ElfCommandError → Type 0) (paths : List Text) (first now : W) (r : Result Ending E)
-    → IfOk r (EndsFiles written failed finds prints plan contents answered paths first now) → IfOk r EndsReadLine
-read_ends written failed finds prints plan contents answered paths first now (Ok Done) ends = tt
-read_ends written failed finds prints plan contents answered paths first now (Ok (Failed line)) ends = (plan, contents ends.0, ends.0, ends.1, ends.3)
-read_ends written failed finds prints plan contents answered paths first now (Ok (Told text)) ends = absurd ends
-read_ends written failed finds prints plan contents answered paths first now (Err x) ends = tt
+pub read_ends : {W : Type 0} {E : Type 0} (written : W → Option (List ℕ)) (failed : W → ℕ) (finds : Finding) (prints : List Print) (plan : PlanMeant) (contents : Text → Option (List ℕ)) (answered : Text → ElfCommandError → Type 0) (again : Text → Option (List ℕ)) (paths : List Text) (first now : W) (r : Result Ending E)
+    → IfOk r (EndsFiles written failed finds prints plan contents answered again paths first now) → IfOk r EndsReadLine
+read_ends written failed finds prints plan contents answered again paths first now (Ok Done) ends = tt
+read_ends written failed finds prints plan contents answered again paths first now (Ok (Failed line)) ends = (plan, again ends.0, ends.0, ends.1, ends.3)
+read_ends written failed finds prints plan contents answered again paths first now (Ok (Told text)) ends = absurd ends
+read_ends written failed finds prints plan contents answered again paths first now (Err x) ends = tt

@@ -59,10 +59,10 @@ IsFaultEnding plan known path e (Failed line) = IsElfFaultLine plan known path e
 IsFaultEnding plan known path e Done = ⊥
 IsFaultEnding plan known path e (Told text) = ⊥
 
--- how a line ends: all is done of all its files, or a line tells the first of which not all is done
-abbrev pub EndsFiles : {W : Type 0} → (W → Option (List ℕ)) → (W → ℕ) → Finding → List Print → PlanMeant → (Text → Option (List ℕ)) → (Text → ElfCommandError → Type 0) → List Text → W → W → Ending → Type 0
-EndsFiles written failed finds prints plan contents answered paths old new Done = AreDone finds prints plan contents paths (written old) (written new)
-EndsFiles written failed finds prints plan contents answered paths old new (Failed line) =
+-- how a line ends: all is done of all its files, or a line tells the first of which not all is done, for which it is read again
+abbrev pub EndsFiles : {W : Type 0} → (W → Option (List ℕ)) → (W → ℕ) → Finding → List Print → PlanMeant → (Text → Option (List ℕ)) → (Text → ElfCommandError → Type 0) → (Text → Option (List ℕ)) → List Text → W → W → Ending → Type 0
+EndsFiles written failed finds prints plan contents answered again paths old new Done = AreDone finds prints plan contents paths (written old) (written new)
+EndsFiles written failed finds prints plan contents answered again paths old new (Failed line) =
     (path : Text) × (e : PatchelfError) × StopsAt written failed finds prints plan contents answered paths old new path e
-    × IsElfFaultLine plan (contents path) path e (string_bytes line)
-EndsFiles written failed finds prints plan contents answered paths old new (Told text) = ⊥
+    × IsElfFaultLine plan (again path) path e (string_bytes line)
+EndsFiles written failed finds prints plan contents answered again paths old new (Told text) = ⊥

@@ -15,16 +15,18 @@ use arwen_cli_patchelf::commands::files::CountedWrite;
 use arwen_cli_patchelf::{NotWritten, PatchelfError, Print, patch_path, print_path, write_path};
 use arwen_cli_patchelf_lines::Plan;
 use byte_store::{Creates, Opens};
-use command_words::NotDone;
+use command_words::{FileBytes, NotDone};
 use std::alloc::{AllocError, Global};
 
 /// Does what a line asks of the files at these paths, in order, and answers how it ends. Of each it prints first what is
 /// asked for, and then makes the plan: in place, or at the path of the output. The first of which not all is done ends it,
-/// with a line that names it and the causes. Error: `AllocError`, where there was no memory for that line.
-pub fn files_ending<'p, F: Opens<'p>, C: Creates<'p>, P: Probe, W: CountedWrite>(
+/// with a line that names it and the causes, for which it is read once more. Error: `AllocError`, where there was no memory for
+/// that line.
+pub fn files_ending<'p, F: Opens<'p>, C: Creates<'p>, B: FileBytes, P: Probe, W: CountedWrite>(
     alloc: Global,
     files: &F,
     outputs: &C,
+    reader: &B,
     paths: &'p [String],
     prints: &[Print],
     plan: &Plan,
@@ -39,7 +41,7 @@ pub fn files_ending<'p, F: Opens<'p>, C: Creates<'p>, P: Probe, W: CountedWrite>
         (known_outputs (C.may_fail outputs.now) C.is_new C.Created.contents
         sink_inner sink_failures)
         (P.may_find probe.now) (plan_model plan.now) (option_map (λ path. path.now) output.entry))
-        (map string_bytes paths.now) out.old out.new) }
+        (B.contents reader.now) (map string_bytes paths.now) out.old out.new) }
 {
     for path in paths {
         let path = path.as_str();
@@ -47,26 +49,25 @@ pub fn files_ending<'p, F: Opens<'p>, C: Creates<'p>, P: Probe, W: CountedWrite>
             alloc, files, outputs, path, prints, plan, output, probe, out,
         ) {
             Ok(()) => {}
-            Err(error) => return fault_ending(alloc, files, plan, path, error),
+            Err(error) => return fault_ending(alloc, reader, plan, path, error),
         }
     }
     Ok(Ending::Done)
 }
 
 /// How a line ends by the fault of the file at a path.
-fn fault_ending<'p, O: Opens<'p>>(
+fn fault_ending<B: FileBytes>(
     alloc: Global,
-    files: &O,
+    reader: &B,
     plan: &Plan,
-    path: &'p str,
+    path: &str,
     error: PatchelfError,
 ) -> Result<Ending, AllocError>
-    ensures { IfOk result (IsFaultEnding (plan_model plan.now) (O.contents files.now path.now)
+    ensures { IfOk result (IsFaultEnding (plan_model plan.now) (B.contents reader.now path.now)
         path.now error) }
 {
-    let text = elf_fault_line(alloc, files, plan, path, &error);
-    drop(error);
-    Ok(Ending::Failed(text?))
+    let line = elf_fault_line(alloc, reader, plan, path, error)?;
+    Ok(Ending::Failed(line))
 }
 
 /// Does what a line asks of the file at a path.

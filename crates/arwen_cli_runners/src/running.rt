@@ -106,6 +106,7 @@ fn run_lent<R: Files + Print + AllocGlobal>(rt: &R, line: &Line) -> Result<Endin
         rt.alloc(),
         &files,
         &files,
+        &RegularBytes { files: rt },
         line.paths.as_slice(),
         prints.as_slice(),
         &line.plan,
@@ -182,8 +183,7 @@ fn names_fault<R: Files + AllocGlobal>(
 ) -> Result<Ending, AllocError>
     ensures { IfOk result (IsNamesEnding path.now error) }
 {
-    let files = LineFiles { files: rt };
-    let line = names_fault_line(rt.alloc(), &files, path, &error);
-    drop(error);
-    Ok(Ending::Failed(line?))
+    let files = RegularBytes { files: rt };
+    let line = names_fault_line(rt.alloc(), &files, path, error)?;
+    Ok(Ending::Failed(line))
 }

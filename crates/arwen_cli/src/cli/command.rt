@@ -1,6 +1,6 @@
 //! What a line asks for.
-use arwen_cli_overlaps::commands::ElfCommand;
-use arwen_cli_show::Args;
+use arwen_cli_faults::commands::ElfCommand;
+use arwen_cli_faults::show::Args;
 use macho_commands::MachoCommand;
 
 /// What is asked for.

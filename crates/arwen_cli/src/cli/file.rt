@@ -3,7 +3,7 @@ ghost use Rattle.std.specs.Prelude.{◌<◌, ◌≤◌, IfErr, IfOk, vec_len};
 ghost use Rattle.std.specs.Io.KnownBytes.{Consumes, IsAtEnd};
 ghost use Rattle.arwen_cli.specs.Fault.{IsOfFile};
 
-use crate::cli::error::ArwenError;
+use arwen_cli_faults::ArwenError;
 use byte_store::read_up_to;
 use command_words::MOST_BYTES;
 use std::alloc::Global;

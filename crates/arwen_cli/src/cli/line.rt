@@ -3,22 +3,22 @@ ghost use Rattle.std.specs.Prelude.{◌≡◌, None, Some, codes, false, IfErr, 
 ghost use Rattle.arwen_cli.specs.Fault.{IsOfLine, asked_status};
 ghost use Rattle.arwen_cli.specs.Meaning.{Meaning};
 ghost use Rattle.command_words.specs.Rows.{given_model, meant_with};
-ghost use Rattle.arwen_cli_overlaps.specs.Meaning.{elf_lines, elf_command_model, reading_of};
+ghost use Rattle.arwen_cli_faults.specs.Meaning.{elf_lines, elf_command_model, reading_of};
 ghost use Rattle.macho_commands.specs.Meaning.{macho_lines};
 ghost use Rattle.macho_commands.specs.Meaning.{macho_command_model};
 ghost use Rattle.arwen_cli.specs.Meaning.{shown};
 ghost use Rattle.arwen_cli.specs.Line.{has_option, meaning_of};
 ghost use Rattle.arwen_cli.specs.Moving.{MeansMoving, takes_leave as takes_the_leave};
-ghost use Rattle.arwen_cli_show.specs.Args.{ShowMeaning, meaning_of_args, args_model};
+ghost use Rattle.arwen_cli_faults.specs.Args.{ShowMeaning, meaning_of_args, args_model};
 ghost use Rattle.arwen_cli.specs.Parser.{MayRefuse, MayRefuseReading, MayRefuseTaken, MeansBy, MeansTaken};
 
 use crate::cli::build::BUILT;
 use crate::cli::line_error::LineError;
 use crate::cli::parser::{First, parse_values};
 use crate::cli::{ArwenError, Command, ElfCommand, MachoCommand};
-use arwen_cli_overlaps::commands::{elf, elf_table};
+use arwen_cli_faults::commands::{elf, elf_table};
+use arwen_cli_faults::show::{Args, ArgsFault, HELP, parse_args};
 use arwen_cli_peers::{is_moved_by, without_move, without_quiet, without_sign};
-use arwen_cli_show::{Args, ArgsFault, HELP, parse_args};
 use command_words::{ValueError, Values, find_row};
 use macho_commands::macho_table;
 use std::alloc::{AllocError, Global};

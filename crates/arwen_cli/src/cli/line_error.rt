@@ -1,7 +1,9 @@
 //! Why a line's words are no command to do.
 ghost use Rattle.std.specs.Prelude.{◌≡◌};
+ghost use Rattle.arwen_cli.specs.Fault.{answer_to_line};
 ghost use Rattle.arwen_cli.specs.declared.cli.line_error.LineError.TheVariants.{Memory};
 
+use arwen_cli_faults::ArwenError;
 use std::alloc::{AllocError, AllocFailed};
 
 /// Why a line's words are no command to do.
@@ -31,5 +33,16 @@ impl<T: Drop> From<AllocFailed<T>> for LineError {
 
     fn from(_error: AllocFailed<T>) -> LineError {
         LineError::Memory
+    }
+}
+
+impl From<LineError> for ArwenError {
+    ghost from_gives = { λ e answer. answer ≡ answer_to_line e };
+
+    fn from(error: LineError) -> ArwenError {
+        match error {
+            LineError::Text { text, status } => ArwenError::Line { text, status },
+            LineError::Memory => ArwenError::Memory,
+        }
     }
 }

@@ -1,5 +1,5 @@
 //! What is printed of an answer.
-use arwen_cli::cli::{ArwenError, fault_line};
+use arwen_cli::cli::{ArwenError, RegularBytes, fault_line};
 use std::alloc::AllocError;
 use std::io;
 
@@ -33,8 +33,9 @@ fn tell_fault(rt: &HostRuntime, words: &[&str], error: &ArwenError) -> io::Resul
 
 /// The line of such a fault, made again where memory was refused.
 fn named_line(rt: &HostRuntime, words: &[&str], error: &ArwenError) -> Result<String, AllocError> {
-    match fault_line(rt, words, error) {
-        Err(_) => fault_line(rt, words, error),
+    let files = RegularBytes { files: rt };
+    match fault_line(rt.alloc(), &files, words, error) {
+        Err(_) => fault_line(rt.alloc(), &files, words, error),
         line => line,
     }
 }

@@ -1,7 +1,7 @@
 -- The parser's clauses give what its words say.
 use Rattle.std.proofs.Common.{◌≡◌, ◌∙◌, ◌≤◌, ◌-◌, Bor, List, Option, Some, ap, arith, codes, drop, length, length-drop, rules, sym, take}
 use Rattle.std.proofs.lemmas.List.{take_all}
-use Rattle.arwen_cli_show.specs.Args.{ShowMeaning, meaning_of_args, args_model}
+use Rattle.arwen_cli_faults.specs.Args.{ShowMeaning, meaning_of_args, args_model}
 use Rattle.std.specs.Prelude.{slice_get}
 use Rattle.std.proofs.lemmas.Result.{err_from_is_err_and}
 use Rattle.clap.specs.Lexer.{usize_max}

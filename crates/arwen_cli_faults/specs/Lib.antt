@@ -1,0 +1,14 @@
+pub mod Asked
+pub mod Causes
+pub mod Fault
+pub mod Overlaps
+pub mod Telling
+pub use Rattle.arwen_cli_show.specs.Args
+pub use Rattle.arwen_cli_show.specs.Reasons
+pub use Rattle.arwen_cli_show.specs.declared.command.ShowCommandError
+pub use Rattle.elf_commands.specs.ElfAsked
+pub use Rattle.elf_commands.specs.ElfCommandError
+pub use Rattle.elf_commands.specs.ElfEngine
+pub use Rattle.elf_commands.specs.Groups
+pub use Rattle.elf_commands.specs.Meaning
+pub use Rattle.elf_commands.specs.Moving
