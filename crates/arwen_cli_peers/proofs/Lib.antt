@@ -1,5 +1,4 @@
 pub mod FlagLaws
 pub mod GroupLaws
 pub mod LineLaws
-pub mod NameLaws
 pub mod Turns

@@ -312,7 +312,7 @@ fn put_each_of(
 }
 
 /// Puts a command with its values behind the words, with a word `+` before it where there are words.
-pub(crate) fn put_group(
+fn put_group(
     alloc: Global,
     words: &mut Vec<String>,
     command: &str,
