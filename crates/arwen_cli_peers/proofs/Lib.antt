@@ -1,4 +1,3 @@
 pub mod FlagLaws
-pub mod GroupLaws
 pub mod LineLaws
 pub mod Turns

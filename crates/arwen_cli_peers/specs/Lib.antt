@@ -1,4 +1,4 @@
-pub mod EditWords
+pub mod Asked
 pub mod Flags
 pub mod Lines
 pub mod Options
