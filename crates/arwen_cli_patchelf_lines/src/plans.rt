@@ -18,13 +18,19 @@ use std::alloc::{AllocError, Global};
 pub struct Plan {
     /// The prefixes that are allowed in run paths that shrink; none allow all. `None` where none shrink.
     pub shrinks: Option<Vec<String>>,
-    /// The edits; where there are some, the last one gives leave that the dynamic section moves.
-    pub edits: Vec<GroupEdit>,
-    /// The names of the options that ask for the edits, in their order; none asks for the leave.
-    pub options: Vec<&'static str>,
+    // The edits, with leave behind them that the dynamic section moves, and the names of the options that ask for them.
+    edits: Vec<GroupEdit>,
+    options: Vec<&'static str>,
 }
 
 impl Plan {
+    /// The edits; where there are some, the last one gives leave that the dynamic section moves. Takes no memory.
+    pub fn edits(&self) -> &[GroupEdit]
+        ensures { map group_model result.now ≡ (plan_model self.now).edits }
+    {
+        self.edits.as_slice()
+    }
+
     /// The name of the option that asks for the edit with this number, counted from 0; empty where none does. Takes no memory.
     pub fn option_of(&self, index: usize) -> &'static str
         ensures { result.now ≡ option_asking (plan_model self.now) index }
