@@ -8,14 +8,15 @@ use Rattle.byte_store.specs.declared.reading.ReadError.TheVariants as read
 use Rattle.macho_commands.proofs.SlicedRuns.{caused_later, left_later}
 use Rattle.macho_commands.specs.Errors.{answer_to, answer_to_read}
 use Rattle.macho_commands.specs.Failures.{HasCause, WritesEnd}
-use Rattle.macho_commands.specs.Meaning.{apply}
+use Rattle.macho_commands.specs.Meaning.{batch}
 use Rattle.macho_commands.specs.declared.error.MachoCommandError.{MachoCommandError}
 use Rattle.macho_commands.specs.declared.error.MachoCommandError.TheVariants.{Edits, Io, Macho, MachoBatch, Memory, Signing as signing, Unfit}
 use Rattle.macho_commands.specs.declared.signing.Signing.TheVariants.{Left}
+use Rattle.macho_edits.specs.Call.{Call}
 use Rattle.macho_edits.specs.declared.error.MachoError.{MachoError}
 use Rattle.macho_edits.specs.declared.error.MachoError.TheVariants as macho
 use Rattle.arwen_cli_peers.specs.Options.{Asked, Text}
-use Rattle.arwen_cli_install_names.specs.Editing.{AreKnownWords, FailsNames, FailsPatchBy, HasNamesCause, TellsNoWords, answer_to_naming}
+use Rattle.arwen_cli_install_names.specs.Editing.{AreKnownCalls, FailsNames, FailsPatchBy, HasNamesCause, TellsNoCalls, answer_to_naming}
 use Rattle.arwen_cli_install_names.specs.Naming.{TellsUnnamed}
 use Rattle.arwen_cli_install_names.specs.declared.editing.NamesError.{NamesError}
 use Rattle.arwen_cli_install_names.specs.declared.editing.NamesError.TheVariants.{Command, Unlike}
@@ -24,42 +25,42 @@ use Rattle.arwen_cli_install_names.specs.declared.naming.NamingFault.TheVariants
 
 -- ## What is left and told
 
--- there are no words
-pub wordless_fails : (ended : Error → Type 0) (given : List Asked) (path : Text) (old new : Option (List ℕ)) (e : NamesError) → Stays old new → TellsNoWords given old e → FailsNames ended given path old new e
-wordless_fails ended given path old new (Command (Io e)) kept tells = inl kept
-wordless_fails ended given path old new (Command Memory) kept tells = (kept, λ file known. inl (tells file known))
-wordless_fails ended given path old new (Command (Macho e)) kept tells = (kept, λ file known. inl (tells file known))
-wordless_fails ended given path old new (Command (MachoBatch e)) kept tells = (kept, λ file known. inl (tells file known))
-wordless_fails ended given path old new (Command (Edits e)) kept tells = (kept, λ file known. inl (tells file known))
-wordless_fails ended given path old new (Command (signing e)) kept tells = (kept, λ file known. inl (tells file known))
-wordless_fails ended given path old new (Command Unfit) kept tells = (kept, λ file known. inl (tells file known))
-wordless_fails ended given path old new Unlike kept tells = (kept, tells)
+-- there are no edits
+pub uncalled_fails : (ended : Error → Type 0) (given : List Asked) (path : Text) (old new : Option (List ℕ)) (e : NamesError) → Stays old new → TellsNoCalls given old e → FailsNames ended given path old new e
+uncalled_fails ended given path old new (Command (Io e)) kept tells = inl kept
+uncalled_fails ended given path old new (Command Memory) kept tells = (kept, λ file known. inl (tells file known))
+uncalled_fails ended given path old new (Command (Macho e)) kept tells = (kept, λ file known. inl (tells file known))
+uncalled_fails ended given path old new (Command (MachoBatch e)) kept tells = (kept, λ file known. inl (tells file known))
+uncalled_fails ended given path old new (Command (Edits e)) kept tells = (kept, λ file known. inl (tells file known))
+uncalled_fails ended given path old new (Command (signing e)) kept tells = (kept, λ file known. inl (tells file known))
+uncalled_fails ended given path old new (Command Unfit) kept tells = (kept, λ file known. inl (tells file known))
+uncalled_fails ended given path old new Unlike kept tells = (kept, tells)
 
--- `apply` isn't made with the words that options mean
-unapplied_fails : (ended : Error → Type 0) (given : List Asked) (path : Text) (words : List Text) (old new : Option (List ℕ)) (e : MachoCommandError) → AreKnownWords given old words → FailsPatchBy ended path words old new e
+-- the batch isn't made of the edits that options mean
+unmade_fails : (ended : Error → Type 0) (given : List Asked) (path : Text) (calls : List Call) (old new : Option (List ℕ)) (e : MachoCommandError) → AreKnownCalls given old calls → FailsPatchBy ended path calls old new e
     → FailsNames ended given path old new (Command e)
-unapplied_fails ended given path [] old new e are fails = absurd fails
-unapplied_fails ended given path (word ∷ words) old new (Io e) are fails = elim fails [
+unmade_fails ended given path [] old new e are fails = absurd fails
+unmade_fails ended given path (call ∷ calls) old new (Io e) are fails = elim fails [
   | inl kept ↦ inl kept
-  | inr (by, torn) ↦ inr (by, word ∷ words, are, torn)
+  | inr (by, torn) ↦ inr (by, call ∷ calls, are, torn)
 ]
-unapplied_fails ended given path (word ∷ words) old new Memory are fails = (fails.0, λ file known. inr (word ∷ words, are file known, fails.1 file known))
-unapplied_fails ended given path (word ∷ words) old new (Macho e) are fails = (fails.0, λ file known. inr (word ∷ words, are file known, fails.1 file known))
-unapplied_fails ended given path (word ∷ words) old new (MachoBatch e) are fails = (fails.0, λ file known. inr (word ∷ words, are file known, fails.1 file known))
-unapplied_fails ended given path (word ∷ words) old new (Edits e) are fails = (fails.0, λ file known. inr (word ∷ words, are file known, fails.1 file known))
-unapplied_fails ended given path (word ∷ words) old new (signing e) are fails = (fails.0, λ file known. inr (word ∷ words, are file known, fails.1 file known))
-unapplied_fails ended given path (word ∷ words) old new Unfit are fails = (fails.0, λ file known. inr (word ∷ words, are file known, fails.1 file known))
+unmade_fails ended given path (call ∷ calls) old new Memory are fails = (fails.0, λ file known. inr (call ∷ calls, are file known, fails.1 file known))
+unmade_fails ended given path (call ∷ calls) old new (Macho e) are fails = (fails.0, λ file known. inr (call ∷ calls, are file known, fails.1 file known))
+unmade_fails ended given path (call ∷ calls) old new (MachoBatch e) are fails = (fails.0, λ file known. inr (call ∷ calls, are file known, fails.1 file known))
+unmade_fails ended given path (call ∷ calls) old new (Edits e) are fails = (fails.0, λ file known. inr (call ∷ calls, are file known, fails.1 file known))
+unmade_fails ended given path (call ∷ calls) old new (signing e) are fails = (fails.0, λ file known. inr (call ∷ calls, are file known, fails.1 file known))
+unmade_fails ended given path (call ∷ calls) old new Unfit are fails = (fails.0, λ file known. inr (call ∷ calls, are file known, fails.1 file known))
 
--- the calls of `apply` come after the bytes were read
-patched_later : (writes : Error → Type 0) (none : Type 0) (path : Text) (words : List Text) (old mid new : Option (List ℕ)) (a b c : ℕ) (e : MachoCommandError) → mid ≡ old → a ≤ b → FailsPatchBy (WritesEnd writes none b c) path words mid new e
-    → FailsPatchBy (WritesEnd writes none a c) path words old new e
+-- the calls of a batch come after the bytes were read
+patched_later : (writes : Error → Type 0) (none : Type 0) (path : Text) (calls : List Call) (old mid new : Option (List ℕ)) (a b c : ℕ) (e : MachoCommandError) → mid ≡ old → a ≤ b → FailsPatchBy (WritesEnd writes none b c) path calls mid new e
+    → FailsPatchBy (WritesEnd writes none a c) path calls old new e
 patched_later writes none path [] old mid new a b c e same grows fails = fails
-patched_later writes none path (word ∷ words) old mid new a b c e same grows fails = left_later writes none Left (apply path (word ∷ words)) old mid new e a b c same grows fails
+patched_later writes none path (call ∷ calls) old mid new a b c e same grows fails = left_later writes none Left (batch path (call ∷ calls)) old mid new e a b c same grows fails
 
-pub fails_after : (writes : Error → Type 0) (none : Type 0) (given : List Asked) (path : Text) (words : List Text) (old mid new : Option (List ℕ)) (a b c : ℕ) (e : MachoCommandError) → AreKnownWords given old words → mid ≡ old → a ≤ b
-    → FailsPatchBy (WritesEnd writes none b c) path words mid new e → FailsNames (WritesEnd writes none a c) given path old new (Command e)
-fails_after writes none given path words old mid new a b c e are same grows fails =
-    unapplied_fails (WritesEnd writes none a c) given path words old new e are (patched_later writes none path words old mid new a b c e same grows fails)
+pub fails_after : (writes : Error → Type 0) (none : Type 0) (given : List Asked) (path : Text) (calls : List Call) (old mid new : Option (List ℕ)) (a b c : ℕ) (e : MachoCommandError) → AreKnownCalls given old calls → mid ≡ old → a ≤ b
+    → FailsPatchBy (WritesEnd writes none b c) path calls mid new e → FailsNames (WritesEnd writes none a c) given path old new (Command e)
+fails_after writes none given path calls old mid new a b c e are same grows fails =
+    unmade_fails (WritesEnd writes none a c) given path calls old new e are (patched_later writes none path calls old mid new a b c e same grows fails)
 
 -- ## Causes
 
@@ -91,7 +92,7 @@ unnamed_cause reads writes none known a b given file (naming.Command (signing e)
 unnamed_cause reads writes none known a b given file (naming.Command Unfit) tells = tt
 unnamed_cause reads writes none known a b given file naming.Unlike tells = tt
 
--- calls of `apply`
+-- calls of a batch
 named_cause : (reads writes : Error → Type 0) (none : Type 0) (known : Option (List ℕ)) (a b : ℕ) (e : MachoCommandError) → HasCause reads writes none known a b e
     → HasNamesCause reads writes none known a b (Command e)
 named_cause reads writes none known a b (Io e) (inl (inl failed)) = inl (inl failed)

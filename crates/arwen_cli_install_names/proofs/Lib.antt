@@ -1,3 +1,3 @@
+pub mod CallLaws
 pub mod FailureLaws
 pub mod NameLaws
-pub mod WordLaws

@@ -5,13 +5,14 @@ use Rattle.byte_store.specs.Causes.{EndsBy, IsNotWhole}
 use Rattle.byte_store.specs.Known.{Stays}
 use Rattle.byte_store.specs.declared.reading.ReadError.TheVariants as read
 use Rattle.macho_commands.specs.Engine.{Tells, outcome}
-use Rattle.macho_commands.specs.Meaning.{apply}
+use Rattle.macho_commands.specs.Meaning.{batch}
 use Rattle.macho_commands.specs.Stores.{FailsPatch, Patched, Torn}
 use Rattle.macho_commands.specs.declared.error.MachoCommandError.{MachoCommandError}
 use Rattle.macho_commands.specs.declared.error.MachoCommandError.TheVariants.{Io}
 use Rattle.macho_commands.specs.declared.signing.Signing.TheVariants.{Left}
+use Rattle.macho_edits.specs.Call.{Call}
 use Rattle.arwen_cli_peers.specs.Options.{Asked, Text}
-use Rattle.arwen_cli_install_names.specs.Naming.{AreWordsOf, IsUnlike, TellsUnread}
+use Rattle.arwen_cli_install_names.specs.Naming.{AreCallsOf, IsUnlike, TellsUnread}
 use Rattle.arwen_cli_install_names.specs.declared.editing.NamesError.{NamesError}
 use Rattle.arwen_cli_install_names.specs.declared.editing.NamesError.TheVariants.{Command, Unlike}
 use Rattle.arwen_cli_install_names.specs.declared.naming.NamingFault.{NamingFault}
@@ -19,27 +20,27 @@ use Rattle.arwen_cli_install_names.specs.declared.naming.NamingFault.TheVariants
 
 -- ## What is made
 
--- options mean these words of known bytes
-abbrev pub AreKnownWords : List Asked → Option (List ℕ) → List Text → Type 0
-AreKnownWords given known words = (file : List ℕ) → known ≡ Some file → AreWordsOf given file words
+-- options mean these edits of known bytes
+abbrev pub AreKnownCalls : List Asked → Option (List ℕ) → List Call → Type 0
+AreKnownCalls given known calls = (file : List ℕ) → known ≡ Some file → AreCallsOf given file calls
 
--- known bytes become those that `apply` makes of them with these words; without words they stay
-abbrev pub IsPatchedBy : Text → List Text → Option (List ℕ) → Option (List ℕ) → Type 0
+-- known bytes become those that a batch of these edits makes of them; without edits they stay
+abbrev pub IsPatchedBy : Text → List Call → Option (List ℕ) → Option (List ℕ) → Type 0
 IsPatchedBy path [] old new = Stays old new
-IsPatchedBy path (word ∷ words) old new = Patched Left (apply path (word ∷ words)) old new
+IsPatchedBy path (call ∷ calls) old new = Patched Left (batch path (call ∷ calls)) old new
 
--- Known bytes become those that `apply` makes of them with the words that options mean.
+-- Known bytes become those that a batch makes of them of the edits that options mean.
 pub record IsNamed (given : List Asked) (path : Text) (old new : Option (List ℕ)) : Type 0 where
-  pub words : List Text
-  pub are : AreKnownWords given old words
-  pub patched : IsPatchedBy path words old new
+  pub calls : List Call
+  pub are : AreKnownCalls given old calls
+  pub patched : IsPatchedBy path calls old new
 
 -- ## What an error leaves and tells
 
--- what an error of `apply` with these words leaves and tells; without words it isn't called
-abbrev pub FailsPatchBy : (Error → Type 0) → Text → List Text → Option (List ℕ) → Option (List ℕ) → MachoCommandError → Type 0
+-- what an error of a batch of these edits leaves and tells; without edits there is none
+abbrev pub FailsPatchBy : (Error → Type 0) → Text → List Call → Option (List ℕ) → Option (List ℕ) → MachoCommandError → Type 0
 FailsPatchBy ended path [] old new e = ⊥
-FailsPatchBy ended path (word ∷ words) old new e = FailsPatch ended Left (apply path (word ∷ words)) old new e
+FailsPatchBy ended path (call ∷ calls) old new e = FailsPatch ended Left (batch path (call ∷ calls)) old new e
 
 -- why a file isn't edited of which it isn't known what options mean
 abbrev pub answer_to_naming : NamingFault → NamesError
@@ -47,30 +48,30 @@ answer_to_naming (naming.Command e) = Command e
 answer_to_naming naming.Unlike = Unlike
 
 -- that error of known bytes; one of reading them tells nothing
-abbrev pub TellsNoWords : List Asked → Option (List ℕ) → NamesError → Type 0
-TellsNoWords given known (Command (Io e)) = ⊤
-TellsNoWords given known (Command e) = (file : List ℕ) → known ≡ Some file → TellsUnread file e
-TellsNoWords given known Unlike = (file : List ℕ) → known ≡ Some file → IsUnlike given file
+abbrev pub TellsNoCalls : List Asked → Option (List ℕ) → NamesError → Type 0
+TellsNoCalls given known (Command (Io e)) = ⊤
+TellsNoCalls given known (Command e) = (file : List ℕ) → known ≡ Some file → TellsUnread file e
+TellsNoCalls given known Unlike = (file : List ℕ) → known ≡ Some file → IsUnlike given file
 
--- the error of `apply` with these words; without words it isn't called
-abbrev pub TellsUnpatched : Text → List Text → List ℕ → MachoCommandError → Type 0
+-- the error of a batch of these edits; without edits there is none
+abbrev pub TellsUnpatched : Text → List Call → List ℕ → MachoCommandError → Type 0
 TellsUnpatched path [] file e = ⊥
-TellsUnpatched path (word ∷ words) file e = Tells (outcome Left (apply path (word ∷ words)) file) e
+TellsUnpatched path (call ∷ calls) file e = Tells (outcome Left (batch path (call ∷ calls)) file) e
 
--- the error of `apply` on the bytes of a file, with the words that options mean of them
-abbrev pub TellsUnapplied : List Asked → Text → List ℕ → MachoCommandError → Type 0
-TellsUnapplied given path file e =
-    (words : List Text) × AreWordsOf given file words × TellsUnpatched path words file e
+-- the error of a batch on the bytes of a file, of the edits that options mean of them
+abbrev pub TellsUnmade : List Asked → Text → List ℕ → MachoCommandError → Type 0
+TellsUnmade given path file e =
+    (calls : List Call) × AreCallsOf given file calls × TellsUnpatched path calls file e
 
--- an error of the bytes of a file: they aren't read, or `apply` isn't made, or the slices need unlike words
+-- an error of the bytes of a file: they aren't read, or the batch isn't made, or the slices need unlike edits
 abbrev pub TellsNaming : List Asked → Text → List ℕ → NamesError → Type 0
-TellsNaming given path file (Command e) = TellsUnread file e ⊎ TellsUnapplied given path file e
+TellsNaming given path file (Command e) = TellsUnread file e ⊎ TellsUnmade given path file e
 TellsNaming given path file Unlike = IsUnlike given file
 
--- what an error leaves and tells: only writes that ended by it change bytes, where `apply` was accepted
+-- what an error leaves and tells: only writes that ended by it change bytes, where the batch was accepted
 abbrev pub FailsNames : (Error → Type 0) → List Asked → Text → Option (List ℕ) → Option (List ℕ) → NamesError → Type 0
 FailsNames ended given path old new (Command (Io e)) =
-    Stays old new ⊎ (ended e × (words : List Text) × AreKnownWords given old words × Torn Left (apply path words) old new)
+    Stays old new ⊎ (ended e × (calls : List Call) × AreKnownCalls given old calls × Torn Left (batch path calls) old new)
 FailsNames ended given path old new e = Stays old new × ((file : List ℕ) → old ≡ Some file → TellsNaming given path file e)
 
 -- ## Why a file could not be read or written

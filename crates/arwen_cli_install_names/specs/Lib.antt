@@ -1,3 +1,4 @@
 pub mod Editing
 pub mod Line
+pub mod NameEdits
 pub mod Naming

@@ -1,7 +1,6 @@
 -- What a line of install_name_tool asks for.
-use Rattle.std.specs.Prelude.{◌≡◌, ◌&&◌, ◌||◌, Bool, List, [], ◌∷◌, map, not, Option, Some, None, Result, Ok, Err, codes, if◌then◌else◌}
+use Rattle.std.specs.Prelude.{◌≡◌, List, [], ◌∷◌, map, Result, Ok, Err, codes}
 use Rattle.std.specs.Borrow.{Bor}
-use Rattle.std.specs.Str.{bytes_eq}
 use Rattle.arwen_cli_peers.specs.Options.{Asked, TellsWrong, Text, given_model, line_of, values_of}
 use Rattle.arwen_cli_peers.specs.Tables.{install_name_tool_known}
 use Rattle.arwen_cli_install_names.specs.declared.line.NameLine.{NameLine}
@@ -10,24 +9,14 @@ use Rattle.arwen_cli_install_names.specs.declared.line.NameLineError.TheVariants
 use Rattle.arwen_cli_install_names.specs.declared.line.NameRefused.{NameRefused}
 use Rattle.arwen_cli_install_names.specs.declared.line.NameRefused.TheVariants as told
 
--- why a line isn't done: no file is named, or more than one; a value of the option of this name is a `+`
+-- why a line isn't done: no file is named, or more than one
 pub data NameRefusal : Type 0 where
   no_file : NameRefusal
   several_files : NameRefusal
-  plus : Text → NameRefusal
 
 abbrev pub name_refused_model : NameRefused → NameRefusal
 name_refused_model told.NoFile = no_file
 name_refused_model told.SeveralFiles = several_files
-name_refused_model (told.Plus name) = plus name.now
-
--- an option has a `+` as a value, at which `apply` would cut its words
-abbrev pub value_plus : Asked → Bool
-value_plus one = not (bytes_eq one.name (codes "FILE")) && (bytes_eq one.first (codes "+") || bytes_eq one.second (codes "+"))
-
-abbrev pub plus_among : List Asked → Option Text
-plus_among [] = None
-plus_among (one ∷ rest) = if value_plus one then Some one.name else plus_among rest
 
 -- the one file of these
 abbrev pub one_file : List Text → Result Text NameRefusal
@@ -35,18 +24,9 @@ one_file [] = Err no_file
 one_file (path ∷ []) = Ok path
 one_file (path ∷ next ∷ rest) = Err several_files
 
--- the file, where no option is refused
-abbrev pub unless_plus : Option Text → Text → Result Text NameRefusal
-unless_plus None path = Ok path
-unless_plus (Some name) path = Err (plus name)
-
-abbrev pub then_plus : Option Text → Result Text NameRefusal → Result Text NameRefusal
-then_plus found (Ok path) = unless_plus found path
-then_plus found (Err refusal) = Err refusal
-
 -- the file of a line that gives this
 abbrev pub file_given : List Asked → Result Text NameRefusal
-file_given given = then_plus (plus_among given) (one_file (values_of (codes "FILE") given))
+file_given given = one_file (values_of (codes "FILE") given)
 
 -- What a line's words ask for: options in order, and a file.
 pub record ReadsNames (words : List Text) (line : NameLine) : Type 0 where

@@ -10,11 +10,12 @@ use Rattle.arwen_macho.specs.declared.macho.MachoType.TheVariants.{Fat, SingleAr
 use Rattle.macho_commands.specs.Errors.{answer_to}
 use Rattle.macho_commands.specs.declared.error.MachoCommandError.{MachoCommandError}
 use Rattle.macho_commands.specs.declared.error.MachoCommandError.TheVariants.{Memory}
+use Rattle.macho_edits.specs.Call.{Call}
 use Rattle.macho_edits.specs.State.{laid_bytes}
 use Rattle.macho_edits.specs.declared.error.MachoError.{MachoError}
 use Rattle.macho_image.specs.Commands.{id_of, libs_of, rpaths_of}
-use Rattle.arwen_cli_peers.specs.NameWords.{FileNames, name_words}
-use Rattle.arwen_cli_peers.specs.Options.{Asked, Text}
+use Rattle.arwen_cli_peers.specs.Options.{Asked}
+use Rattle.arwen_cli_install_names.specs.NameEdits.{FileNames, name_calls}
 use Rattle.arwen_cli_install_names.specs.declared.naming.NamingFault.{NamingFault}
 use Rattle.arwen_cli_install_names.specs.declared.naming.NamingFault.TheVariants.{Command, Unlike}
 
@@ -26,9 +27,9 @@ names_in bytes = record {
   run_paths = map utf8_lossy (rpaths_of bytes);
 }
 
--- the words of `apply` that options mean of it
-abbrev pub words_in : List ℕ → List Asked → List Text
-words_in bytes given = name_words (names_in bytes) given
+-- the edits that options mean of it
+abbrev pub calls_in : List ℕ → List Asked → List Call
+calls_in bytes given = name_calls (names_in bytes) given
 
 -- ## Files of either shape
 
@@ -40,36 +41,36 @@ abbrev pub parts_of : MachoType → List (List ℕ)
 parts_of (SingleArch held) = laid_bytes held.state ∷ []
 parts_of (Fat held) = map slice_bytes held.state.slices
 
--- options mean these words of each thin file
-abbrev pub AreWords : List Asked → List (List ℕ) → List Text → Type 0
-AreWords given parts words = AllByRecursion (λ part. words ≡ words_in part given) parts
+-- options mean these edits of each thin file
+abbrev pub AreCalls : List Asked → List (List ℕ) → List Call → Type 0
+AreCalls given parts calls = AllByRecursion (λ part. calls ≡ calls_in part given) parts
 
--- the same, where there are no words if there is no thin file
-abbrev pub AreWordsOfAll : List Asked → List (List ℕ) → List Text → Type 0
-AreWordsOfAll given [] words = words ≡ []
-AreWordsOfAll given (part ∷ parts) words = AreWords given (part ∷ parts) words
+-- the same, where there are no edits if there is no thin file
+abbrev pub AreCallsOfAll : List Asked → List (List ℕ) → List Call → Type 0
+AreCallsOfAll given [] calls = calls ≡ []
+AreCallsOfAll given (part ∷ parts) calls = AreCalls given (part ∷ parts) calls
 
--- The bytes are a Mach-O file that is read, and options mean these words of it, of each slice the same.
-pub record AreWordsOf (given : List Asked) (file : List ℕ) (words : List Text) : Type 0 where
+-- The bytes are a Mach-O file that is read, and options mean these edits of it, of each slice the same.
+pub record AreCallsOf (given : List Asked) (file : List ℕ) (calls : List Call) : Type 0 where
   pub read : container_found file ≡ None
-  pub are : AreWordsOfAll given (parts_of (first_container file)) words
+  pub are : AreCallsOfAll given (parts_of (first_container file)) calls
 
--- ## Why there are no words
+-- ## Why there are no edits
 
--- no words are those that options mean of each of these thin files
+-- no edits are those that options mean of each of these thin files
 abbrev pub AreUnlike : List Asked → List (List ℕ) → Type 0
-AreUnlike given parts = (words : List Text) → AreWords given parts words → ⊥
+AreUnlike given parts = (calls : List Call) → AreCalls given parts calls → ⊥
 
 -- an error of thin files that were read
-abbrev pub TellsWordless : List Asked → List (List ℕ) → NamingFault → Type 0
-TellsWordless given parts (Command e) = e ≡ Memory
-TellsWordless given parts Unlike = AreUnlike given parts
+abbrev pub TellsPartsUnnamed : List Asked → List (List ℕ) → NamingFault → Type 0
+TellsPartsUnnamed given parts (Command e) = e ≡ Memory
+TellsPartsUnnamed given parts Unlike = AreUnlike given parts
 
 -- the error of bytes that are no Mach-O file that is read; want of memory may be answered in any case
 abbrev pub TellsUnread : List ℕ → MachoCommandError → Type 0
 TellsUnread file e = (fault : MachoError) × Finds fault (container_found file) × (e ≡ answer_to fault)
 
--- The bytes are a Mach-O file that is read, and options mean unlike words of its slices.
+-- The bytes are a Mach-O file that is read, and options mean unlike edits of its slices.
 pub record IsUnlike (given : List Asked) (file : List ℕ) : Type 0 where
   pub read : container_found file ≡ None
   pub unlike : AreUnlike given (parts_of (first_container file))

@@ -1,18 +1,20 @@
 //! Stores and files, edited as lines ask.
-ghost use Rattle.std.specs.Prelude.{◌≡◌, ◌≤◌, IfErr, IfOk, OnOk, map, string_bytes};
+ghost use Rattle.std.specs.Prelude.{◌≡◌, ◌≤◌, IfErr, IfOk, OnOk, map};
 ghost use Rattle.byte_store.specs.Known.{Stays};
 ghost use Rattle.macho_commands.specs.Failures.{HasCause, WritesEnd};
-ghost use Rattle.macho_commands.specs.Meaning.{apply as apply_meant, macho_command_model};
+ghost use Rattle.macho_commands.specs.Meaning.{batch as batch_meant, macho_command_model};
 ghost use Rattle.macho_commands.specs.Stores.{FailsPatch};
 ghost use Rattle.macho_commands.specs.declared.signing.Signing.TheVariants.{Left};
+ghost use Rattle.macho_edits.specs.Batch.{calls_of};
 ghost use Rattle.arwen_cli_peers.specs.Options.{given_model};
-ghost use Rattle.arwen_cli_install_names.specs.Editing.{AreKnownWords, FailsNames, FailsPatchBy, HasNamesCause, IsNamed, IsPatchedBy, TellsNoWords};
+ghost use Rattle.arwen_cli_install_names.specs.Editing.{AreKnownCalls, FailsNames, FailsPatchBy, HasNamesCause, IsNamed, IsPatchedBy, TellsNoCalls};
 
-use crate::naming::{NamingFault, words_for};
+use crate::naming::{NamingFault, edits_for};
 use arwen_cli_peers::Given;
+use arwen_macho::macho::MachoEdit;
 use byte_store::{ReadError, Store, load_whole};
 use command_words::{MOST_BYTES, Notes};
-use macho_commands::{MachoCommand, MachoCommandError, Signing, apply, patch_store};
+use macho_commands::{MachoCommand, MachoCommandError, Signing, batch, patch_store};
 use std::alloc::{AllocError, Global};
 use std::io;
 
@@ -74,12 +76,12 @@ impl From<io::Error> for NamesError {
     }
 }
 
-/// Edits the bytes of a store by the words of `apply` that options mean of them: all or none. Without words they stay. Answers
-/// the line of the note, where it is wanted, with the path.
+/// Makes the edits of the bytes of a store that options mean of them: all or none. Without edits they stay. Answers the line of
+/// the note, where it is wanted, with the path.
 ///
 /// # Errors
 ///
-/// `Unlike` where options mean unlike words of the slices; `Command` with what is found wrong in a file that isn't read, or
+/// `Unlike` where options mean unlike edits of the slices; `Command` with what is found wrong in a file that isn't read, or
 /// with the errors of `patch_store` and of `load_whole`.
 pub fn name_store<S: Store>(
     alloc: Global,
@@ -96,61 +98,65 @@ pub fn name_store<S: Store>(
     ensures cause { IfErr result (HasNamesCause S.may_fail_read S.may_fail_write S.may_take_none
         (S.contents store.old) (S.failed store.old) (S.failed store.new)) }
 {
-    let words = words_in(alloc, store, given)?;
-    Ok(patch_by(alloc, store, path, words, notes)?)
+    let edits = edits_in(alloc, store, given)?;
+    Ok(patch_by(alloc, store, path, edits, notes)?)
 }
 
-/// The words that options mean of the bytes of a store.
-fn words_in<S: Store>(
+/// The edits that options mean of the bytes of a store.
+fn edits_in<S: Store>(
     alloc: Global,
     store: &mut S,
     given: &[Given<'_>],
-) -> Result<Vec<String>, NamesError>
-    ensures are { IfOk result (λ words. AreKnownWords (map given_model given.now)
-        (S.contents store.old) (map string_bytes words.items)) }
-    ensures tells { IfErr result (TellsNoWords (map given_model given.now) (S.contents store.old)) }
+) -> Result<Vec<MachoEdit>, NamesError>
+    ensures are { IfOk result (λ edits. AreKnownCalls (map given_model given.now)
+        (S.contents store.old) (calls_of edits.items)) }
+    ensures tells { IfErr result (TellsNoCalls (map given_model given.now) (S.contents store.old)) }
     ensures kept { Stays (S.contents store.old) (S.contents store.new) }
     ensures grows { S.failed store.old ≤ S.failed store.new }
     ensures cause { IfErr result (HasNamesCause S.may_fail_read S.may_fail_write S.may_take_none
         (S.contents store.old) (S.failed store.old) (S.failed store.new)) }
 {
     let bytes = load_whole(alloc, store, MOST_BYTES)?;
-    Ok(words_for(alloc, bytes.as_slice(), given)?)
+    Ok(edits_for(alloc, bytes.as_slice(), given)?)
 }
 
-/// Edits the bytes of a store by words of `apply`.
+/// Makes edits of the bytes of a store, all or none.
 fn patch_by<S: Store>(
     alloc: Global,
     store: &mut S,
     path: &str,
-    words: Vec<String>,
+    edits: Vec<MachoEdit>,
     notes: Notes,
 ) -> Result<String, MachoCommandError>
-    ensures patched { OnOk result (IsPatchedBy path.now (map string_bytes words.items)
+    ensures patched { OnOk result (IsPatchedBy path.now (calls_of edits.items)
         (S.contents store.old) (S.contents store.new)) }
     ensures left { IfErr result (FailsPatchBy
         (WritesEnd S.may_fail_write S.may_take_none (S.failed store.old) (S.failed store.new))
-        path.now (map string_bytes words.items) (S.contents store.old) (S.contents store.new)) }
+        path.now (calls_of edits.items) (S.contents store.old) (S.contents store.new)) }
     ensures cause { IfErr result (HasCause S.may_fail_read S.may_fail_write S.may_take_none
         (S.contents store.old) (S.failed store.old) (S.failed store.new)) }
 {
-    if words.is_empty() {
+    if edits.is_empty() {
         return Ok(String::new(alloc));
     }
-    let command = apply_command(alloc, path, words)?;
+    let command = batch_command(alloc, path, edits)?;
     let answer = patch_store(alloc, store, &command, notes, Signing::Left);
     drop(command);
     answer
 }
 
-/// The command `apply` with these words for the file at a path.
-fn apply_command(alloc: Global, path: &str, words: Vec<String>) -> Result<MachoCommand, AllocError>
+/// The command that makes these edits of the file at a path.
+fn batch_command(
+    alloc: Global,
+    path: &str,
+    edits: Vec<MachoEdit>,
+) -> Result<MachoCommand, AllocError>
     ensures { IfOk result (λ command. macho_command_model command
-        ≡ apply_meant path.now (map string_bytes words.items)) }
+        ≡ batch_meant path.now (calls_of edits.items)) }
 {
     let path_to_binary = String::from_str(alloc, path)?;
-    Ok(MachoCommand::Apply(apply::Args {
+    Ok(MachoCommand::Batch(batch::Args {
         path_to_binary,
-        edits: words,
+        edits,
     }))
 }

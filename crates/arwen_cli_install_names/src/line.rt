@@ -1,7 +1,7 @@
 //! Lines of install_name_tool, read.
-ghost use Rattle.std.specs.Prelude.{◌≡◌, IfErr, IfOk, codes, map, option_map};
-ghost use Rattle.arwen_cli_peers.specs.Options.{given_model, values_of as values_given};
-ghost use Rattle.arwen_cli_install_names.specs.Line.{IsNameLine, ReadsNames, TellsNames, TellsRefusal, file_given, one_file, path_told, plus_among, value_plus};
+ghost use Rattle.std.specs.Prelude.{◌≡◌, IfErr, IfOk, map};
+ghost use Rattle.arwen_cli_peers.specs.Options.{given_model};
+ghost use Rattle.arwen_cli_install_names.specs.Line.{IsNameLine, ReadsNames, TellsNames, TellsRefusal, file_given, path_told};
 
 use arwen_cli_peers::options::FILE;
 use arwen_cli_peers::tables::install_name_tool_options;
@@ -24,8 +24,6 @@ pub enum NameRefused {
     NoFile,
     /// More than one file is named.
     SeveralFiles,
-    /// A value of the option of this name is a `+`.
-    Plus(&'static str),
 }
 
 /// Why a line isn't done.
@@ -41,8 +39,7 @@ pub enum NameLineError<'a> {
 ///
 /// # Errors
 ///
-/// The first of these: what the words say that is no line; no file, or more than one; a value that `apply` would read
-/// otherwise.
+/// The first of these: what the words say that is no line; no file, or more than one.
 pub fn read_name_line<'a>(
     alloc: Global,
     words: &[&'a str],
@@ -61,28 +58,16 @@ fn line_of<'a>(given: Vec<Given<'a>>) -> Result<NameLine<'a>, NameLineError<'a>>
     ensures reads { IfOk result (IsNameLine (map given_model given.entry.items)) }
     ensures refused { IfErr result (TellsRefusal (map given_model given.entry.items)) }
 {
-    let path = path_in(given.as_slice());
+    let path = file_in(given.as_slice());
     match path {
         Ok(path) => Ok(NameLine { given, path }),
         Err(refused) => Err(NameLineError::Refused(refused)),
     }
 }
 
-/// The one file that is given, where the values of options are such as `apply` takes.
-fn path_in<'a>(given: &[Given<'a>]) -> Result<&'a str, NameRefused>
-    ensures { path_told result ≡ file_given (map given_model given.now) }
-{
-    let path = file_in(given)?;
-    match plus_in(given) {
-        Some(name) => Err(NameRefused::Plus(name)),
-        None => Ok(path),
-    }
-}
-
 /// The one file that is given.
 fn file_in<'a>(given: &[Given<'a>]) -> Result<&'a str, NameRefused>
-    ensures { path_told result
-        ≡ one_file (values_given (codes "FILE") (map given_model given.now)) }
+    ensures { path_told result ≡ file_given (map given_model given.now) }
 {
     let mut found = None;
     for one in given {
@@ -97,23 +82,4 @@ fn file_in<'a>(given: &[Given<'a>]) -> Result<&'a str, NameRefused>
         Some(path) => Ok(path),
         None => Err(NameRefused::NoFile),
     }
-}
-
-/// The first option that has a `+` as a value.
-fn plus_in(given: &[Given<'_>]) -> Option<&'static str>
-    ensures { option_map (λ name. name.now) result ≡ plus_among (map given_model given.now) }
-{
-    for one in given {
-        if has_plus(one) {
-            return Some(one.name);
-        }
-    }
-    None
-}
-
-/// Whether an option has a `+` as a value.
-fn has_plus(one: &Given<'_>) -> bool
-    ensures { result ≡ value_plus (given_model one.now) }
-{
-    one.name != FILE && (one.first == "+" || one.second == "+")
 }

@@ -2,15 +2,19 @@
 ghost use Rattle.std.specs.Prelude.{◌≡◌, ◌↔◌, IfErr, IfOk, IsTrue, map, string_bytes};
 ghost use Rattle.std.specs.Str.Lossy.{utf8_lossy};
 ghost use Rattle.arwen_macho.specs.FatSlice.{slice_model};
+ghost use Rattle.macho_edits.specs.Batch.{calls_of};
 ghost use Rattle.macho_edits.specs.State.{laid_bytes};
 ghost use Rattle.macho_image.specs.Commands.{libs_of, rpaths_of};
-ghost use Rattle.arwen_cli_peers.specs.NameWords.{names_model};
 ghost use Rattle.arwen_cli_peers.specs.Options.{given_model};
-ghost use Rattle.arwen_cli_install_names.specs.Naming.{AreWords, AreWordsOf, AreWordsOfAll, TellsUnnamed, TellsWordless, names_in, parts_of, slice_bytes, words_in as words_meant};
+ghost use Rattle.arwen_cli_install_names.specs.NameEdits.{names_model};
+ghost use Rattle.arwen_cli_install_names.specs.Naming.{AreCalls, AreCallsOf, AreCallsOfAll, TellsPartsUnnamed, TellsUnnamed, calls_in, names_in, parts_of, slice_bytes};
 
+use crate::equal_edits::are_equal;
+use crate::name_edits::{Names, name_edits};
 use arwen_cli_peers::Given;
-use arwen_cli_peers::name_words::{Names, name_words};
-use arwen_macho::macho::{FatMacho, MachO, MachoContainer, MachoError, MachoType, SingleMachO};
+use arwen_macho::macho::{
+    FatMacho, MachO, MachoContainer, MachoEdit, MachoError, MachoType, SingleMachO,
+};
 use macho_commands::MachoCommandError;
 use std::alloc::{AllocError, AllocFailed, Global};
 
@@ -59,116 +63,107 @@ impl<T: Drop> From<AllocFailed<T>> for NamingFault {
     }
 }
 
-/// The words of `apply` that options mean of the bytes of a file: of each slice the same.
+/// The edits that options mean of the bytes of a file: of each slice the same.
 ///
 /// # Errors
 ///
-/// What is found wrong in a file that isn't read, `Unlike` where no words are those of all slices, and `Memory`.
-pub fn words_for(
+/// What is found wrong in a file that isn't read, `Unlike` where no edits are those of all slices, and `Memory`.
+pub fn edits_for(
     alloc: Global,
     bytes: &[u8],
     given: &[Given<'_>],
-) -> Result<Vec<String>, NamingFault>
-    ensures ok { IfOk result (λ words. AreWordsOf (map given_model given.now) bytes.now
-        (map string_bytes words.items)) }
+) -> Result<Vec<MachoEdit>, NamingFault>
+    ensures ok { IfOk result (λ edits. AreCallsOf (map given_model given.now) bytes.now
+        (calls_of edits.items)) }
     ensures err { IfErr result (TellsUnnamed (map given_model given.now) bytes.now) }
 {
     let file = MachoContainer::parse(alloc, bytes)?;
-    let words = words_in(alloc, file.inner(), given);
+    let edits = edits_in(alloc, file.inner(), given);
     drop(file);
-    words
+    edits
 }
 
 /// The same of a file that was read.
-fn words_in(
+fn edits_in(
     alloc: Global,
     file: &MachoType<'_>,
     given: &[Given<'_>],
-) -> Result<Vec<String>, NamingFault>
-    ensures ok { IfOk result (λ words. AreWordsOfAll (map given_model given.now) (parts_of file.now)
-        (map string_bytes words.items)) }
-    ensures err { IfErr result (TellsWordless (map given_model given.now) (parts_of file.now)) }
+) -> Result<Vec<MachoEdit>, NamingFault>
+    ensures ok { IfOk result (λ edits. AreCallsOfAll (map given_model given.now) (parts_of file.now)
+        (calls_of edits.items)) }
+    ensures err { IfErr result (TellsPartsUnnamed (map given_model given.now) (parts_of file.now)) }
 {
     match file {
-        MachoType::SingleArch(single) => Ok(words_of(alloc, single.inner(), given)?),
-        MachoType::Fat(fat) => words_of_slices(alloc, fat.archs(), given),
+        MachoType::SingleArch(single) => Ok(edits_of(alloc, single.inner(), given)?),
+        MachoType::Fat(fat) => edits_of_slices(alloc, fat.archs(), given),
     }
 }
 
-/// The words that options mean of each of these slices.
-fn words_of_slices(
+/// The edits that options mean of each of these slices.
+fn edits_of_slices(
     alloc: Global,
     slices: &[FatMacho<'_>],
     given: &[Given<'_>],
-) -> Result<Vec<String>, NamingFault>
-    ensures ok { IfOk result (λ words. AreWordsOfAll (map given_model given.now)
-        (map slice_bytes (map slice_model slices.now)) (map string_bytes words.items)) }
-    ensures err { IfErr result (TellsWordless (map given_model given.now)
+) -> Result<Vec<MachoEdit>, NamingFault>
+    ensures ok { IfOk result (λ edits. AreCallsOfAll (map given_model given.now)
+        (map slice_bytes (map slice_model slices.now)) (calls_of edits.items)) }
+    ensures err { IfErr result (TellsPartsUnnamed (map given_model given.now)
         (map slice_bytes (map slice_model slices.now))) }
 {
     let Some(first) = slices.first() else {
         return Ok(Vec::new(alloc));
     };
-    let words = words_of(alloc, first.inner().inner(), given)?;
-    match are_words_of(alloc, slices, given, words.as_slice()) {
-        Ok(true) => Ok(words),
+    let edits = edits_of(alloc, first.inner().inner(), given)?;
+    match are_edits_of(alloc, slices, given, edits.as_slice()) {
+        Ok(true) => Ok(edits),
         Ok(false) => Err(NamingFault::Unlike),
         Err(refused) => Err(NamingFault::from(refused)),
     }
 }
 
-/// Whether options mean these words of each of these slices.
-fn are_words_of(
+/// Whether options mean these edits of each of these slices.
+fn are_edits_of(
     alloc: Global,
     slices: &[FatMacho<'_>],
     given: &[Given<'_>],
-    words: &[String],
+    edits: &[MachoEdit],
 ) -> Result<bool, AllocError>
-    ensures { IfOk result (λ same. IsTrue same ↔ AreWords (map given_model given.now)
-        (map slice_bytes (map slice_model slices.now)) (map string_bytes words.now)) }
+    ensures { IfOk result (λ same. IsTrue same ↔ AreCalls (map given_model given.now)
+        (map slice_bytes (map slice_model slices.now)) (calls_of edits.now)) }
 {
     for slice in slices {
-        if !same_words(alloc, slice.inner(), given, words)? {
+        if !same_edits(alloc, slice.inner(), given, edits)? {
             return Ok(false);
         }
     }
     Ok(true)
 }
 
-/// Whether options mean these words of a slice.
-fn same_words(
+/// Whether options mean these edits of a slice.
+fn same_edits(
     alloc: Global,
     slice: &SingleMachO<'_>,
     given: &[Given<'_>],
-    words: &[String],
+    edits: &[MachoEdit],
 ) -> Result<bool, AllocError>
-    ensures { IfOk result (λ same. IsTrue same ↔ map string_bytes words.now
-        ≡ words_meant (laid_bytes slice.now.state) (map given_model given.now)) }
+    ensures { IfOk result (λ same. IsTrue same ↔ calls_of edits.now
+        ≡ calls_in (laid_bytes slice.now.state) (map given_model given.now)) }
 {
-    let own = words_of(alloc, slice.inner(), given)?;
-    Ok(are_equal(own.as_slice(), words))
+    let own = edits_of(alloc, slice.inner(), given)?;
+    Ok(are_equal(own.as_slice(), edits))
 }
 
-/// Whether texts are the same.
-fn are_equal(left: &[String], right: &[String]) -> bool
-    ensures { IsTrue result ↔ map string_bytes right.now ≡ map string_bytes left.now }
-{
-    let Some((text, more)) = left.split_first() else {
-        return right.is_empty();
-    };
-    let Some((other, rest)) = right.split_first() else {
-        return false;
-    };
-    text.as_str() == other.as_str() && are_equal(more, rest)
-}
-
-/// The words of `apply` that options mean of a thin file.
-fn words_of(alloc: Global, file: &MachO<'_>, given: &[Given<'_>]) -> Result<Vec<String>, AllocError>
-    ensures { IfOk result (λ words. map string_bytes words.items
-        ≡ words_meant file.now.bytes (map given_model given.now)) }
+/// The edits that options mean of a thin file.
+fn edits_of(
+    alloc: Global,
+    file: &MachO<'_>,
+    given: &[Given<'_>],
+) -> Result<Vec<MachoEdit>, AllocError>
+    ensures { IfOk result (λ edits. calls_of edits.items
+        ≡ calls_in file.now.bytes (map given_model given.now)) }
 {
     let names = names_of(alloc, file)?;
-    name_words(alloc, given, &names)
+    name_edits(alloc, given, &names)
 }
 
 /// What a thin file has before its edits.

@@ -1,2 +1,3 @@
+pub mod EditLaws
 pub mod MapLaws
 pub mod ValueLaws

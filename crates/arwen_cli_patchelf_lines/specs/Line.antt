@@ -1,11 +1,11 @@
 -- What a line of patchelf asks for.
-use Rattle.std.specs.Prelude.{ℕ, ◌≡◌, ◌⊎◌, List, map, Option, Some, None, Ok, codes, option_map, string_bytes, ⊤}
+use Rattle.std.specs.Prelude.{ℕ, ◌≡◌, List, map, Option, Some, None, Ok, codes, option_map, string_bytes, ⊤}
 use Rattle.byte_store.specs.declared.reading.ReadError.{ReadError}
-use Rattle.arwen_cli_peers.specs.EditWords.{asked_model, last_of}
+use Rattle.arwen_cli_peers.specs.Asked.{asked_model, last_of}
 use Rattle.arwen_cli_peers.specs.Options.{Asked, TellsWrong, Text, line_of, values_of}
 use Rattle.arwen_cli_peers.specs.Tables.{patchelf_known}
 use Rattle.arwen_cli_patchelf_lines.specs.Plans.{plan_of_options, plan_model}
-use Rattle.arwen_cli_patchelf_lines.specs.Refusals.{is_asked, line_refused, refused_model, values_refused}
+use Rattle.arwen_cli_patchelf_lines.specs.Refusals.{is_asked, line_refused, refused_model}
 use Rattle.arwen_cli_patchelf_lines.specs.Values.{AreResolved, IsRefusedAmong}
 use Rattle.arwen_cli_patchelf_lines.specs.declared.line.Line.{Line}
 use Rattle.arwen_cli_patchelf_lines.specs.declared.line.LineError.{LineError}
@@ -29,10 +29,9 @@ pub record IsLineOf (files : List Text) (asked : List Asked) (line : Line) : Typ
 pub record ReadsGiven (known : Text → Option (List ℕ)) (given : List Asked) (files : List Text) (line : Line) : Type 0 where
   pub asked : List Asked
   pub are_asked : AreResolved known (is_asked (codes "--shrink-rpath") given) given asked
-  pub plain : values_refused asked ≡ None
   pub is : IsLineOf files asked line
 
--- What a line's words ask for: they give options and files that go together, and the options' values are such as `apply` takes.
+-- What a line's words ask for: they give options and files that go together, and each value can be read.
 pub record ReadsLine (known : Text → Option (List ℕ)) (words : List Text) (line : Line) : Type 0 where
   pub given : List Asked
   pub are_given : line_of patchelf_known words ≡ Ok given
@@ -46,12 +45,6 @@ pub record RefusesGiven (words : List Text) (refused : Refused) : Type 0 where
   pub given : List Asked
   pub are_given : line_of patchelf_known words ≡ Ok given
   pub refusal : line_refused given (files_of given) ≡ Some (refused_model refused)
-
--- a refusal of the values of options
-pub record RefusesValues (known : Text → Option (List ℕ)) (given : List Asked) (refused : Refused) : Type 0 where
-  pub asked : List Asked
-  pub are_asked : AreResolved known (is_asked (codes "--shrink-rpath") given) given asked
-  pub refusal : values_refused asked ≡ Some (refused_model refused)
 
 -- A refusal of the first option whose value isn't read from its file, though there was memory.
 pub record RefusesValue (known : Text → Option (List ℕ)) (fails : Text → ReadError → Type 0) (given : List Asked) (refused : ValueRefused) : Type 0 where
@@ -72,28 +65,15 @@ TellsGiven words error.Memory = ⊤
 TellsGiven words e = ⊥
 
 abbrev pub TellsValues : (Text → Option (List ℕ)) → (Text → ReadError → Type 0) → List Asked → LineError → Type 0
-TellsValues known fails given (error.Refused refused) = RefusesValues known given refused
 TellsValues known fails given (error.Value refused) = RefusesValue known fails given refused
 TellsValues known fails given error.Memory = ⊤
 TellsValues known fails given e = ⊥
 
-abbrev pub TellsAsked : List Asked → LineError → Type 0
-TellsAsked asked (error.Refused refused) = values_refused asked ≡ Some (refused_model refused)
-TellsAsked asked error.Memory = ⊤
-TellsAsked asked e = ⊥
-
 abbrev pub TellsLine : (Text → Option (List ℕ)) → (Text → ReadError → Type 0) → List Text → LineError → Type 0
 TellsLine known fails words (error.Words fault) = TellsWrong (line_of patchelf_known words) fault
-TellsLine known fails words (error.Refused refused) =
-    RefusesGiven words refused ⊎ IsTaken words (λ given. RefusesValues known given refused)
+TellsLine known fails words (error.Refused refused) = RefusesGiven words refused
 TellsLine known fails words (error.Value refused) = IsTaken words (λ given. RefusesValue known fails given refused)
 TellsLine known fails words error.Memory = ⊤
-
--- why options have no values
-abbrev pub IsOfValue : (Text → Option (List ℕ)) → (Text → ReadError → Type 0) → List Asked → LineError → Type 0
-IsOfValue known fails given (error.Value refused) = RefusesValue known fails given refused
-IsOfValue known fails given error.Memory = ⊤
-IsOfValue known fails given e = ⊥
 
 -- the error of a refusal, which is want of memory where that is its cause
 abbrev pub IsErrorOf : ValueRefused → LineError → Type 0

@@ -1,21 +1,29 @@
 -- What a line asks of the bytes of each of its files.
-use Rattle.std.specs.Prelude.{◌==◌, List, [], map, Option, Some, None, codes, if◌then◌else◌, option_map, string_bytes}
+use Rattle.std.specs.Prelude.{ℕ, ◌==◌, List, [], map, Option, Some, None, codes, if◌then◌else◌, option_map, slice_get, string_bytes, unwrap_or}
 use Rattle.std.specs.List.{slice_split}
-use Rattle.arwen_cli_peers.specs.EditWords.{edit_words, is_given, last_of}
+use Rattle.elf_commands_steps.specs.Groups.{GroupEdit, group_model}
+use Rattle.arwen_cli_peers.specs.Asked.{is_given, last_of}
 use Rattle.arwen_cli_peers.specs.Options.{Asked, Text}
 use Rattle.command_words.specs.Parts.{without_empty}
+use Rattle.arwen_cli_patchelf_lines.specs.OptionEdits.{planned_edits, with_leave}
 use Rattle.arwen_cli_patchelf_lines.specs.declared.plans.Plan.{Plan}
 
--- first that run paths shrink, with the prefixes that are allowed, and then the edits that words of `apply` name
+-- first that run paths shrink, with the prefixes that are allowed, and then edits, with the names of the options that ask for them
 pub record PlanMeant : Type 0 where
   pub shrinks : Option (List Text)
-  pub words : List Text
+  pub edits : List GroupEdit
+  pub options : List Text
 
 abbrev pub plan_model : Plan → PlanMeant
 plan_model plan = record {
   shrinks = option_map (λ prefixes. map string_bytes prefixes.items) plan.shrinks;
-  words = map string_bytes plan.words.items;
+  edits = map group_model plan.edits.items;
+  options = map (λ option. option.now) plan.options.items;
 }
+
+-- the option that asks for the edit with this number, counted from 0; no text where none does
+abbrev pub option_of : PlanMeant → ℕ → Text
+option_of plan index = unwrap_or (slice_get plan.options index) []
 
 -- the prefixes between the colons of a text
 abbrev pub prefixes_in : Text → List Text
@@ -33,4 +41,8 @@ shrinks_of_options asked = if is_given (codes "--shrink-rpath") asked then Some 
 
 -- what options ask of the bytes of a file
 abbrev pub plan_of_options : List Asked → PlanMeant
-plan_of_options asked = record { shrinks = shrinks_of_options asked; words = edit_words asked }
+plan_of_options asked = record {
+  shrinks = shrinks_of_options asked;
+  edits = with_leave (planned_edits asked);
+  options = map (λ one. one.option) (planned_edits asked);
+}

@@ -1,5 +1,5 @@
 -- What lines of patchelf ask for that is refused before a file is edited.
-use Rattle.std.specs.Prelude.{◌==◌, ◌&&◌, ◌||◌, Bool, List, [], ◌∷◌, Option, Some, None, codes, if◌then◌else◌, option_map}
+use Rattle.std.specs.Prelude.{◌&&◌, Bool, List, [], ◌∷◌, Option, Some, None, codes, if◌then◌else◌, option_map}
 use Rattle.std.specs.List.{list_any}
 use Rattle.std.specs.Str.{bytes_eq}
 use Rattle.arwen_cli_peers.specs.Options.{Asked, Text}
@@ -7,24 +7,18 @@ use Rattle.arwen_cli_patchelf_lines.specs.declared.refusals.Refused.{Refused}
 use Rattle.arwen_cli_patchelf_lines.specs.declared.refusals.Refused.TheVariants as told
 
 -- why a line isn't done: an option isn't there; no file is named, or not one with an output; the run path is to be set and to be
--- added to; a value of the option of this name is a `+`; the old name of a pair of it has a `=` in it
+-- added to
 pub data Refusal : Type 0 where
   absent : Text → Refusal
   no_file : Refusal
   several_files : Refusal
   set_and_add : Refusal
-  plus : Text → Refusal
-  equals : Text → Refusal
 
 abbrev pub refused_model : Refused → Refusal
 refused_model (told.Absent name) = absent name.now
 refused_model told.NoFile = no_file
 refused_model told.SeveralFiles = several_files
 refused_model told.SetAndAdd = set_and_add
-refused_model (told.Plus name) = plus name.now
-refused_model (told.Equals name) = equals name.now
-
--- ## Before values are looked at
 
 -- an option that isn't there
 abbrev pub is_absent : Text → Bool
@@ -57,23 +51,3 @@ or_else (Some refusal) second = Some refusal
 abbrev pub line_refused : List Asked → List Text → Option Refusal
 line_refused given paths = or_else (option_map absent (absent_among given))
     (or_else (files_refused paths (is_asked (codes "--output") given)) (order_refused given))
-
--- ## By values
-
--- the values are an old name and a new one
-abbrev pub is_pair : Text → Bool
-is_pair name = bytes_eq name (codes "--replace-needed") || bytes_eq name (codes "--rename-dynamic-symbols")
-
-abbrev pub has_equals : Text → Bool
-has_equals text = list_any (λ byte. byte == 61) text
-
--- `apply` would cut its words at a `+`, and a pair at its first `=`
-abbrev pub value_refused : Asked → Option Refusal
-value_refused one =
-    if bytes_eq one.name (codes "FILE") then None
-    else (if bytes_eq one.first (codes "+") || bytes_eq one.second (codes "+") then Some (plus one.name)
-    else (if is_pair one.name && has_equals one.first then Some (equals one.name) else None))
-
-abbrev pub values_refused : List Asked → Option Refusal
-values_refused [] = None
-values_refused (one ∷ rest) = or_else (value_refused one) (values_refused rest)

@@ -1,9 +1,10 @@
 //! What lines of `patchelf` ask for: their words are read, with the values that stand in files, and what they ask of the bytes of a
-//! file is the words of `apply`.
+//! file is a list of edits, each with the option that asks for it.
 #![tactic(auto)]
 
 mod line;
 mod name_maps;
+mod option_edits;
 mod plans;
 mod refusals;
 mod values;

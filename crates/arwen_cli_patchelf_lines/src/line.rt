@@ -1,14 +1,14 @@
 //! Lines of patchelf, read.
-ghost use Rattle.std.specs.Prelude.{◌≡◌, None, Ok, IfErr, IfOk, codes, map, string_bytes};
-ghost use Rattle.arwen_cli_peers.specs.EditWords.{asked_model};
+ghost use Rattle.std.specs.Prelude.{◌≡◌, Ok, IfErr, IfOk, codes, map, string_bytes};
+ghost use Rattle.arwen_cli_peers.specs.Asked.{asked_model};
 ghost use Rattle.arwen_cli_peers.specs.Options.{given_model, line_of as words_give, values_of as values_given};
 ghost use Rattle.arwen_cli_peers.specs.Tables.{patchelf_known};
-ghost use Rattle.arwen_cli_patchelf_lines.specs.Line.{IsErrorOf, IsLineOf, IsOfValue, ReadsGiven, ReadsLine, TellsAsked, TellsGiven, TellsLine, TellsValues};
-ghost use Rattle.arwen_cli_patchelf_lines.specs.Refusals.{is_asked as is_shrinking, values_refused};
+ghost use Rattle.arwen_cli_patchelf_lines.specs.Line.{IsErrorOf, IsLineOf, ReadsGiven, ReadsLine, TellsGiven, TellsLine, TellsValues};
+ghost use Rattle.arwen_cli_patchelf_lines.specs.Refusals.{is_asked as is_shrinking};
 ghost use Rattle.arwen_cli_patchelf_lines.specs.Values.{AreResolved};
 
 use crate::plans::{Plan, plan_of};
-use crate::refusals::{Refused, is_asked, line_refusal, values_refusal};
+use crate::refusals::{Refused, is_asked, line_refusal};
 use crate::values::{ValueCause, ValueRefused, resolved};
 use arwen_cli_peers::asked::last_of;
 use arwen_cli_peers::options::FILE;
@@ -59,7 +59,7 @@ impl From<AllocError> for LineError<'_> {
 /// # Errors
 ///
 /// The first of these: what the words say that is no line; an option that isn't there, no file or too many, options that
-/// don't go with one another; a value that can't be read from its file; a value that `apply` would read otherwise.
+/// don't go with one another; a value that can't be read from its file.
 pub fn read_line<'a, F: FileBytes>(
     alloc: Global,
     files: &F,
@@ -118,7 +118,7 @@ fn resolved_line<'a, F: FileBytes>(
         (map given_model given.now)) }
 {
     let asked = asked_of(alloc, files, given)?;
-    checked_line(alloc, asked, paths)
+    Ok(line_of(alloc, asked, paths)?)
 }
 
 /// What options ask for with their values.
@@ -130,7 +130,7 @@ fn asked_of<'a, F: FileBytes>(
     ensures ok { IfOk result (λ asked. AreResolved (F.contents files.now)
         (is_shrinking (codes "--shrink-rpath") (map given_model given.now))
         (map given_model given.now) (map asked_model asked.items)) }
-    ensures err { IfErr result (IsOfValue (F.contents files.now) (F.may_fail files.now)
+    ensures err { IfErr result (TellsValues (F.contents files.now) (F.may_fail files.now)
         (map given_model given.now)) }
 {
     let shrinks = is_asked(given, "--shrink-rpath");
@@ -151,39 +151,6 @@ fn value_error(refused: ValueRefused<'_>) -> LineError<'_>
             path: refused.path,
             cause,
         }),
-    }
-}
-
-/// The line of options with their values, and of files, where the values are such as `apply` takes.
-fn checked_line<'a>(
-    alloc: Global,
-    asked: Vec<AskedOption>,
-    paths: Vec<String>,
-) -> Result<Line, LineError<'a>>
-    ensures plain { IfOk result (λ _. values_refused (map asked_model asked.items) ≡ None) }
-    ensures is { IfOk result
-        (IsLineOf (map string_bytes paths.items) (map asked_model asked.items)) }
-    ensures refused { IfErr result (TellsAsked (map asked_model asked.items)) }
-{
-    match values_refusal(asked.as_slice()) {
-        Some(refused) => Err(LineError::Refused(refused)),
-        None => plain_line(alloc, asked, paths),
-    }
-}
-
-/// The line of options with their values, and of files, or want of memory.
-fn plain_line<'a>(
-    alloc: Global,
-    asked: Vec<AskedOption>,
-    paths: Vec<String>,
-) -> Result<Line, LineError<'a>>
-    ensures is { IfOk result
-        (IsLineOf (map string_bytes paths.items) (map asked_model asked.items)) }
-    ensures err { IfErr result (λ error. error ≡ LineError.Memory) }
-{
-    match line_of(alloc, asked, paths) {
-        Ok(line) => Ok(line),
-        Err(_) => Err(LineError::Memory),
     }
 }
 

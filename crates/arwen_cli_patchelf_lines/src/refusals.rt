@@ -1,11 +1,9 @@
 //! What lines ask for that is refused before a file is edited.
 ghost use Rattle.std.specs.Prelude.{◌≡◌, map, option_map, string_bytes};
-ghost use Rattle.arwen_cli_peers.specs.EditWords.{asked_model};
 ghost use Rattle.arwen_cli_peers.specs.Options.{given_model};
-ghost use Rattle.arwen_cli_patchelf_lines.specs.Refusals.{absent_among, files_refused, has_equals as has_equals_sign, is_absent as is_absent_here, is_asked as is_asked_for, is_pair as takes_pair, line_refused, order_refused, refused_model, value_refused, values_refused};
+ghost use Rattle.arwen_cli_patchelf_lines.specs.Refusals.{absent_among, files_refused, is_absent as is_absent_here, is_asked as is_asked_for, line_refused, order_refused, refused_model};
 
-use arwen_cli_peers::options::FILE;
-use arwen_cli_peers::{AskedOption, Given};
+use arwen_cli_peers::Given;
 
 /// Why a line isn't done.
 #[derive(Clone, Copy)]
@@ -18,13 +16,9 @@ pub enum Refused {
     SeveralFiles,
     /// The run path is to be set and to be added to.
     SetAndAdd,
-    /// A value of the option of this name is a `+`.
-    Plus(&'static str),
-    /// The old name of a pair of the option of this name has a `=` in it.
-    Equals(&'static str),
 }
 
-/// Why a line is refused that gives this, before the values of its options are looked at. Takes no memory.
+/// Why a line is refused that gives this. Takes no memory.
 pub fn line_refusal(given: &[Given<'_>], paths: &[String]) -> Option<Refused>
     ensures { option_map refused_model result
         ≡ line_refused (map given_model given.now) (map string_bytes paths.now) }
@@ -91,51 +85,4 @@ fn order_refusal(given: &[Given<'_>]) -> Option<Refused>
     } else {
         None
     }
-}
-
-/// Why options are refused whose values `apply` would read otherwise: the first of them. Takes no memory.
-pub fn values_refusal(asked: &[AskedOption]) -> Option<Refused>
-    ensures { option_map refused_model result ≡ values_refused (map asked_model asked.now) }
-{
-    for option in asked {
-        if let Some(refused) = value_refusal(option) {
-            return Some(refused);
-        }
-    }
-    None
-}
-
-/// Why an option is refused whose values `apply` would read otherwise.
-fn value_refusal(option: &AskedOption) -> Option<Refused>
-    ensures { option_map refused_model result ≡ value_refused (asked_model option.now) }
-{
-    if option.name == FILE {
-        return None;
-    }
-    if option.first.as_str() == "+" || option.second.as_str() == "+" {
-        return Some(Refused::Plus(option.name));
-    }
-    if is_pair(option.name) && has_equals(option.first.as_str()) {
-        return Some(Refused::Equals(option.name));
-    }
-    None
-}
-
-/// Whether an option's values are an old name and a new one.
-fn is_pair(name: &str) -> bool
-    ensures { result ≡ takes_pair name.now }
-{
-    name == "--replace-needed" || name == "--rename-dynamic-symbols"
-}
-
-/// Whether a text has a `=` in it.
-fn has_equals(text: &str) -> bool
-    ensures { result ≡ has_equals_sign text.now }
-{
-    for byte in text.as_bytes() {
-        if *byte == b'=' {
-            return true;
-        }
-    }
-    false
 }

@@ -1,5 +1,3 @@
 pub mod FlagLaws
-pub mod GroupLaws
 pub mod LineLaws
-pub mod NameLaws
 pub mod Turns

@@ -1,6 +1,5 @@
-pub mod EditWords
+pub mod Asked
 pub mod Flags
 pub mod Lines
-pub mod NameWords
 pub mod Options
 pub mod Tables

@@ -1,6 +1,6 @@
 //! What a line asks for, with texts of its own.
-ghost use Rattle.std.specs.Prelude.{◌≡◌, ◌++◌, ◌∷◌, [], IfOk, OnOk, codes, map, option_map, string_bytes};
-ghost use Rattle.arwen_cli_peers.specs.EditWords.{asked_model, is_given as given_by_name, last_of as last_given, pair_words as pairs_given};
+ghost use Rattle.std.specs.Prelude.{◌≡◌, IfOk, map, option_map, string_bytes};
+ghost use Rattle.arwen_cli_peers.specs.Asked.{asked_model, is_given as given_by_name, last_of as last_given, pair_lent, pairs_of as pairs_given};
 ghost use Rattle.arwen_cli_peers.specs.Options.{values_of as values_given};
 
 use std::alloc::{AllocError, Global};
@@ -28,19 +28,19 @@ pub fn is_given(asked: &[AskedOption], name: &str) -> bool
     false
 }
 
-/// The first values of the options of this name, in order. Error: `AllocError`.
+/// The first values of the options of this name, in order, as bytes. Error: `AllocError`.
 pub fn values_of(
     alloc: Global,
     asked: &[AskedOption],
     name: &str,
-) -> Result<Vec<String>, AllocError>
-    ensures { IfOk result (λ values. map string_bytes values.items
+) -> Result<Vec<Vec<u8>>, AllocError>
+    ensures { IfOk result (λ values. map (λ value. value.items) values.items
         ≡ values_given name.now (map asked_model asked.now)) }
 {
     let mut values = Vec::new(alloc);
     for option in asked {
         if option.name == name {
-            put_copy(alloc, &mut values, option.first.as_str())?;
+            values.push(Vec::from_slice(alloc, option.first.as_bytes())?)?;
         }
     }
     Ok(values)
@@ -61,6 +61,21 @@ pub fn last_of(
     }
 }
 
+/// The value of the last option of this name, as bytes. Error: `AllocError`.
+pub fn last_bytes_of(
+    alloc: Global,
+    asked: &[AskedOption],
+    name: &str,
+) -> Result<Option<Vec<u8>>, AllocError>
+    ensures { IfOk result (λ value. option_map (λ bytes. bytes.items) value
+        ≡ last_given name.now (map asked_model asked.now)) }
+{
+    match last_option(asked, name) {
+        Some(option) => Ok(Some(Vec::from_slice(alloc, option.first.as_bytes())?)),
+        None => Ok(None),
+    }
+}
+
 /// The last option of this name.
 fn last_option<'o>(asked: &'o [AskedOption], name: &str) -> Option<&'o AskedOption>
     ensures { option_map (λ option. string_bytes option.now.first) result
@@ -75,44 +90,30 @@ fn last_option<'o>(asked: &'o [AskedOption], name: &str) -> Option<&'o AskedOpti
     last
 }
 
-/// The pairs of the options of this name, each as a word OLD=NEW. Error: `AllocError`.
-pub fn pairs_of(alloc: Global, asked: &[AskedOption], name: &str) -> Result<Vec<String>, AllocError>
-    ensures { IfOk result (λ words. map string_bytes words.items
+/// The pairs of values of the options of this name, in order, as bytes. Error: `AllocError`.
+pub fn pairs_of(
+    alloc: Global,
+    asked: &[AskedOption],
+    name: &str,
+) -> Result<Vec<(Vec<u8>, Vec<u8>)>, AllocError>
+    ensures { IfOk result (λ pairs. map pair_lent pairs.items
         ≡ pairs_given name.now (map asked_model asked.now)) }
 {
-    let mut words = Vec::new(alloc);
+    let mut pairs = Vec::new(alloc);
     for option in asked {
         if option.name == name {
-            put_word(&mut words, pair_word(alloc, option)?)?;
+            pairs.push(pair_of(alloc, option)?)?;
         }
     }
-    Ok(words)
+    Ok(pairs)
 }
 
-/// Both values of an option, as a word OLD=NEW.
-fn pair_word(alloc: Global, option: &AskedOption) -> Result<String, AllocError>
-    ensures { IfOk result (λ word. string_bytes word ≡ string_bytes option.now.first
-        ++ codes "=" ++ string_bytes option.now.second) }
+/// Both values of an option, as bytes.
+fn pair_of(alloc: Global, option: &AskedOption) -> Result<(Vec<u8>, Vec<u8>), AllocError>
+    ensures { IfOk result (λ pair. pair_lent pair
+        ≡ (string_bytes option.now.first, string_bytes option.now.second)) }
 {
-    let mut word = String::from_str(alloc, option.first.as_str())?;
-    word.push_str("=")?;
-    word.push_str(option.second.as_str())?;
-    Ok(word)
-}
-
-/// Puts a copy of a text behind words.
-pub(crate) fn put_copy(alloc: Global, words: &mut Vec<String>, text: &str) -> Result<(), AllocError>
-    ensures { OnOk result (map string_bytes words.new.items
-        ≡ map string_bytes words.old.items ++ text.now ∷ []) }
-{
-    put_word(words, String::from_str(alloc, text)?)
-}
-
-/// Puts a word behind others.
-fn put_word(words: &mut Vec<String>, word: String) -> Result<(), AllocError>
-    ensures { OnOk result (map string_bytes words.new.items
-        ≡ map string_bytes words.old.items ++ string_bytes word ∷ []) }
-{
-    words.push(word)?;
-    Ok(())
+    let first = Vec::from_slice(alloc, option.first.as_bytes())?;
+    let second = Vec::from_slice(alloc, option.second.as_bytes())?;
+    Ok((first, second))
 }

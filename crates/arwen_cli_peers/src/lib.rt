@@ -1,14 +1,10 @@
-//! Options of lines: what lines of `patchelf` and of `install_name_tool` ask for, their options with their values and the words of
-//! `apply` that make their edits in one batch; and of own lines the options that stand anywhere before `--` and change what the
-//! command does.
+//! Options of lines: what lines of `patchelf` and of `install_name_tool` ask for, their options with their values; and of own lines
+//! the options that stand anywhere before `--` and change what the command does.
 #![tactic(auto)]
 
 pub mod asked;
-pub mod edit_words;
 mod flags;
-pub mod laws;
 pub mod lines;
-pub mod name_words;
 pub mod options;
 pub mod tables;
 

@@ -10,7 +10,7 @@ use Rattle.arwen_cli_install_names.specs.declared.editing.NamesError.TheVariants
 use Rattle.arwen_cli_install_names.specs.declared.line.NameLine.{NameLine}
 use Rattle.arwen_cli_peers.specs.Options.{Text, given_model}
 
--- known bytes become those that `apply` makes of them with the words that the options of these words mean
+-- known bytes become those that a batch makes of them of the edits that the options of these words mean
 abbrev pub IsNamedBy : List Text → Text → Option (List ℕ) → Option (List ℕ) → Type 0
 IsNamedBy words path old new =
     (line : NameLine) × ReadsNames words line × IsNamed (map given_model line.given.items) path old new

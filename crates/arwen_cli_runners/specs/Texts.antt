@@ -1,7 +1,7 @@
 -- What is said of lines that aren't run.
 use Rattle.std.specs.Prelude.{ℕ, ◌≡◌, ◌++◌, codes, decimal, string_bytes}
 use Rattle.arwen_cli_install_names.specs.Line.{NameRefusal, name_refused_model}
-use Rattle.arwen_cli_install_names.specs.Line.NameRefusal.{no_file as names_none, several_files as names_several, plus as names_plus}
+use Rattle.arwen_cli_install_names.specs.Line.NameRefusal.{no_file as names_none, several_files as names_several}
 use Rattle.arwen_cli_install_names.specs.declared.line.NameLineError.{NameLineError}
 use Rattle.arwen_cli_install_names.specs.declared.line.NameLineError.TheVariants as name_error
 use Rattle.arwen_cli_patchelf_lines.specs.Refusals.{Refusal, refused_model}
@@ -84,7 +84,6 @@ EndsUnread said _ _ = ⊥
 unfoldable pub name_refusal_line : NameRefusal → Text
 name_refusal_line names_none = codes "install_name_tool: no file is named"
 name_refusal_line names_several = codes "install_name_tool: more than one file is named"
-name_refusal_line (names_plus option) = codes "install_name_tool: " ++ (option ++ codes ": a value + is not taken")
 
 abbrev pub EndsUnreadNames : Sayings → NameLineError → Ending → Type 0
 EndsUnreadNames said (name_error.Words fault) ending = EndsWords said fault ending

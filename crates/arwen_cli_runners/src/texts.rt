@@ -246,13 +246,5 @@ fn name_line(alloc: Global, refused: &NameRefused) -> Result<String, AllocError>
         NameRefused::SeveralFiles => {
             String::from_str(alloc, "install_name_tool: more than one file is named")
         }
-        NameRefused::Plus(name) => {
-            three(
-                alloc,
-                "install_name_tool: ",
-                *name,
-                ": a value + is not taken",
-            )
-        }
     }
 }

@@ -1,7 +1,7 @@
 -- A rename is put behind those so far.
 use Rattle.std.proofs.Common.{Bor, List, [], ap, append_assoc, get_or, map, sym, take, ◌++◌, ◌∷◌, ◌∙◌}
 use Rattle.std.proofs.lemmas.List.{map_more, map_push}
-use Rattle.arwen_cli_peers.specs.EditWords.{asked_model}
+use Rattle.arwen_cli_peers.specs.Asked.{asked_model}
 use Rattle.arwen_cli_peers.specs.Options.{Asked, Text}
 use Rattle.arwen_cli_patchelf_lines.specs.NameMaps.{lent_pair}
 use Rattle.arwen_cli_patchelf_lines.specs.Values.{rename_asked}

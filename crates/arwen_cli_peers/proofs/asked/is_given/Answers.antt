@@ -1,6 +1,6 @@
 -- An option of another name is passed over.
 use Rattle.std.proofs.Common.{List, ap, drop, map, sym, ◌||◌, ◌+◌, ◌∙◌}
-use Rattle.arwen_cli_peers.specs.EditWords.{asked_model, is_given}
+use Rattle.arwen_cli_peers.specs.Asked.{asked_model, is_given}
 use Rattle.arwen_cli_peers.specs.declared.asked.AskedOption.{AskedOption}
 use Rattle.arwen_cli_peers.proofs.Turns.{turned}
 use Rattle.arwen_cli_peers.proofs.asked.is_given.Goals as goal

@@ -1,5 +1,5 @@
 use Rattle.std.proofs.Common.{◌≡◌, drop, map}
-use Rattle.arwen_cli_peers.specs.EditWords.{asked_model, is_given}
+use Rattle.arwen_cli_peers.specs.Asked.{asked_model, is_given}
 use Rattle.arwen_cli_peers.proofs.asked.is_given.Given as goal
 
 -- none so far has the name

@@ -1,5 +1,5 @@
 use Rattle.std.proofs.Common.{◌≡◌, drop, map, option_map, string_bytes}
-use Rattle.arwen_cli_peers.specs.EditWords.{asked_model, last_from, last_of}
+use Rattle.arwen_cli_peers.specs.Asked.{asked_model, last_from, last_of}
 use Rattle.arwen_cli_peers.specs.Options.{values_of}
 use Rattle.arwen_cli_peers.proofs.asked.last_option.Given as goal
 
