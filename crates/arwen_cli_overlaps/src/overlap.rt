@@ -1,17 +1,13 @@
 //! What is said of two blocks that stand against a command.
-ghost use Rattle.std.specs.Prelude.{◌≡◌, IfOk, IfSome, Ok, map, string_bytes};
-ghost use Rattle.elf_commands.specs.ElfAsked.{elf_asked};
-ghost use Rattle.elf_commands.specs.ElfEngine.{AreAskedInTurn, AreEditsAsked};
-ghost use Rattle.elf_commands.specs.ElfWords.{edits_model};
+ghost use Rattle.std.specs.Prelude.{◌≡◌, IfOk, IfSome, Ok, Some, map, string_bytes};
+ghost use Rattle.elf_commands.specs.ElfAsked.{edits_asked, elf_asked};
 ghost use Rattle.elf_commands.specs.Meaning.{elf_command_model};
 ghost use Rattle.elf_commands.specs.Groups.{MakeInTurn, group_model};
-ghost use Rattle.elf_edits.specs.Batch.{run};
 ghost use Rattle.arwen_cli_overlaps.specs.Overlaps.{TellsMade, TellsOverlap, TellsPair};
 
-use elf_commands::elf::{AskedEdits, asked_by};
+use elf_commands::elf::asked_by;
 use elf_commands::files::ElfContainer;
-use elf_commands::{ElfCommand, GroupEdit, apply_in_turn};
-use elf_edits::ElfEdit;
+use elf_commands::{ElfCommand, GroupEdit, apply_edits};
 use elf_image::Builder;
 use elf_layout_reasons::{pair_text, stuck_pair};
 use std::alloc::{AllocError, Global};
@@ -24,64 +20,39 @@ pub fn overlap_text(alloc: Global, bytes: &[u8], command: &ElfCommand) -> Option
         (elf_asked (elf_command_model command.now)) bytes.now (string_bytes text)) }
 {
     match asked_by(alloc, command) {
-        Ok(AskedEdits::Batch(edits)) => text_after_batch(alloc, bytes, command, edits.as_slice()),
-        Ok(AskedEdits::InTurn(edits)) => text_in_turn(alloc, bytes, command, edits.as_slice()),
+        Ok(Some(edits)) => text_after(alloc, bytes, command, edits),
         _ => None,
     }
 }
 
-/// The same of the edits of one batch that a command asks for.
-fn text_after_batch(
+/// The same of the edits that a command asks for.
+fn text_after(
     alloc: Global,
     bytes: &[u8],
     command: &ElfCommand,
-    edits: &[ElfEdit],
+    edits: Vec<GroupEdit>,
 ) -> Option<String>
-    requires { AreEditsAsked (elf_asked (elf_command_model command.now)) (edits_model edits.now) }
+    requires { edits_asked (elf_asked (elf_command_model command.now))
+        ≡ Some (map group_model edits.items) }
     ensures { IfSome result (λ text. TellsOverlap
         (elf_asked (elf_command_model command.now)) bytes.now (string_bytes text)) }
 {
     match ElfContainer::parse(alloc, bytes) {
-        Ok(mut elf) => text_of_batch(alloc, &mut elf, edits),
+        Ok(mut elf) => text_of_edited(alloc, &mut elf, edits),
         Err(_) => None,
     }
 }
 
-/// What is said of two blocks of the image that the edits of a batch make.
-fn text_of_batch(alloc: Global, elf: &mut ElfContainer<'_>, edits: &[ElfEdit]) -> Option<String>
-    ensures { IfSome result (λ text. TellsMade
-        (λ made. run (edits_model edits.now) elf.old.inner ≡ Ok made) (string_bytes text)) }
-{
-    match elf.apply(alloc, edits) {
-        Ok(()) => text_if(text_of_image(alloc, elf.inner.builder())),
-        Err(_) => None,
-    }
-}
-
-/// The same of edits, one after the other, that a command asks for.
-fn text_in_turn(
+/// What is said of two blocks of the image that edits make.
+fn text_of_edited(
     alloc: Global,
-    bytes: &[u8],
-    command: &ElfCommand,
-    edits: &[GroupEdit],
+    elf: &mut ElfContainer<'_>,
+    edits: Vec<GroupEdit>,
 ) -> Option<String>
-    requires { AreAskedInTurn (elf_asked (elf_command_model command.now))
-        (map group_model edits.now) }
-    ensures { IfSome result (λ text. TellsOverlap
-        (elf_asked (elf_command_model command.now)) bytes.now (string_bytes text)) }
-{
-    match ElfContainer::parse(alloc, bytes) {
-        Ok(mut elf) => text_of_turns(alloc, &mut elf, edits),
-        Err(_) => None,
-    }
-}
-
-/// What is said of two blocks of the image that edits, one after the other, make.
-fn text_of_turns(alloc: Global, elf: &mut ElfContainer<'_>, edits: &[GroupEdit]) -> Option<String>
     ensures { IfSome result (λ text. TellsMade
-        (MakeInTurn (map group_model edits.now) elf.old.inner) (string_bytes text)) }
+        (MakeInTurn (map group_model edits.items) elf.old.inner) (string_bytes text)) }
 {
-    match apply_in_turn(alloc, elf, edits) {
+    match apply_edits(alloc, elf, edits) {
         Ok(()) => text_if(text_of_image(alloc, elf.inner.builder())),
         Err(_) => None,
     }
