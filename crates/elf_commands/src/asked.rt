@@ -52,7 +52,8 @@ fn asked_with_leave(alloc: Global, words: &[String]) -> Result<Vec<GroupEdit>, E
     ensures err { IfErr result
         (TellsEachFile (several (with_leave (elf_edits_of (map string_bytes words.now))))) }
 {
-    let mut edits = asked_by_words(alloc, words)?;
+    let words = words_of(alloc, words)?;
+    let mut edits = parse_elf_edits(alloc, words.as_slice())?;
     edits.push(GroupEdit::Plain(ElfEdit::AllowDynamicMove))?;
     Ok(edits)
 }

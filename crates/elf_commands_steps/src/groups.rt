@@ -11,7 +11,7 @@ use crate::laws::lists_are_their_edits;
 use crate::symbol_texts::SymbolTexts;
 use arwen_elf::elf::{ElfBatchError, ElfContainer, ElfError};
 use elf_edits::ElfEdit;
-use elf_edits::laws::{batches_are_their_edits, edits_show};
+use elf_edits::laws::batches_are_their_edits;
 use std::alloc::{AllocError, Global};
 use std::slice;
 
@@ -98,7 +98,10 @@ pub fn apply_batch(
     ensures left { OnErr result (elf.new.inner ≡ elf.old.inner) }
 {
     lists_are_their_edits();
-    elf.apply(alloc, edits)
+    match elf.apply(alloc, edits) {
+        Ok(()) => Ok(()),
+        Err(error) => Err(error),
+    }
 }
 
 /// Makes edits in an image, one after the other. Errors: those of `apply_edits`; the image is then what the edits before the
@@ -146,7 +149,6 @@ fn apply_plain(alloc: Global, elf: &mut ElfContainer<'_>, edit: &ElfEdit) -> Res
     ensures kept { OnErr result (elf.new.inner ≡ elf.old.inner) }
 {
     batches_are_their_edits();
-    edits_show();
     match elf.apply(alloc, slice::from_ref(edit)) {
         Ok(()) => Ok(()),
         Err(error) => Err(error.fault),

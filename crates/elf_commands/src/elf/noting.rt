@@ -1,11 +1,11 @@
 //! What a user should know of edits.
-ghost use Rattle.std.specs.Prelude.{◌≡◌, Ok, IfErr, IfOk, OnOk, [], map, string_bytes};
+ghost use Rattle.std.specs.Prelude.{◌≡◌, Some, IfErr, IfOk, OnOk, [], map, string_bytes};
 ghost use Rattle.elf_commands_steps.specs.Groups.{MakeInTurn, group_model};
 ghost use Rattle.elf_commands_steps.specs.Groups.GroupEdit.{plain};
 ghost use Rattle.elf_commands.specs.ElfWords.{edits_model};
 ghost use Rattle.elf_commands.specs.Noting.{TellsImage, TellsNoted, TellsUnmade, noted};
 ghost use Rattle.elf_notes.specs.Lines.{lines_of};
-ghost use Rattle.elf_notes.specs.Notes.{AreFindings, AreLeft, AreNotes};
+ghost use Rattle.elf_notes.specs.Notes.{AreFindings, AreLeft};
 ghost use Rattle.elf_notes.specs.declared.notes.ElfNotes.{ElfNotes};
 
 use command_words::Notes;
@@ -84,9 +84,8 @@ fn apply_batch_telling(
 ) -> Result<String, ElfCommandError>
     ensures make { OnOk result
         (MakeInTurn (map plain (edits_model edits.now)) elf.old.inner elf.new.inner) }
-    ensures told { IfOk result (λ text. (notes : ElfNotes)
-        × AreNotes (edits_model edits.now) elf.old.inner notes
-        × (string_bytes text ≡ lines_of name.now notes)) }
+    ensures told { IfOk result (λ text. TellsNoted (Some (edits_model edits.now))
+        name.now elf.old.inner (string_bytes text)) }
     ensures err { IfErr result (TellsUnmade (map plain (edits_model edits.now)) elf.old.inner) }
 {
     let found = findings_in(alloc, elf, edits)?;
