@@ -13,7 +13,7 @@ use Rattle.arwen_c_edits.specs.ElfEdits.{ElfEdit, elf_edits_read}
 use Rattle.arwen_c_edits.specs.declared.fault.ListFault.{ListFault}
 use Rattle.arwen_c_edits.specs.Lent.{GivenEdit}
 use Rattle.arwen_c_edits.specs.MachoEdits.{macho_edits_read}
-use Rattle.arwen_c.specs.Made.{group_of, IsElfMade, IsMachoMade, OrMemory, TellsElf, TellsMacho, asked_with, signing_by}
+use Rattle.arwen_c.specs.Made.{group_of, IsElfMade, IsMachoMade, OrMemory, TellsElf, TellsMacho, edits_with, signing_by}
 use Rattle.arwen_c.specs.Words.{words_from}
 use Rattle.arwen_c.specs.declared.error.CallError.{CallError}
 use Rattle.arwen_c.specs.declared.error.CallError.TheVariants.{Array, NoText, Words}
@@ -23,10 +23,10 @@ module _ {F : Type 0} where
 
   -- of an ELF file: new bytes and notes, or why there are none
   abbrev pub IsElfOf : Result (List GroupEdit) F → List ℕ → ℕ → List ℕ → List ℕ → List ℕ → Type 0
-  IsElfOf read name flags file new told = IsOkAnd read (λ edits. IsElfMade (asked_with flags edits) name file new told)
+  IsElfOf read name flags file new told = IsOkAnd read (λ edits. IsElfMade (edits_with flags edits) name file new told)
 
   abbrev pub TellsElfOf : (F → CallError) → Result (List GroupEdit) F → ℕ → List ℕ → CallError → Type 0
-  TellsElfOf wrong read flags file e = MatchResult read (λ edits. TellsElf (asked_with flags edits) file e) (λ fault. e ≡ wrong fault)
+  TellsElfOf wrong read flags file e = MatchResult read (λ edits. TellsElf (edits_with flags edits) file e) (λ fault. e ≡ wrong fault)
 
   -- of a Mach-O file
   abbrev pub IsMachoOf : Result (List Call) F → List ℕ → ℕ → List ℕ → List ℕ → List ℕ → Type 0

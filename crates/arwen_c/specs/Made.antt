@@ -7,9 +7,9 @@ use Rattle.arwen_cli_facts.specs.declared.error.ShowError.TheVariants as shown
 use Rattle.arwen_cli_show.specs.Shown.{TellsOf}
 use Rattle.arwen_cli_show.specs.declared.show.Style.TheVariants.{Json}
 use Rattle.command_words.specs.declared.noting.Notes.TheVariants.{Wanted}
-use Rattle.elf_commands.specs.ElfAsked.{ElfAsked, asked_of_words}
+use Rattle.elf_commands.specs.ElfAsked.{several}
 use Rattle.elf_commands.specs.ElfCommandError.TheVariants as elf
-use Rattle.elf_commands.specs.ElfEngine.{IsElfEdited, TellsEdit, bytes_left}
+use Rattle.elf_commands.specs.ElfEngine.{IsEditedBy, TellsEdit, bytes_left}
 use Rattle.elf_commands.specs.Groups.{GroupEdit, plain, symbols}
 use Rattle.arwen_c_edits.specs.ElfEdits as given
 use Rattle.arwen_c_edits.specs.ElfEdits.{ElfEdit}
@@ -44,9 +44,9 @@ abbrev pub leave_if : Bool → List GroupEdit → List GroupEdit
 leave_if true edits = edits ++ plain AllowDynamicMove ∷ []
 leave_if false edits = edits
 
--- what edits ask of an ELF file
-abbrev pub asked_with : ℕ → List GroupEdit → ElfAsked
-asked_with flags edits = asked_of_words (Ok (leave_if (has_flag flags ARWEN_MOVE_DYNAMIC) edits))
+-- edits with what a flag puts behind them
+abbrev pub edits_with : ℕ → List GroupEdit → List GroupEdit
+edits_with flags edits = leave_if (has_flag flags ARWEN_MOVE_DYNAMIC) edits
 
 -- whether the slots of pages are made anew that the edits of a Mach-O file touch
 abbrev pub signing_if : Bool → Signing
@@ -58,13 +58,12 @@ signing_by flags = signing_if (has_flag flags ARWEN_SIGN)
 
 -- ## New bytes, and notes
 
--- The bytes of an ELF file after edits that are asked for, or the old ones where these change nothing, and the notes, which call
--- the file by this name.
-pub record IsElfMade (asked : ElfAsked) (name file new told : List ℕ) : Type 0 where
+-- The bytes of an ELF file after edits, or the old ones where these change nothing, and the notes, which call the file by this name.
+pub record IsElfMade (edits : List GroupEdit) (name file new told : List ℕ) : Type 0 where
   pub answer : Option (Vec ℕ Global)
-  pub edited : IsElfEdited asked file answer
+  pub edited : IsEditedBy edits file answer
   pub is : new ≡ bytes_left file answer
-  pub notes : TellsWantedAt Wanted asked name (Some file) told
+  pub notes : TellsWantedAt Wanted (several (Ok edits)) name (Some file) told
 
 -- The bytes of a Mach-O file after what is asked, and the note.
 pub record IsMachoMade (choice : Signing) (meaning : MachoMeaning) (file new told : List ℕ) : Type 0 where
@@ -91,9 +90,9 @@ OrMemory tells Memory = ⊤
 OrMemory tells e = tells e
 
 -- why there is no ELF file
-abbrev pub TellsElf : ElfAsked → List ℕ → CallError → Type 0
-TellsElf asked file (Elf e) = TellsEdit asked file e
-TellsElf asked file e = ⊥
+abbrev pub TellsElf : List GroupEdit → List ℕ → CallError → Type 0
+TellsElf edits file (Elf e) = TellsEdit (several (Ok edits)) file e
+TellsElf edits file e = ⊥
 
 -- why there is no Mach-O file
 abbrev pub TellsMacho : Signing → MachoMeaning → List ℕ → CallError → Type 0

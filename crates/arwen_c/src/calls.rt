@@ -2,7 +2,7 @@
 ghost use Rattle.std.specs.Prelude.{◌≡◌, IfErr, IfOk, map, string_bytes};
 ghost use Rattle.std.specs.Str.Lossy.{utf8_lossy};
 ghost use Rattle.arwen_c.specs.Calls.{elf_groups_read, IsApplied, IsAppliedByWords, IsElfOf, IsMachoOf, IsMadeByWords, IsSigned, TellsApplied, TellsAppliedByWords, TellsByWords, TellsElfOf, TellsMachoOf, TellsUnsigned};
-ghost use Rattle.arwen_c.specs.Made.{IsElfMade, IsMachoMade, IsShown, OrMemory, TellsElf, TellsMacho, TellsUnshown, asked_with, has_flag as has_flag_told, signing_by as signing_told};
+ghost use Rattle.arwen_c.specs.Made.{IsElfMade, IsMachoMade, IsShown, OrMemory, TellsElf, TellsMacho, TellsUnshown, edits_with, has_flag as has_flag_told, signing_by as signing_told};
 ghost use Rattle.arwen_c.specs.declared.error.CallError.TheVariants.{Array, Words};
 ghost use Rattle.arwen_c_edits.specs.Lent.{edit_model, text_model};
 ghost use Rattle.arwen_c_edits.specs.MachoEdits.{macho_edits_read};
@@ -22,7 +22,7 @@ use crate::words::words_of;
 use arwen_c_edits::{LentEdit, LentText, read_elf_edits, read_macho_edits};
 use arwen_cli_show::{Style, show_bytes};
 use command_words::Notes;
-use elf_commands::elf::edit_groups;
+use elf_commands::elf::edit_bytes;
 use elf_commands::{GroupEdit, parse_elf_edits};
 use elf_format::opening::has_magic;
 use macho_commands::{MachoCommand, Signing, batch, parse_macho_edits, run_macho_telling, sign};
@@ -179,13 +179,13 @@ fn elf_made(
     name: &str,
     flags: u32,
 ) -> Result<Made, CallError>
-    ensures ok { IfOk result (λ made. IsElfMade (asked_with flags (map group_model edits.items))
+    ensures ok { IfOk result (λ made. IsElfMade (edits_with flags (map group_model edits.items))
         name.now bytes.now made.bytes.items made.text.items) }
     ensures err { IfErr result (OrMemory
-        (TellsElf (asked_with flags (map group_model edits.items)) bytes.now)) }
+        (TellsElf (edits_with flags (map group_model edits.items)) bytes.now)) }
 {
     let edits = with_leave(edits, has_flag(flags, ARWEN_MOVE_DYNAMIC))?;
-    match edit_groups(alloc, bytes, edits, name, Notes::Wanted) {
+    match edit_bytes(alloc, bytes, edits, name, Notes::Wanted) {
         Ok((new, text)) => Ok(new_bytes(alloc, bytes, new, text)?),
         Err(error) => Err(CallError::Elf(error)),
     }

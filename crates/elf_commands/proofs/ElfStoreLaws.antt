@@ -1,6 +1,7 @@
 -- What edits leave of the bytes of a store.
 use Rattle.std.proofs.Common.{◌≡◌, ◌≤◌, ℕ, List, Option, Some, length, refl, ap, subst, inl, inr, arith}
 use Rattle.std.specs.declared.io.Error.{Error}
+use Rattle.std.proofs.lemmas.Option.{none-some}
 use Rattle.byte_store.proofs.CauseLaws.{ended_later}
 use Rattle.byte_store.specs.Causes.{IsNotWritten}
 use Rattle.byte_store.specs.Composed.{IsDifference, IsNotMade, made_of}
@@ -11,36 +12,30 @@ use Rattle.byte_store.specs.declared.difference.ReplaceError.TheVariants as repl
 use Rattle.byte_store.specs.declared.reading.ReadError.{ReadError}
 use Rattle.byte_store.specs.declared.reading.ReadError.TheVariants as read
 use Rattle.elf_commands_steps.specs.Written.{IsNoDifference}
-use Rattle.elf_commands.specs.ElfAsked.{ElfAsked, in_turn, of_symbols, one, printing, several, shrinking}
-use Rattle.elf_edits.specs.Edit.{Edit}
-use Rattle.elf_commands.specs.ElfEngine.{AreEditsAsked, LeavesElf, MayFailAs, TellsEachFile, TellsEdit}
+use Rattle.elf_commands.specs.ElfAsked.{ElfAsked, edits_asked, printing, shrinking}
+use Rattle.elf_commands_steps.specs.Groups.{GroupEdit}
+use Rattle.elf_commands.specs.ElfEngine.{LeavesElf, MayFailAs, TellsEachFile, TellsEdit}
 use Rattle.elf_commands_steps.specs.Storing.{IsNothing}
 use Rattle.elf_commands.specs.ElfStores.{FailsElf, IsElfPatched, WritesEnd}
 use Rattle.elf_commands_steps.specs.ElfErrors.{answer_to_read, answer_to_replaced}
 use Rattle.elf_commands_steps.specs.declared.error.ElfCommandError.{ElfCommandError}
-use Rattle.elf_commands_steps.specs.declared.error.ElfCommandError.TheVariants.{Edits, Elf, ElfBatch, Io, Memory}
+use Rattle.elf_commands_steps.specs.declared.error.ElfCommandError.TheVariants.{Io, Memory}
 
 -- an error that tells of each file
 pub words_refused : (ended : Error → Type 0) (a : ElfAsked) (old mid : Option (List ℕ)) (e : ElfCommandError) → Stays old mid → TellsEachFile a e → FailsElf ended a old mid e
-words_refused ended a old mid Memory kept tells = (kept, λ file known. tells file)
 words_refused ended a old mid (Io e) kept tells = inl kept
-words_refused ended a old mid (Edits wrong) kept tells = (kept, λ file known. tells file)
-words_refused ended a old mid (Elf e) kept tells = (kept, λ file known. tells file)
-words_refused ended a old mid (ElfBatch e) kept tells = (kept, λ file known. tells file)
+words_refused ended a old mid e kept tells = (kept, λ file known. tells file)
 
 -- edits that leave these bytes of a difference
 pub leaves_of : (a : ElfAsked) (old : Option (List ℕ)) (loaded file : List ℕ) (d : Difference) → IsAll old loaded → old ≡ Some file → LeavesElf a loaded (made_of loaded d) → LeavesElf a file (made_of file d)
 leaves_of a old loaded file d all known leaves = let P : List ℕ → Type 0 = λ l. LeavesElf a l (made_of l d) in subst P (all file known) leaves
 
 -- the difference was made
-pub elf_patched : (a : ElfAsked) (edits : List Edit) (old new : Option (List ℕ)) (loaded : List ℕ) (d : Difference) → AreEditsAsked a edits → IsAll old loaded → LeavesElf a loaded (made_of loaded d)
+pub elf_patched : (a : ElfAsked) (edits : List GroupEdit) (old new : Option (List ℕ)) (loaded : List ℕ) (d : Difference) → edits_asked a ≡ Some edits → IsAll old loaded → LeavesElf a loaded (made_of loaded d)
     → Becomes (λ source. made_of source d) old new → IsElfPatched a old new
-elf_patched (one edit) edits old new loaded d are all leaves becomes = λ file known. (made_of file d, leaves_of (one edit) old loaded file d all known leaves, becomes file known)
-elf_patched (several read) edits old new loaded d are all leaves becomes = λ file known. (made_of file d, leaves_of (several read) old loaded file d all known leaves, becomes file known)
-elf_patched (shrinking prefixes) edits old new loaded d are all leaves becomes = absurd are
-elf_patched (of_symbols edit) edits old new loaded d are all leaves becomes = absurd are
-elf_patched (in_turn asked) edits old new loaded d are all leaves becomes = absurd are
-elf_patched printing edits old new loaded d are all leaves becomes = absurd are
+elf_patched printing edits old new loaded d are all leaves becomes = absurd (none-some edits are)
+elf_patched (shrinking prefixes) edits old new loaded d are all leaves becomes = absurd (none-some edits are)
+elf_patched a edits old new loaded d are all leaves becomes = λ file known. (made_of file d, leaves_of a old loaded file d all known leaves, becomes file known)
 
 -- the difference was not made: where there was memory, writes ended
 pub elf_failed : {S : Type 0} (writes : Error → Type 0) (none : Type 0) (m n : ℕ) (a : ElfAsked) (contents : S → Option (List ℕ)) (old new : S) (loaded : List ℕ) (d : Difference) (e : ReplaceError) → IsAll (contents old) loaded → IsDifference loaded d

@@ -1,8 +1,6 @@
-pub mod AskedLaws
 pub mod ForCallers
 pub mod ElfOutcomes
 pub mod ElfStoreLaws
 pub mod FailureLaws
 pub mod NotingLaws
 pub mod ShrinkLaws
-pub mod GroupRunLaws

@@ -12,17 +12,13 @@ use Rattle.byte_store.specs.Known.{Becomes, IsAll}
 use Rattle.byte_store.specs.declared.composed.Difference.{Difference}
 use Rattle.byte_store.specs.declared.difference.ReplaceError.{ReplaceError}
 use Rattle.byte_store.specs.declared.difference.ReplaceError.TheVariants as replace
-use Rattle.elf_edits.specs.Batch.{answer_at, run, run_from, then_on}
-use Rattle.elf_edits.specs.Cause.{Cause}
-use Rattle.elf_edits.specs.Edit.{Answer, Edit, ShrinkRpath}
+use Rattle.elf_edits.specs.Edit.{Answer, Edit, ShrinkRunPath}
 use Rattle.elf_edits.specs.Edited.{step}
 use Rattle.elf_commands_steps.specs.ShrinkModel.{removal_model}
 use Rattle.elf_commands_steps.specs.Removed.{Removed}
-use Rattle.elf_edits.specs.Laws.{BatchesAreTheirEdits, EditsShow}
+use Rattle.elf_commands_steps.specs.Groups.{ListsAreTheirEdits, plain}
 use Rattle.elf_image.specs.Image.{Image, image_of, shown}
 use Rattle.elf_image.specs.ReadImage.{ReadImagesHoldParts}
-use Rattle.elf_commands_steps.specs.Causes.{RefusesRead}
-use Rattle.elf_commands_steps.specs.Told.{IsRefusedAt, IsRefusedFor, Refuses, RefusesAt, cause_told}
 use Rattle.elf_commands_steps.specs.WriterModel.{ShowsBothViews}
 use Rattle.elf_commands_steps.specs.Written.{IsImageWritten, IsNoImage}
 use Rattle.elf_commands_steps.specs.ElfError.{ElfError}
@@ -37,86 +33,58 @@ use Rattle.elf_commands_steps.specs.ShrunkImages.{IsRemovalTold, IsShrunkImage, 
 use Rattle.elf_commands.specs.ShrinkRuns.{AreFoundIn, FailsShrink, GetsFirst, IsQuiet, IsShrunkBy, RunsShrink, ShrinksStore, TellsShrink, TellsShrunk}
 use Rattle.elf_commands_steps.specs.Shrinking.{AreFound, Finding, removal_lines}
 use Rattle.elf_commands_steps.specs.declared.error.ElfCommandError.{ElfCommandError}
-use Rattle.elf_commands_steps.specs.declared.error.ElfCommandError.TheVariants.{Edits, Elf, ElfBatch, Io, Memory}
-use Rattle.elf_commands.proofs.ElfOutcomes.{edited_as_asked, edited_by, left_as_asked, made_of_edits, one_refused, one_unwritten, pieces_made, source_is}
-
--- ## One edit as a batch
-
-pub ran_once : (edit : Edit) (image made : Image) → step edit image ≡ Ok made → run (edit ∷ []) image ≡ Ok made
-unfolding run_from
-ran_once edit image made is = ap (λ (r : Result Image Cause). then_on (answer_at 0 r) (run_from (0 + 1) [])) is
-
-refused_for : (edit : Edit) (image : Image) (o : Option Cause) → IsRefusedFor o (step edit image) → IsRefusedAt 0 o (run (edit ∷ []) image)
-unfolding run_from
-refused_for edit image None refuses = refuses
-refused_for edit image (Some cause) refuses = ap (λ (r : Result Image Cause). then_on (answer_at 0 r) (run_from (0 + 1) [])) refuses
-
-refused_once : (edit : Edit) (image : Image) (e : ElfError) → Refuses e (step edit image) → RefusesAt 0 e (run (edit ∷ []) image)
-refused_once edit image elf.Memory refuses = tt
-refused_once edit image (elf.Modify cause) refuses = refused_for edit image (cause_told cause) refuses
-refused_once edit image (elf.Parse fault) refuses = refuses
-refused_once edit image (elf.Io e) refuses = refuses
-refused_once edit image (elf.Write fault) refuses = refuses
-refused_once edit image elf.InvalidDtNeededEncoding refuses = refuses
+use Rattle.elf_commands_steps.specs.declared.error.ElfCommandError.TheVariants.{Io, Memory}
+use Rattle.elf_commands.proofs.ElfOutcomes.{edited_by, made_of_edits, one_refused, one_unwritten, pieces_made, source_is}
 
 -- ## What errors tell
 
-pub tells_unshrunk : (edit : Edit) (file : List ℕ) (read : Image) (e : ElfError) → image_of file ≡ Ok read → Refuses e (step edit read) → TellsEdit (one edit) file (answer_to_elf e)
-tells_unshrunk edit file read e is refuses = one_refused edit file read 0 e is (refused_once edit read e refuses)
-
-pub tells_unmade : (edit : Edit) (file : List ℕ) (read made : Image) (e : ElfError) → image_of file ≡ Ok read → step edit read ≡ Ok made → IsNoImage made e → TellsEdit (one edit) file (answer_to_elf e)
-tells_unmade edit file read made e is makes none =
-    one_unwritten edit file made e (made_of_edits (edit ∷ []) file read made is (ran_once edit read made makes)) none
+pub tells_unmade : (edit : Edit) (file : List ℕ) (read made : Image) (e : ElfError) → ListsAreTheirEdits → image_of file ≡ Ok read → step edit read ≡ Ok made → IsNoImage made e → TellsEdit (one (plain edit)) file (answer_to_elf e)
+tells_unmade edit file read made e lists is makes none =
+    one_unwritten (plain edit) file made e (made_of_edits lists (plain edit ∷ []) file read made is (lists.one edit read made makes)) none
 
 -- ## Over bytes
 
-pub quiet_shrink : {W : Type 0} (contents : W → Option (List ℕ)) (edit : Edit) (file : List ℕ) (w : W) (e : ElfError) → TellsEdit (one edit) file (answer_to_elf e) → TellsShrink contents edit file w w (answer_to_elf e)
+pub quiet_shrink : {W : Type 0} (contents : W → Option (List ℕ)) (edit : Edit) (file : List ℕ) (w : W) (e : ElfError) → TellsEdit (one (plain edit)) file (answer_to_elf e) → TellsShrink contents edit file w w (answer_to_elf e)
 quiet_shrink contents edit file w elf.Memory tells = (refl, tells)
-quiet_shrink contents edit file w (elf.Parse fault) tells = (refl, tells)
-quiet_shrink contents edit file w (elf.Modify cause) tells = (refl, tells)
-quiet_shrink contents edit file w (elf.Io e) tells = (refl, tells)
-quiet_shrink contents edit file w (elf.Write fault) tells = (refl, tells)
-quiet_shrink contents edit file w elf.InvalidDtNeededEncoding tells = (refl, tells)
+quiet_shrink contents edit file w e tells = (refl, tells)
 
 -- the answer for an image with shrunk run paths is that for its file
-pub shrunk_bytes : EditsShow → BatchesAreTheirEdits → (edit : Edit) (file : List ℕ) (read made : Image) (answer : Option (Vec ℕ Global)) → image_of file ≡ Ok read → ShowsBothViews file read
-    → step edit read ≡ Ok made → AreChanged made answer → IsElfEdited (one edit) file answer
-shrunk_bytes edits_show batches edit file read made answer is views makes changed =
-    edited_as_asked (one edit) (edit ∷ []) file answer refl (edited_by edits_show batches (edit ∷ []) file read made answer is views (ran_once edit read made makes) changed)
+pub shrunk_bytes : ListsAreTheirEdits → (edit : Edit) (file : List ℕ) (read made : Image) (answer : Option (Vec ℕ Global)) → image_of file ≡ Ok read → ShowsBothViews file read
+    → step edit read ≡ Ok made → AreChanged made answer → IsElfEdited (one (plain edit)) file answer
+shrunk_bytes lists edit file read made answer is views makes changed =
+    record { edits = plain edit ∷ []; are = refl; edited = edited_by lists (plain edit ∷ []) file read made is (lists.one edit read made makes) answer views changed }
 
 -- what is told of the image is told of the file
-pub runs_shrink : EditsShow → BatchesAreTheirEdits → (edit : Edit) (file : List ℕ) (read made : Image) (removed : Vec Removed Global) (answer : Option (Vec ℕ Global)) (old new : Option (List ℕ)) → image_of file ≡ Ok read
+pub runs_shrink : ListsAreTheirEdits → (edit : Edit) (file : List ℕ) (read made : Image) (removed : Vec Removed Global) (answer : Option (Vec ℕ Global)) (old new : Option (List ℕ)) → image_of file ≡ Ok read
     → ShowsBothViews file read → Steps edit read made removed → IsRemovalTold made (map removal_model removed.items) answer old new → RunsShrink edit file answer old new
-runs_shrink edits_show batches edit file read made removed answer old new is views steps told = (
-  shrunk_bytes edits_show batches edit file read made answer is views steps.makes told.0,
+runs_shrink lists edit file read made removed answer old new is views steps told = (
+  shrunk_bytes lists edit file read made answer is views steps.makes told.0,
   (removal_lines (map removal_model removed.items), (read, is, ap removal_lines steps.are), told.1),
 )
 
-unmade : {W : Type 0} (edit : Edit) (file : List ℕ) (read made : Image) (old new : W) (e : ElfCommandError) → image_of file ≡ Ok read → step edit read ≡ Ok made → TellsNoImage made e → TellsEdit (one edit) file e
-unmade edit file read made old new e is makes none =
-    let P : ElfCommandError → Type 0 = λ x. TellsEdit (one edit) file x in subst P (sym none.2) (tells_unmade edit file read made none.0 is makes none.1)
+unmade : ListsAreTheirEdits → (edit : Edit) (file : List ℕ) (read made : Image) (e : ElfCommandError) → image_of file ≡ Ok read → step edit read ≡ Ok made → TellsNoImage made e → TellsEdit (one (plain edit)) file e
+unmade lists edit file read made e is makes none =
+    let P : ElfCommandError → Type 0 = λ x. TellsEdit (one (plain edit)) file x in subst P (sym none.2) (tells_unmade edit file read made none.0 lists is makes none.1)
 
-pub tells_shrink : {W : Type 0} (contents : W → Option (List ℕ)) → EditsShow → BatchesAreTheirEdits → (edit : Edit) (file : List ℕ) (read made : Image) (removed : Vec Removed Global) (old new : W) (e : ElfCommandError) → image_of file ≡ Ok read → ShowsBothViews file read
+pub tells_shrink : {W : Type 0} (contents : W → Option (List ℕ)) → ListsAreTheirEdits → (edit : Edit) (file : List ℕ) (read made : Image) (removed : Vec Removed Global) (old new : W) (e : ElfCommandError) → image_of file ≡ Ok read → ShowsBothViews file read
     → Steps edit read made removed → TellsUntold contents made (map removal_model removed.items) old new e → TellsShrink contents edit file old new e
-tells_shrink contents edits_show batches edit file read made removed old new (Io e) is views steps told = (
-  (told.0.0, shrunk_bytes edits_show batches edit file read made told.0.0 is views steps.makes told.0.1),
+tells_shrink contents lists edit file read made removed old new (Io e) is views steps told = (
+  (told.0.0, shrunk_bytes lists edit file read made told.0.0 is views steps.makes told.0.1),
   (removal_lines (map removal_model removed.items), (read, is, ap removal_lines steps.are), told.1),
 )
-tells_shrink contents edits_show batches edit file read made removed old new Memory is views steps told = (told.0, tt)
-tells_shrink contents edits_show batches edit file read made removed old new (Elf e) is views steps told = (told.0, unmade edit file read made old new (Elf e) is steps.makes told.1)
-tells_shrink contents edits_show batches edit file read made removed old new (ElfBatch e) is views steps told = (told.0, unmade edit file read made old new (ElfBatch e) is steps.makes told.1)
-tells_shrink contents edits_show batches edit file read made removed old new (Edits e) is views steps told = (told.0, unmade edit file read made old new (Edits e) is steps.makes told.1)
+tells_shrink contents lists edit file read made removed old new Memory is views steps told = (told.0, tt)
+tells_shrink contents lists edit file read made removed old new e is views steps told = (told.0, unmade lists edit file read made e is steps.makes told.1)
 
 -- ## Over a store
 
-pub leaves_shrunk : EditsShow → BatchesAreTheirEdits → ReadImagesHoldParts → (edit : Edit) (file : List ℕ) (read made : Image) (d : Difference) → image_of file ≡ Ok read
-    → ShowsBothViews file read → step edit read ≡ Ok made → IsImageWritten made (made_of made.source d) → LeavesElf (one edit) file (made_of file d)
-leaves_shrunk edits_show batches hold_parts edit file read made d is views makes written =
-    let runs = ran_once edit read made makes in
-    left_as_asked (one edit) (edit ∷ []) file (made_of file d) refl (pieces_made edits_show batches (edit ∷ []) file read made d is views runs (source_is edits_show hold_parts (edit ∷ []) file read made is runs) written)
+pub leaves_shrunk : ListsAreTheirEdits → ReadImagesHoldParts → (edit : Edit) (file : List ℕ) (read made : Image) (d : Difference) → image_of file ≡ Ok read
+    → ShowsBothViews file read → step edit read ≡ Ok made → IsImageWritten made (made_of made.source d) → LeavesElf (one (plain edit)) file (made_of file d)
+leaves_shrunk lists hold_parts edit file read made d is views makes written =
+    let make = lists.one edit read made makes in
+    record { edits = plain edit ∷ []; are = refl; left = pieces_made lists (plain edit ∷ []) file read made is make d views (source_is lists (plain edit ∷ []) file read made is make hold_parts) written }
 
-pub source_of_shrunk : EditsShow → ReadImagesHoldParts → (edit : Edit) (file : List ℕ) (read made : Image) → image_of file ≡ Ok read → step edit read ≡ Ok made → made.source ≡ file
-source_of_shrunk edits_show hold_parts edit file read made is makes = source_is edits_show hold_parts (edit ∷ []) file read made is (ran_once edit read made makes)
+pub source_of_shrunk : ListsAreTheirEdits → ReadImagesHoldParts → (edit : Edit) (file : List ℕ) (read made : Image) → image_of file ≡ Ok read → step edit read ≡ Ok made → made.source ≡ file
+source_of_shrunk lists hold_parts edit file read made is makes = source_is lists (plain edit ∷ []) file read made is (lists.one edit read made makes) hold_parts
 
 -- answers for the image that a file has
 pub found_in : (finds : Finding) (file : List ℕ) (read : Image) (answers : List Answer) → image_of file ≡ Ok read → AreFound finds (shown read) answers → AreFoundIn finds file answers
@@ -125,51 +93,38 @@ found_in finds file read answers is found image other =
     let P : Image → Type 0 = λ i. AreFound finds (shown i) answers in
     subst P same found
 
--- an error of a file that has no image comes with no answers
-none_found : (finds : Finding) (file : List ℕ) (e : ElfError) → RefusesRead e (image_of file) → (e ≡ elf.Memory → ⊥) → AreFoundIn finds file []
-none_found finds file elf.Memory refuses other image is = absurd (other refl)
-none_found finds file (elf.Parse fault) refuses other image is = let e : Ok image ≡ Err fault = sym is ∙ refuses in absurd (cc)
-none_found finds file (elf.Modify cause) refuses other image is = absurd refuses
-none_found finds file (elf.Io e) refuses other image is = absurd refuses
-none_found finds file (elf.Write fault) refuses other image is = absurd refuses
-none_found finds file elf.InvalidDtNeededEncoding refuses other image is = absurd refuses
-
 -- an error of the edit by the answers that were found
 pub told_shrunk : (finds : Finding) (prefixes : List Text) (file : List ℕ) (answers : List Answer) (e : ElfError) → AreFoundIn finds file answers
-    → TellsEdit (one (ShrinkRpath prefixes answers)) file (answer_to_elf e) → TellsShrunk finds prefixes file (answer_to_elf e)
+    → TellsEdit (one (plain (ShrinkRunPath prefixes answers))) file (answer_to_elf e) → TellsShrunk finds prefixes file (answer_to_elf e)
 told_shrunk finds prefixes file answers elf.Memory found tells = tt
-told_shrunk finds prefixes file answers (elf.Parse fault) found tells = (answers, found, tells)
-told_shrunk finds prefixes file answers (elf.Modify cause) found tells = (answers, found, tells)
-told_shrunk finds prefixes file answers (elf.Io e) found tells = (answers, found, tells)
-told_shrunk finds prefixes file answers (elf.Write fault) found tells = (answers, found, tells)
-told_shrunk finds prefixes file answers elf.InvalidDtNeededEncoding found tells = (answers, found, tells)
+told_shrunk finds prefixes file answers e found tells = (answers, found, tells)
 
 -- what an error of an image that was read tells of its file
-pub unshrunk_file : (finds : Finding) (prefixes : List Text) (file : List ℕ) (read : Image) (answers : List Answer) (e : ElfCommandError) → image_of file ≡ Ok read → AreFoundIn finds file answers
-    → TellsUnshrunk (ShrinkRpath prefixes answers) read e → TellsShrunk finds prefixes file e
-unshrunk_file finds prefixes file read answers e is found (cause, why, told) =
-    let edit : Edit = ShrinkRpath prefixes answers in
-    let tells : TellsEdit (one edit) file (answer_to_elf cause) = elim why [
-      | inl refuses ↦ tells_unshrunk edit file read cause is refuses
-      | inr none ↦ tells_unmade edit file read none.0 cause is none.1 none.2
+pub unshrunk_file : ListsAreTheirEdits → (finds : Finding) (prefixes : List Text) (file : List ℕ) (read : Image) (answers : List Answer) (e : ElfCommandError) → image_of file ≡ Ok read → AreFoundIn finds file answers
+    → TellsUnshrunk (ShrinkRunPath prefixes answers) read e → TellsShrunk finds prefixes file e
+unshrunk_file lists finds prefixes file read answers e is found (cause, why, told) =
+    let edit : Edit = ShrinkRunPath prefixes answers in
+    let tells : TellsEdit (one (plain edit)) file (answer_to_elf cause) = elim why [
+      | inl refuses ↦ one_refused edit file read cause is refuses
+      | inr none ↦ tells_unmade edit file read none.0 cause lists is none.1 none.2
     ] in
     let P : ElfCommandError → Type 0 = λ x. TellsShrunk finds prefixes file x in
     subst P (sym told) (told_shrunk finds prefixes file answers cause found tells)
 
 -- what differs from the bytes of a file that was read, by answers that are found
-pub shrunk_file : EditsShow → BatchesAreTheirEdits → ReadImagesHoldParts → (finds : Finding) (prefixes : List Text) (file : List ℕ) (read : Image) (answers : List Answer) (d : Difference) (text : Text) → image_of file ≡ Ok read
-    → ShowsBothViews file read → AreFoundIn finds file answers → IsShrunkImage (ShrinkRpath prefixes answers) read d text → IsShrunkBy finds prefixes file d text
-shrunk_file edits_show batches hold_parts finds prefixes file read answers d text is views found shrunk = record {
+pub shrunk_file : ListsAreTheirEdits → ReadImagesHoldParts → (finds : Finding) (prefixes : List Text) (file : List ℕ) (read : Image) (answers : List Answer) (d : Difference) (text : Text) → image_of file ≡ Ok read
+    → ShowsBothViews file read → AreFoundIn finds file answers → IsShrunkImage (ShrinkRunPath prefixes answers) read d text → IsShrunkBy finds prefixes file d text
+shrunk_file lists hold_parts finds prefixes file read answers d text is views found shrunk = record {
   answers = answers;
   found = found;
-  leaves = leaves_shrunk edits_show batches hold_parts (ShrinkRpath prefixes answers) file read shrunk.made d is views shrunk.makes shrunk.written;
+  leaves = leaves_shrunk lists hold_parts (ShrinkRunPath prefixes answers) file read shrunk.made d is views shrunk.makes shrunk.written;
   told = (read, is, shrunk.told);
 }
 
-pub shrunk_makeable : EditsShow → ReadImagesHoldParts → (edit : Edit) (file : List ℕ) (read : Image) (d : Difference) (text : Text) → image_of file ≡ Ok read → IsShrunkImage edit read d text → IsDifference file d
-shrunk_makeable edits_show hold_parts edit file read d text is shrunk =
+pub shrunk_makeable : ListsAreTheirEdits → ReadImagesHoldParts → (edit : Edit) (file : List ℕ) (read : Image) (d : Difference) (text : Text) → image_of file ≡ Ok read → IsShrunkImage edit read d text → IsDifference file d
+shrunk_makeable lists hold_parts edit file read d text is shrunk =
     let P : List ℕ → Type 0 = λ l. IsDifference l d in
-    subst P (source_of_shrunk edits_show hold_parts edit file read shrunk.made is shrunk.makes) shrunk.makeable
+    subst P (source_of_shrunk lists hold_parts edit file read shrunk.made is shrunk.makes) shrunk.makeable
 
 -- the difference was made, and the lines were told
 pub shrinks_store : (finds : Finding) (prefixes : List Text) (old new said told : Option (List ℕ)) (loaded : List ℕ) (d : Difference) (text : Text) → IsAll old loaded
@@ -182,13 +137,8 @@ shrinks_store finds prefixes old new said told loaded d text all shrunk becomes 
 pub shrink_refused : (ended : Error → Type 0) (finds : Finding) (prefixes : List Text) (old : Option (List ℕ)) (loaded : List ℕ) (e : ElfCommandError) → IsAll old loaded → TellsShrunk finds prefixes loaded e
     → FailsShrink ended finds prefixes old old e
 shrink_refused ended finds prefixes old loaded (Io e) all tells = inl refl
-shrink_refused ended finds prefixes old loaded Memory all tells = (refl, λ file known. tt)
-shrink_refused ended finds prefixes old loaded (Edits wrong) all tells =
-    let P : List ℕ → Type 0 = λ l. TellsShrunk finds prefixes l (Edits wrong) in (refl, λ file known. subst P (all file known) tells)
-shrink_refused ended finds prefixes old loaded (Elf e) all tells =
-    let P : List ℕ → Type 0 = λ l. TellsShrunk finds prefixes l (Elf e) in (refl, λ file known. subst P (all file known) tells)
-shrink_refused ended finds prefixes old loaded (ElfBatch e) all tells =
-    let P : List ℕ → Type 0 = λ l. TellsShrunk finds prefixes l (ElfBatch e) in (refl, λ file known. subst P (all file known) tells)
+shrink_refused ended finds prefixes old loaded e all tells =
+    let P : List ℕ → Type 0 = λ l. TellsShrunk finds prefixes l e in (refl, λ file known. subst P (all file known) tells)
 
 -- the difference was not made: where there was memory, writes ended
 pub shrink_failed : {S : Type 0} (writes : Error → Type 0) (none : Type 0) (m n : ℕ) (finds : Finding) (prefixes : List Text) (contents : S → Option (List ℕ)) (old new : S) (loaded : List ℕ) (d : Difference) (text : Text) (e : ReplaceError)
@@ -216,9 +166,7 @@ shrink_fails_after writes none k m n finds prefixes old new e later fails = fail
 pub shrink_may_fail : (finds : Finding) (prefixes : List Text) (file : List ℕ) (e : ElfCommandError) → TellsShrunk finds prefixes file e → MayFailAs (shrinking prefixes) e
 shrink_may_fail finds prefixes file Memory tells = tt
 shrink_may_fail finds prefixes file (Io e) tells = tt
-shrink_may_fail finds prefixes file (Edits wrong) tells = let (answers, found, tells) = tells in (file, (answers, tells))
-shrink_may_fail finds prefixes file (Elf e) tells = let (answers, found, tells) = tells in (file, (answers, tells))
-shrink_may_fail finds prefixes file (ElfBatch e) tells = let (answers, found, tells) = tells in (file, (answers, tells))
+shrink_may_fail finds prefixes file e tells = let (answers, found, tells) = tells in (file, (answers, tells))
 
 pub replaced_may_fail : (prefixes : List Text) (e : ReplaceError) → MayFailAs (shrinking prefixes) (answer_to_replaced e)
 replaced_may_fail prefixes replace.Memory = tt
@@ -245,6 +193,4 @@ replaced_is_quiet finds prefixes contents known old new loaded d text (replace.W
 pub refused_is_quiet : {W : Type 0} (finds : Finding) (prefixes : List Text) (contents : W → Option (List ℕ)) (known : Option (List ℕ)) (w : W) (e : ElfCommandError) → IsQuiet finds prefixes contents known w w e
 refused_is_quiet finds prefixes contents known w Memory = inl refl
 refused_is_quiet finds prefixes contents known w (Io e) = inl refl
-refused_is_quiet finds prefixes contents known w (Edits wrong) = refl
-refused_is_quiet finds prefixes contents known w (Elf e) = refl
-refused_is_quiet finds prefixes contents known w (ElfBatch e) = refl
+refused_is_quiet finds prefixes contents known w e = refl

@@ -2,24 +2,19 @@
 use Rattle.std.specs.Prelude.{ℕ, ◌≡◌, ◌⊎◌, List, [], ◌∷◌, Option, Some, None, Ok, Err, false, true, map, ⊤}
 use Rattle.std.specs.declared.alloc.Global.{Global}
 use Rattle.std.specs.declared.vec.Vec.{Vec}
-use Rattle.elf_commands_steps.specs.Told.{RefusesAt}
 use Rattle.elf_commands_steps.specs.Written.{IsImageWritten, IsNoImage}
 use Rattle.elf_commands_steps.specs.ElfBatchError.{ElfBatchError}
 use Rattle.elf_commands_steps.specs.ElfError.{ElfError}
 use Rattle.elf_commands_steps.specs.ElfError.TheVariants as elf
-use Rattle.elf_edits.specs.Batch.{run}
-use Rattle.elf_edits.specs.Edit.{Answer, Edit}
+use Rattle.elf_edits.specs.Edit.{Answer}
 use Rattle.elf_edits.specs.Laws.{viewed}
-use Rattle.elf_edits.specs.declared.edit.ElfEdit.{ElfEdit}
 use Rattle.elf_image.specs.Image.{Image, image_of, shown}
-use Rattle.elf_image.specs.Views.{View, dynamic_symbol_count, loader_view, section_view}
+use Rattle.elf_image.specs.Views.{dynamic_symbol_count, loader_view, section_view}
 use Rattle.elf_commands_steps.specs.Final.{final_view}
 use Rattle.elf_commands_steps.specs.WrittenFile.{IsWrittenOf}
-use Rattle.elf_commands_steps.specs.Groups.{GroupEdit, MakeInTurn, RefuseInTurn, group_model, symbols}
-use Rattle.elf_commands.specs.ElfAsked.{ElfAsked, answered, asks_edits, asks_in_turn, elf_asked, in_turn, of_symbols, one, printing, several, shrinking}
-use Rattle.elf_commands.specs.ElfWords.{edits_model}
-use Rattle.elf_commands.specs.declared.asked.AskedEdits.{AskedEdits}
-use Rattle.elf_commands.specs.declared.asked.AskedEdits.TheVariants as asked
+use Rattle.elf_commands_steps.specs.Groups.{GroupEdit, MakeInTurn, RefuseInTurn, group_model, has_symbols, plain_of}
+use Rattle.elf_commands_steps.specs.declared.groups.GroupEdit.{GroupEdit as GroupHeld}
+use Rattle.elf_commands.specs.ElfAsked.{ElfAsked, answered, asks_edits, edits_asked, elf_asked, one, printing, several, shrinking}
 use Rattle.elf_commands_steps.specs.ElfErrors.{answer_to_elf}
 use Rattle.elf_commands.specs.Meaning.{ElfMeaning}
 use Rattle.elf_commands.specs.Prints.{PrintMayFail, Prints, TellsElf}
@@ -29,17 +24,20 @@ use Rattle.elf_commands_steps.specs.declared.error.ElfCommandError.TheVariants.{
 -- ---- what is written
 
 -- The image that edits make of a file.
-pub record Makes (edits : List Edit) (file : List ℕ) (made : Image) : Type 0 where
+pub record Makes (edits : List GroupEdit) (file : List ℕ) (made : Image) : Type 0 where
   pub read : Image
   pub is_read : image_of file ≡ Ok read
-  pub runs : run edits read ≡ Ok made
+  pub make : MakeInTurn edits read made
 
 -- New bytes of a file show its edits, by their section headers and to a loader that knows their program headers alone: what
 -- the section headers of the old bytes show, after one edit and the next, in the final form of the image that the edits make.
-pub record ShowsEdits (edits : List Edit) (file new : List ℕ) (made : Image) : Type 0 where
-  pub old : View
-  pub was_shown : section_view file ≡ Some old
-  pub is_edited : shown made ≡ viewed made.header.e_machine edits old
+pub record ShowsEdits (edits : List GroupEdit) (file new : List ℕ) (made : Image) : Type 0 where
+  pub read : Image
+  pub is_read : image_of file ≡ Ok read
+  pub was_shown : section_view file ≡ Some (shown read)
+  pub make : MakeInTurn edits read made
+  -- without edits of symbols or sections the view alone tells it
+  pub is_viewed : has_symbols edits ≡ false → shown made ≡ viewed made.header.e_machine (plain_of edits) (shown read)
   -- what was read of the bytes that the image comes from
   pub at_read : Image
   pub was_read : image_of made.source ≡ Ok at_read
@@ -47,7 +45,7 @@ pub record ShowsEdits (edits : List Edit) (file new : List ℕ) (made : Image) :
   pub by_loader : loader_view new (dynamic_symbol_count new) ≡ Some (final_view at_read made)
 
 -- An answer to edits of a file: no bytes where its image is as it was, else those of the edited image, which show the edits.
-pub record IsEditedBy (edits : List Edit) (file : List ℕ) (answer : Option (Vec ℕ Global)) : Type 0 where
+pub record IsEditedBy (edits : List GroupEdit) (file : List ℕ) (answer : Option (Vec ℕ Global)) : Type 0 where
   pub made : Image
   pub makes : Makes edits file made
   pub unchanged : made.changed ≡ false → answer ≡ None
@@ -55,58 +53,22 @@ pub record IsEditedBy (edits : List Edit) (file : List ℕ) (answer : Option (Ve
       × IsWrittenOf made new.items × ShowsEdits edits file new.items made
 
 -- The bytes that edits leave of a file: those of the image that they make of it. Where it was changed, they show the edits.
-pub record IsEditedTo (edits : List Edit) (file new : List ℕ) : Type 0 where
+pub record IsEditedTo (edits : List GroupEdit) (file new : List ℕ) : Type 0 where
   pub made : Image
   pub makes : Makes edits file made
   pub written : IsImageWritten made new
   pub shows : made.changed ≡ true → ShowsEdits edits file new made
 
--- ---- edits of both kinds, one after the other
-
--- The image that they make of a file.
-pub record MakesInTurn (edits : List GroupEdit) (file : List ℕ) (made : Image) : Type 0 where
-  pub read : Image
-  pub is_read : image_of file ≡ Ok read
-  pub make : MakeInTurn edits read made
-
--- New bytes of a file show them, by their section headers and to a loader that knows their program headers alone: what the section
--- headers of the old bytes show, after one edit and the next, in the final form of the image that the edits make.
-pub record ShowInTurn (edits : List GroupEdit) (file new : List ℕ) (made : Image) : Type 0 where
-  pub read : Image
-  pub is_read : image_of file ≡ Ok read
-  pub was_shown : section_view file ≡ Some (shown read)
-  pub are_edited : MakeInTurn edits read made
-  -- what was read of the bytes that the image comes from
-  pub at_read : Image
-  pub was_read : image_of made.source ≡ Ok at_read
-  pub by_sections : section_view new ≡ Some (final_view at_read made)
-  pub by_loader : loader_view new (dynamic_symbol_count new) ≡ Some (final_view at_read made)
-
--- An answer to them: no bytes where the image is as it was, else those of the edited image, which show the edits.
-pub record AreEditedInTurn (edits : List GroupEdit) (file : List ℕ) (answer : Option (Vec ℕ Global)) : Type 0 where
-  pub made : Image
-  pub makes : MakesInTurn edits file made
-  pub unchanged : made.changed ≡ false → answer ≡ None
-  pub changed : made.changed ≡ true → (new : Vec ℕ Global) × (answer ≡ Some new)
-      × IsWrittenOf made new.items × ShowInTurn edits file new.items made
-
--- The bytes that they leave of a file: those of the image that they make of it. Where it was changed, they show the edits.
-pub record LeaveInTurn (edits : List GroupEdit) (file new : List ℕ) : Type 0 where
-  pub made : Image
-  pub makes : MakesInTurn edits file made
-  pub written : IsImageWritten made new
-  pub shows : made.changed ≡ true → ShowInTurn edits file new made
-
 -- ---- which answer tells why there are no bytes; want of memory may be answered in any case
 
--- an edit with this number is refused
-pub record IsRefusedAt (edits : List Edit) (file : List ℕ) (index : ℕ) (e : ElfError) : Type 0 where
+-- the edit with this number is refused
+pub record IsRefusedAt (edits : List GroupEdit) (file : List ℕ) (index : ℕ) (e : ElfError) : Type 0 where
   pub read : Image
   pub is_read : image_of file ≡ Ok read
-  pub refused : RefusesAt index e (run edits read)
+  pub refused : RefuseInTurn edits read index e
 
 -- the edited image has no bytes
-pub record IsNotWritten (edits : List Edit) (file : List ℕ) (e : ElfError) : Type 0 where
+pub record IsNotWritten (edits : List GroupEdit) (file : List ℕ) (e : ElfError) : Type 0 where
   pub made : Image
   pub makes : Makes edits file made
   pub none : IsNoImage made e
@@ -116,42 +78,22 @@ abbrev pub IsUnread : List ℕ → ElfError → Type 0
 IsUnread file (elf.Parse fault) = image_of file ≡ Err fault
 IsUnread file e = ⊥
 
--- of edits in turn the one with this number is refused
-pub record AreRefusedInTurn (edits : List GroupEdit) (file : List ℕ) (index : ℕ) (e : ElfError) : Type 0 where
-  pub read : Image
-  pub is_read : image_of file ≡ Ok read
-  pub refused : RefuseInTurn edits read index e
-
--- the image that they make has no bytes
-pub record AreUnwritten (edits : List GroupEdit) (file : List ℕ) (e : ElfError) : Type 0 where
-  pub made : Image
-  pub makes : MakesInTurn edits file made
-  pub none : IsNoImage made e
-
 -- an error of a file
 abbrev pub TellsElfOf : ElfAsked → List ℕ → ElfError → Type 0
 TellsElfOf a file elf.Memory = ⊥
 TellsElfOf (one edit) file e =
     IsUnread file e ⊎ (((index : ℕ) × IsRefusedAt (edit ∷ []) file index e) ⊎ IsNotWritten (edit ∷ []) file e)
 TellsElfOf (several (Ok edits)) file e = IsUnread file e ⊎ IsNotWritten edits file e
-TellsElfOf (of_symbols edit) file e =
-    IsUnread file e ⊎ (((index : ℕ) × AreRefusedInTurn (symbols edit ∷ []) file index e) ⊎ AreUnwritten (symbols edit ∷ []) file e)
-TellsElfOf (in_turn edits) file e = IsUnread file e ⊎ AreUnwritten edits file e
 TellsElfOf a file e = ⊥
 
 -- an error of the edit with this number; want of memory is none of an edit
-abbrev pub TellsRefusedAt : List Edit → List ℕ → ℕ → ElfError → Type 0
+abbrev pub TellsRefusedAt : List GroupEdit → List ℕ → ℕ → ElfError → Type 0
 TellsRefusedAt edits file index elf.Memory = ⊥
 TellsRefusedAt edits file index e = IsRefusedAt edits file index e
-
-abbrev pub TellsRefusedInTurn : List GroupEdit → List ℕ → ℕ → ElfError → Type 0
-TellsRefusedInTurn edits file index elf.Memory = ⊥
-TellsRefusedInTurn edits file index e = AreRefusedInTurn edits file index e
 
 -- an error of one of several edits
 abbrev pub TellsBatchOf : ElfAsked → List ℕ → ElfBatchError → Type 0
 TellsBatchOf (several (Ok edits)) file e = TellsRefusedAt edits file e.index e.fault
-TellsBatchOf (in_turn edits) file e = TellsRefusedInTurn edits file e.index e.fault
 TellsBatchOf a file e = ⊥
 
 abbrev pub TellsEdit : ElfAsked → List ℕ → ElfCommandError → Type 0
@@ -163,47 +105,17 @@ TellsEdit a file e = ⊥
 
 -- ---- a run over bytes
 
--- the edits of a batch that are asked for
-abbrev pub AreEditsAsked : ElfAsked → List Edit → Type 0
-AreEditsAsked (one edit) edits = edits ≡ edit ∷ []
-AreEditsAsked (several read) edits = read ≡ Ok edits
-AreEditsAsked (shrinking prefixes) edits = ⊥
-AreEditsAsked (of_symbols edit) edits = ⊥
-AreEditsAsked (in_turn asked) edits = ⊥
-AreEditsAsked printing edits = ⊥
-
--- the edits that are asked for where some of them are of symbols or sections
-abbrev pub AreAskedInTurn : ElfAsked → List GroupEdit → Type 0
-AreAskedInTurn (of_symbols edit) edits = edits ≡ symbols edit ∷ []
-AreAskedInTurn (in_turn asked) edits = edits ≡ asked
-AreAskedInTurn (one edit) edits = ⊥
-AreAskedInTurn (several read) edits = ⊥
-AreAskedInTurn (shrinking prefixes) edits = ⊥
-AreAskedInTurn printing edits = ⊥
-
--- new bytes, or none, are what the edits of a batch make that a command asks for
-pub record IsBatchEdited (a : ElfAsked) (file : List ℕ) (answer : Option (Vec ℕ Global)) : Type 0 where
-  pub edits : List Edit
-  pub are : AreEditsAsked a edits
+-- New bytes, or none, are what the edits make that are asked for.
+pub record IsElfEdited (a : ElfAsked) (file : List ℕ) (answer : Option (Vec ℕ Global)) : Type 0 where
+  pub edits : List GroupEdit
+  pub are : edits_asked a ≡ Some edits
   pub edited : IsEditedBy edits file answer
 
--- the bytes that a batch leaves
-pub record LeavesBatch (a : ElfAsked) (file new : List ℕ) : Type 0 where
-  pub edits : List Edit
-  pub are : AreEditsAsked a edits
+-- The bytes that these edits leave.
+pub record LeavesElf (a : ElfAsked) (file new : List ℕ) : Type 0 where
+  pub edits : List GroupEdit
+  pub are : edits_asked a ≡ Some edits
   pub left : IsEditedTo edits file new
-
--- new bytes, or none, are what the edits make that a command asks for
-abbrev pub IsElfEdited : ElfAsked → List ℕ → Option (Vec ℕ Global) → Type 0
-IsElfEdited (of_symbols edit) file answer = AreEditedInTurn (symbols edit ∷ []) file answer
-IsElfEdited (in_turn edits) file answer = AreEditedInTurn edits file answer
-IsElfEdited a file answer = IsBatchEdited a file answer
-
--- the bytes that a command that edits leaves
-abbrev pub LeavesElf : ElfAsked → List ℕ → List ℕ → Type 0
-LeavesElf (of_symbols edit) file new = LeaveInTurn (symbols edit ∷ []) file new
-LeavesElf (in_turn edits) file new = LeaveInTurn edits file new
-LeavesElf a file new = LeavesBatch a file new
 
 -- the bytes that there are after an answer
 abbrev pub bytes_left : List ℕ → Option (Vec ℕ Global) → List ℕ
@@ -216,16 +128,10 @@ RunsElf meaning printing file answer old new = (answer ≡ None) × Prints meani
 RunsElf meaning (shrinking prefixes) file answer old new = (answer ≡ None) × Prints meaning (image_of file) old new
 RunsElf meaning a file answer old new = IsElfEdited a file answer × (new ≡ old)
 
--- the edits of a batch that a command asks for; none of one that prints, asks first what is found, or edits symbols or sections
-abbrev pub AreAskedIf : ElfAsked → Option (Vec ElfEdit Global) → Type 0
-AreAskedIf a (Some edits) = AreEditsAsked a (edits_model edits.items)
-AreAskedIf a None = asks_edits a ≡ false
-
--- the edits that a command asks for, be it of a batch or in turn
-abbrev pub AreAsked : ElfAsked → AskedEdits → Type 0
-AreAsked a (asked.Batch edits) = AreEditsAsked a (edits_model edits.items)
-AreAsked a (asked.InTurn edits) = AreAskedInTurn a (map group_model edits.items)
-AreAsked a asked.Nothing = (asks_edits a ≡ false) × (asks_in_turn a ≡ false)
+-- the edits that a command asks for, or none: it prints, or asks first what is found
+abbrev pub AreAsked : ElfAsked → Option (Vec GroupHeld Global) → Type 0
+AreAsked a (Some edits) = edits_asked a ≡ Some (map group_model edits.items)
+AreAsked a None = asks_edits a ≡ false
 
 -- an error tells the outcome of each file, since no file was looked at
 abbrev pub TellsEachFile : ElfAsked → ElfCommandError → Type 0
@@ -245,7 +151,6 @@ with_no_number e = e
 -- an error of several edits as it is told of what is asked for: of one edit no number is told
 abbrev pub as_asked : ElfAsked → ElfCommandError → ElfCommandError
 as_asked (several read) e = e
-as_asked (in_turn edits) e = e
 as_asked a e = with_no_number e
 
 -- ---- why a command may fail. No clause can say that a file can be read or written

@@ -7,10 +7,10 @@ use Rattle.byte_store.specs.Composed.{IsDifference, made_of, owned_patches}
 use Rattle.byte_store.specs.Fault.{IsLeft}
 use Rattle.byte_store.specs.declared.composed.Difference.{Difference}
 use Rattle.byte_store.specs.declared.writing.Left.{Left}
-use Rattle.elf_commands.specs.ElfAsked.{ElfAsked, printing, shrinking}
-use Rattle.elf_edits.specs.Edit.{Edit}
+use Rattle.elf_commands.specs.ElfAsked.{ElfAsked, edits_asked, printing, shrinking}
+use Rattle.elf_commands_steps.specs.Groups.{GroupEdit}
 use Rattle.elf_image.specs.Image.{Image}
-use Rattle.elf_commands.specs.ElfEngine.{AreEditsAsked, LeavesElf, Makes, TellsEdit}
+use Rattle.elf_commands.specs.ElfEngine.{LeavesElf, Makes, TellsEdit}
 use Rattle.elf_commands_steps.specs.declared.error.ElfCommandError.{ElfCommandError}
 use Rattle.elf_commands_steps.specs.declared.error.ElfCommandError.TheVariants.{Io}
 
@@ -31,8 +31,8 @@ pub record IsElfTorn (a : ElfAsked) (file : List ℕ) (old new : Option (List �
 
 -- The edits that are asked for find nothing to change in a file.
 pub record ChangesNothing (a : ElfAsked) (file : List ℕ) : Type 0 where
-  pub edits : List Edit
-  pub are : AreEditsAsked a edits
+  pub edits : List GroupEdit
+  pub are : edits_asked a ≡ Some edits
   pub made : Image
   pub makes : Makes edits file made
   pub same : made.changed ≡ false

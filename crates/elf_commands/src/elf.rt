@@ -6,14 +6,13 @@ ghost use Rattle.elf_commands.specs.Prints.{PrintMayFail};
 
 mod editing;
 mod engine;
-mod in_turn;
 mod noting;
 mod opening;
 mod printing;
 mod shrinking;
 mod typed;
 
-pub use crate::asked::{AskedEdits, asked_by, batch_or_in_turn, edits_asked};
+pub use crate::asked::asked_by;
 use crate::command::ElfCommand;
 use command_words::Notes;
 pub use editing::{edit_path, edit_store};
@@ -27,7 +26,7 @@ pub use printing::{print_path, print_store};
 use shrinking::shrink_file;
 pub use shrinking::{shrink_path, shrink_store};
 use std::rt::Files;
-pub use typed::{edit_batch, edit_each, edit_groups};
+pub use typed::{edit_bytes, edited_pieces};
 
 /// Does what is asked of an ELF file, and tells no notes. What is printed goes to the standard output, and which
 /// directories `shrink-rpath` leaves out to the standard error.

@@ -1,3 +1,4 @@
 mod Answered
+pub mod ListLaws
 mod Marks
 mod Turns

@@ -1,11 +1,13 @@
-//! Edits that groups of words name, of either kind.
-ghost use Rattle.std.specs.Prelude.{◌≡◌, ◌++◌, ◌∷◌, [], IfErr, IfOk, OnErr, OnOk, map, take};
+//! Edits that groups of words name, of either kind, and lists of them.
+ghost use Rattle.std.specs.Prelude.{◌≡◌, ◌++◌, ◌∷◌, [], IfErr, IfOk, Ok, OnErr, OnOk, map, take};
 ghost use Rattle.arwen_elf.specs.Taken.{edits_model};
+ghost use Rattle.elf_edits.specs.Batch.{run};
 ghost use Rattle.elf_edits.specs.EditModel.{edit_model};
-ghost use Rattle.elf_commands_steps.specs.Groups.{MakeInTurn, MakesNext, RefusesNext, TellsInTurn, group_model, has_symbols as are_some_symbols, plain_of, shown_next};
+ghost use Rattle.elf_commands_steps.specs.Groups.{MakeInTurn, MakesNext, RefusesNext, TellsInTurn, group_model, has_symbols as are_some_symbols, made_before, plain_of, shown_next};
 ghost use Rattle.elf_image.specs.Image.{shown};
 ghost use Rattle.elf_commands_steps.specs.Groups.GroupEdit.{plain};
 
+use crate::laws::lists_are_their_edits;
 use crate::symbol_texts::SymbolTexts;
 use arwen_elf::elf::{ElfBatchError, ElfContainer, ElfError};
 use elf_edits::ElfEdit;
@@ -22,7 +24,7 @@ pub enum GroupEdit {
     Symbols(SymbolTexts),
 }
 
-/// Whether one of some edits is of symbols or sections, which no batch takes.
+/// Whether one of a list is of symbols or sections, which no batch takes.
 pub fn has_symbols(edits: &[GroupEdit]) -> bool
     ensures { result ≡ are_some_symbols (map group_model edits.now) }
 {
@@ -34,7 +36,7 @@ pub fn has_symbols(edits: &[GroupEdit]) -> bool
     false
 }
 
-/// The edits of some that a batch takes, in order. Error: `AllocError`.
+/// The edits of a list that a batch takes, in order. Error: `AllocError`.
 pub fn plain_edits(alloc: Global, edits: Vec<GroupEdit>) -> Result<Vec<ElfEdit>, AllocError>
     ensures { IfOk result (λ plain. edits_model plain.items
         ≡ plain_of (map group_model edits.items)) }
@@ -57,13 +59,54 @@ fn push_plain(plain: &mut Vec<ElfEdit>, edit: GroupEdit) -> Result<(), AllocErro
     Ok(())
 }
 
-/// Makes edits in an image, one after the other, each upon what the one before it left.
+/// Makes edits in an image, each upon what the one before it left; those of which none is of symbols or sections as one batch, all
+/// or none.
 ///
 /// # Errors
 ///
-/// The first edit that is refused, by its number, counted from 0, and why; or `Memory`. The image is then what the edits
-/// before it left.
-pub fn apply_in_turn(
+/// The first edit that is refused, by its number, counted from 0, and why; or `Memory`. The image is then as it was after a batch,
+/// else what the edits before that one left.
+pub fn apply_edits(
+    alloc: Global,
+    elf: &mut ElfContainer<'_>,
+    edits: Vec<GroupEdit>,
+) -> Result<(), ElfBatchError>
+    ensures made { OnOk result
+        (MakeInTurn (map group_model edits.items) elf.old.inner elf.new.inner) }
+    ensures told { IfErr result (TellsInTurn (map group_model edits.items) elf.old.inner) }
+    ensures left { IfErr result (λ e. MakeInTurn
+        (take (made_before (map group_model edits.items) e.index) (map group_model edits.items))
+        elf.old.inner elf.new.inner) }
+{
+    if has_symbols(edits.as_slice()) {
+        return apply_each(alloc, elf, edits.as_slice());
+    }
+    let plain = plain_edits(alloc, edits)?;
+    apply_batch(alloc, elf, plain.as_slice())
+}
+
+/// Makes a batch of edits in an image: all of them, or none. Errors: those of `apply_edits`.
+pub fn apply_batch(
+    alloc: Global,
+    elf: &mut ElfContainer<'_>,
+    edits: &[ElfEdit],
+) -> Result<(), ElfBatchError>
+    ensures runs { OnOk result (run (edits_model edits.now) elf.old.inner ≡ Ok elf.new.inner) }
+    ensures made { OnOk result
+        (MakeInTurn (map plain (edits_model edits.now)) elf.old.inner elf.new.inner) }
+    ensures told { IfErr result (TellsInTurn (map plain (edits_model edits.now)) elf.old.inner) }
+    ensures left { OnErr result (elf.new.inner ≡ elf.old.inner) }
+{
+    lists_are_their_edits();
+    match elf.apply(alloc, edits) {
+        Ok(()) => Ok(()),
+        Err(error) => Err(error),
+    }
+}
+
+/// Makes edits in an image, one after the other. Errors: those of `apply_edits`; the image is then what the edits before the
+/// refused one left.
+fn apply_each(
     alloc: Global,
     elf: &mut ElfContainer<'_>,
     edits: &[GroupEdit],

@@ -1,12 +1,12 @@
-//! What commands need of ELF files: edits that commands and groups of words ask for, of either kind, with their texts: those that
-//! a batch takes, and those of symbols or sections, made one after the other; and what `shrink-rpath` looks for in the directories
-//! of a run path, with the lines that tell which of them went.
+//! What commands need of ELF files: edits that commands and groups of words ask for, of either kind, with their texts; and what
+//! `shrink-rpath` looks for in the directories of a run path, with the lines that tell which of them went.
 #![tactic(auto)]
 
 pub mod error;
 pub mod files;
 pub mod groups;
 pub mod images;
+pub mod laws;
 pub mod probing;
 pub mod shrinking;
 pub mod standard_error;
@@ -15,7 +15,7 @@ pub mod symbol_texts;
 pub mod texts;
 
 pub use crate::error::ElfCommandError;
-pub use crate::groups::{GroupEdit, apply_in_turn, has_symbols, plain_edits};
+pub use crate::groups::{GroupEdit, apply_batch, apply_edits, has_symbols, plain_edits};
 pub use crate::images::{changed_bytes, pieces_and_text, pieces_of};
 pub use crate::probing::{FileProbe, Probe, answers_of, removal_text};
 pub use crate::shrinking::{Shrunk, pieces_by_answers, shrink_image, tell_removed};

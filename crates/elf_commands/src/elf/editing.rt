@@ -1,23 +1,21 @@
 //! Edits of the bytes of stores.
-ghost use Rattle.std.specs.Prelude.{IfErr, IfOk, IsTrue, OnOk, length, string_bytes};
+ghost use Rattle.std.specs.Prelude.{◌≡◌, Some, IfErr, IfOk, IsTrue, OnOk, length, map, string_bytes};
 ghost use Rattle.byte_store.specs.Known.{HasLength, IsAll, Stays};
-ghost use Rattle.elf_commands.specs.ElfAsked.{elf_asked};
-ghost use Rattle.elf_commands.specs.ElfEngine.{AreAsked, AreEditsAsked, ElfMayFail};
+ghost use Rattle.elf_commands.specs.ElfAsked.{edits_asked, elf_asked};
+ghost use Rattle.elf_commands_steps.specs.Groups.{group_model};
+ghost use Rattle.elf_commands.specs.ElfEngine.{AreAsked, ElfMayFail};
 ghost use Rattle.elf_commands.specs.ElfStores.{ChangesNothing, FailsElf, FailsElfAt, IsElfPatched, WritesEnd};
-ghost use Rattle.elf_commands.specs.ElfWords.{edits_model};
 ghost use Rattle.elf_commands_steps.specs.Failures.{HasCause, HasCauseAt, HasWriteCause};
 ghost use Rattle.elf_commands.specs.Meaning.{elf_file_of, elf_command_model};
-ghost use Rattle.elf_commands.specs.Noting.{TellsWanted, TellsWantedAt};
+ghost use Rattle.elf_commands.specs.Noting.{TellsWantedAt};
 
-use crate::asked::{AskedEdits, asked_by};
+use crate::asked::asked_by;
 use crate::command::ElfCommand;
-use crate::elf::engine::edited_pieces;
-use crate::elf::in_turn::edit_in_turn;
+use crate::elf::engine::pieces_asked;
 use crate::elf::opening::open_path;
 use byte_store::Store;
 use command_words::{NotDone, Notes, OpensOnce, RegularFiles, load};
-use elf_commands_steps::{ElfCommandError, make_opened, tell};
-use elf_edits::ElfEdit;
+use elf_commands_steps::{ElfCommandError, GroupEdit, make_opened, tell};
 use std::alloc::Global;
 use std::rt::Files;
 
@@ -57,20 +55,19 @@ pub fn edit_store<S: Store>(
 {
     let bytes = load(alloc, store)?;
     let asked = asked_by(alloc, command)?;
-    edit_as_asked(alloc, store, bytes.as_slice(), command, &asked, notes)
+    edit_as_asked(alloc, store, bytes.as_slice(), command, asked, notes)
 }
 
-/// Makes the edits that a command asks for in a store that has these bytes, and answers the lines of their notes; no text where
-/// they are left out, and where some edits are of symbols or sections.
+/// Makes the edits that a command asks for in a store that has these bytes, and answers the lines of their notes.
 fn edit_as_asked<S: Store>(
     alloc: Global,
     store: &mut S,
     bytes: &[u8],
     command: &ElfCommand,
-    asked: &AskedEdits,
+    asked: Option<Vec<GroupEdit>>,
     notes: Notes,
 ) -> Result<String, ElfCommandError>
-    requires asked { AreAsked (elf_asked (elf_command_model command.now)) asked.now }
+    requires asked { AreAsked (elf_asked (elf_command_model command.now)) asked }
     requires whole { IsAll (S.contents store.old) bytes.now }
     requires length { HasLength (S.contents store.old) (length bytes.now) }
     ensures patched { OnOk result (IsElfPatched (elf_asked (elf_command_model command.now))
@@ -87,36 +84,30 @@ fn edit_as_asked<S: Store>(
         (S.failed store.old) (S.failed store.new)) }
 {
     match asked {
-        AskedEdits::Batch(edits) => {
-            edit_loaded(alloc, store, bytes, command, edits.as_slice(), notes)
-        }
-        AskedEdits::InTurn(edits) => {
-            edit_in_turn(alloc, store, bytes, command, edits.as_slice())?;
-            Ok(String::new(alloc))
-        }
-        AskedEdits::Nothing => Ok(String::new(alloc)),
+        Some(edits) => edit_loaded(alloc, store, bytes, command, edits, notes),
+        None => Ok(String::new(alloc)),
     }
 }
 
-/// Makes the edits that a command asks for in a store that has these bytes, and answers the lines of their notes; no
-/// text where they are left out. Where the edits find nothing to change, it is opened for writing and keeps its bytes.
+/// Makes these edits that a command asks for in a store that has these bytes, and answers the lines of their notes. Where the
+/// edits find nothing to change, it is opened for writing and keeps its bytes.
 fn edit_loaded<S: Store>(
     alloc: Global,
     store: &mut S,
     bytes: &[u8],
     command: &ElfCommand,
-    edits: &[ElfEdit],
+    edits: Vec<GroupEdit>,
     notes: Notes,
 ) -> Result<String, ElfCommandError>
-    requires asked { AreEditsAsked (elf_asked (elf_command_model command.now))
-        (edits_model edits.now) }
+    requires asked { edits_asked (elf_asked (elf_command_model command.now))
+        ≡ Some (map group_model edits.items) }
     requires whole { IsAll (S.contents store.old) bytes.now }
     requires length { HasLength (S.contents store.old) (length bytes.now) }
     ensures patched { OnOk result (IsElfPatched (elf_asked (elf_command_model command.now))
         (S.contents store.old) (S.contents store.new)) }
-    ensures told { IfOk result (λ text. TellsWanted notes
+    ensures told { IfOk result (λ text. TellsWantedAt notes
         (elf_asked (elf_command_model command.now)) (elf_file_of (elf_command_model command.now))
-        bytes.now (string_bytes text)) }
+        (S.contents store.old) (string_bytes text)) }
     ensures err { IfErr result (ElfMayFail (elf_command_model command.now)) }
     ensures left { IfErr result (FailsElf
         (WritesEnd S.may_fail_write S.may_take_none (S.failed store.old) (S.failed store.new))
@@ -129,7 +120,7 @@ fn edit_loaded<S: Store>(
     ensures cause { IfErr result (HasWriteCause S.may_fail_write S.may_take_none
         (S.failed store.old) (S.failed store.new)) }
 {
-    let (difference, text) = edited_pieces(alloc, bytes, command, edits, notes)?;
+    let (difference, text) = pieces_asked(alloc, bytes, command, edits, notes)?;
     make_opened(alloc, store, bytes.len() as u64, &difference)?;
     Ok(text)
 }

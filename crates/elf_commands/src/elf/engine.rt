@@ -1,5 +1,5 @@
 //! What is made of a file's bytes, and printed of them.
-ghost use Rattle.std.specs.Prelude.{◌≡◌, IfOk, IfErr, map, string_bytes};
+ghost use Rattle.std.specs.Prelude.{◌≡◌, Some, IfOk, IfErr, map, string_bytes};
 ghost use Rattle.elf_commands_steps.specs.ShrinkModel.{answer_model};
 ghost use Rattle.elf_commands.specs.ShrinkRuns.{RunsCommand, TellsCommand};
 ghost use Rattle.std.specs.Io.KnownBytes.{Appends};
@@ -8,23 +8,21 @@ ghost use Rattle.elf_commands_steps.specs.Written.{IsNoDifference};
 ghost use Rattle.elf_commands.specs.ElfStores.{ChangesNothing};
 ghost use Rattle.elf_commands_steps.specs.Prints.{FailsPrint};
 ghost use Rattle.elf_image.specs.Image.{image_of, shown};
-ghost use Rattle.elf_commands.specs.ElfAsked.{elf_asked};
-ghost use Rattle.elf_commands.specs.ElfEngine.{AreEditsAsked, IsElfEdited, LeavesElf, RunsElf, TellsEdit, TellsRun, as_asked, bytes_left, with_no_number};
-ghost use Rattle.elf_commands.specs.ElfWords.{edits_model};
+ghost use Rattle.elf_commands.specs.ElfAsked.{edits_asked, elf_asked};
+ghost use Rattle.elf_commands_steps.specs.Groups.{group_model};
+ghost use Rattle.elf_commands.specs.ElfEngine.{IsElfEdited, LeavesElf, RunsElf, TellsEdit, TellsRun, as_asked, with_no_number};
 ghost use Rattle.elf_commands.specs.Meaning.{elf_command_model, elf_file_of};
-ghost use Rattle.elf_commands.specs.Noting.{TellsWanted};
+ghost use Rattle.elf_commands.specs.Noting.{TellsWantedAt};
 ghost use Rattle.elf_commands.specs.Prints.{Prints, TellsElf, printed};
 
-use crate::asked::{AskedEdits, asked_by};
+use crate::asked::asked_by;
 use crate::command::ElfCommand;
-use crate::elf::in_turn::edited_in_turn;
 use crate::elf::shrinking::run_shrink;
-use crate::elf::typed::{batch_pieces, edit_batch};
+use crate::elf::typed::{edit_bytes, edited_pieces};
 use byte_store::Difference;
 use command_words::Notes;
-use elf_commands_steps::ElfCommandError;
 use elf_commands_steps::files::{ElfContainer, ElfError, ProbeAnswer};
-use elf_edits::ElfEdit;
+use elf_commands_steps::{ElfCommandError, GroupEdit};
 use std::alloc::Global;
 use std::io::Write;
 
@@ -66,9 +64,8 @@ fn run_unprobed<W: Write>(
         (elf_asked (elf_command_model command.now)) bytes.now out.old out.new) }
 {
     match asked_by(alloc, command)? {
-        AskedEdits::Batch(edits) => edited(alloc, bytes, command, edits.as_slice()),
-        AskedEdits::InTurn(edits) => edited_in_turn(alloc, bytes, command, edits.as_slice()),
-        AskedEdits::Nothing => {
+        Some(edits) => edited(alloc, bytes, command, edits),
+        None => {
             print_bytes(alloc, bytes, command, out)?;
             Ok(None)
         }
@@ -76,19 +73,18 @@ fn run_unprobed<W: Write>(
 }
 
 /// The bytes of a file after the edits that a command asks for, or `None` where they change nothing.
-pub(crate) fn edited(
+fn edited(
     alloc: Global,
     bytes: &[u8],
     command: &ElfCommand,
-    edits: &[ElfEdit],
+    edits: Vec<GroupEdit>,
 ) -> Result<Option<Vec<u8>>, ElfCommandError>
-    requires { AreEditsAsked (elf_asked (elf_command_model command.now)) (edits_model edits.now) }
+    requires { edits_asked (elf_asked (elf_command_model command.now))
+        ≡ Some (map group_model edits.items) }
     ensures ok { IfOk result (IsElfEdited (elf_asked (elf_command_model command.now)) bytes.now) }
-    ensures left { IfOk result (λ new. LeavesElf (elf_asked (elf_command_model command.now))
-        bytes.now (bytes_left bytes.now new)) }
     ensures err { IfErr result (TellsEdit (elf_asked (elf_command_model command.now)) bytes.now) }
 {
-    match edit_batch(
+    match edit_bytes(
         alloc,
         bytes,
         edits,
@@ -100,34 +96,34 @@ pub(crate) fn edited(
     }
 }
 
-/// What of the bytes of a file differs after the edits that a command asks for, and the lines of their notes, of the
-/// file as it is before; no text where they are left out.
-pub(crate) fn edited_pieces(
+/// What of the bytes of a file differs after the edits that a command asks for, and the lines of their notes, as of `edit_bytes`.
+pub(crate) fn pieces_asked(
     alloc: Global,
     bytes: &[u8],
     command: &ElfCommand,
-    edits: &[ElfEdit],
+    edits: Vec<GroupEdit>,
     notes: Notes,
 ) -> Result<(Difference, String), ElfCommandError>
-    requires { AreEditsAsked (elf_asked (elf_command_model command.now)) (edits_model edits.now) }
+    requires { edits_asked (elf_asked (elf_command_model command.now))
+        ≡ Some (map group_model edits.items) }
     ensures makeable { IfOk result (λ made. IsDifference bytes.now made.0) }
     ensures left { IfOk result (λ made. LeavesElf (elf_asked (elf_command_model command.now))
         bytes.now (made_of bytes.now made.0)) }
-    ensures told { IfOk result (λ made. TellsWanted notes
+    ensures told { IfOk result (λ made. TellsWantedAt notes
         (elf_asked (elf_command_model command.now)) (elf_file_of (elf_command_model command.now))
-        bytes.now (string_bytes made.1)) }
+        (Some bytes.now) (string_bytes made.1)) }
     ensures err { IfErr result (TellsEdit (elf_asked (elf_command_model command.now)) bytes.now) }
     ensures idle { ChangesNothing (elf_asked (elf_command_model command.now)) bytes.now
         → IfOk result (λ made. IsNoDifference bytes.now made.0) }
 {
-    match batch_pieces(alloc, bytes, edits, command.path_to_binary(), notes) {
+    match edited_pieces(alloc, bytes, edits, command.path_to_binary(), notes) {
         Ok(made) => Ok(made),
         Err(error) => Err(told_to(command, error)),
     }
 }
 
 /// An error of several edits as it is told to a command. Where it asks for one, no number is told.
-pub(crate) fn told_to(command: &ElfCommand, error: ElfCommandError) -> ElfCommandError
+fn told_to(command: &ElfCommand, error: ElfCommandError) -> ElfCommandError
     ensures { result ≡ as_asked (elf_asked (elf_command_model command.now)) error }
 {
     match command {

@@ -1,72 +1,95 @@
 //! What a user should know of edits.
-ghost use Rattle.std.specs.Prelude.{◌≡◌, Ok, IfErr, IfOk, OnOk, string_bytes};
-ghost use Rattle.elf_edits.specs.Batch.{run};
+ghost use Rattle.std.specs.Prelude.{◌≡◌, Some, IfErr, IfOk, OnOk, [], map, string_bytes};
+ghost use Rattle.elf_commands_steps.specs.Groups.{MakeInTurn, group_model};
+ghost use Rattle.elf_commands_steps.specs.Groups.GroupEdit.{plain};
 ghost use Rattle.elf_commands.specs.ElfWords.{edits_model};
-ghost use Rattle.elf_commands.specs.Noting.{TellsImage, TellsUnmade};
+ghost use Rattle.elf_commands.specs.Noting.{TellsImage, TellsNoted, TellsUnmade, noted};
 ghost use Rattle.elf_notes.specs.Lines.{lines_of};
-ghost use Rattle.elf_notes.specs.Notes.{AreFindings, AreLeft, AreNotes};
+ghost use Rattle.elf_notes.specs.Notes.{AreFindings, AreLeft};
 ghost use Rattle.elf_notes.specs.declared.notes.ElfNotes.{ElfNotes};
 
 use command_words::Notes;
-use elf_commands_steps::ElfCommandError;
 use elf_commands_steps::files::ElfContainer;
+use elf_commands_steps::{
+    ElfCommandError, GroupEdit, apply_batch, apply_edits, has_symbols, plain_edits,
+};
 use elf_edits::ElfEdit;
 use elf_notes::{Findings, findings_of, note_lines, notes_of};
 use std::alloc::{AllocError, Global};
 
 /// Makes edits in an image, and answers the lines of their notes, of the image as it was and as it is then, each with this name
-/// of the file; no text where they are left out.
+/// of the file; no text where they are left out, and where one of the edits is of symbols or sections.
 pub(crate) fn apply_noting(
     alloc: Global,
     elf: &mut ElfContainer<'_>,
-    edits: &[ElfEdit],
+    edits: Vec<GroupEdit>,
     name: &str,
     notes: Notes,
 ) -> Result<String, ElfCommandError>
-    ensures runs { OnOk result (run (edits_model edits.now) elf.old.inner ≡ Ok elf.new.inner) }
-    ensures told { IfOk result (λ text. TellsImage notes (edits_model edits.now)
+    ensures make { OnOk result
+        (MakeInTurn (map group_model edits.items) elf.old.inner elf.new.inner) }
+    ensures told { IfOk result (λ text. TellsImage notes (map group_model edits.items)
         name.now elf.old.inner (string_bytes text)) }
-    ensures err { IfErr result (TellsUnmade (edits_model edits.now) elf.old.inner) }
+    ensures err { IfErr result (TellsUnmade (map group_model edits.items) elf.old.inner) }
 {
     match notes {
         Notes::Wanted => apply_telling(alloc, elf, edits, name),
-        Notes::LeftOut => {
-            apply_edits(alloc, elf, edits)?;
-            Ok(String::new(alloc))
-        }
+        Notes::LeftOut => apply_untold(alloc, elf, edits),
     }
 }
 
-/// Makes edits in an image.
-fn apply_edits(
+/// Makes edits in an image, and answers no text.
+fn apply_untold(
     alloc: Global,
     elf: &mut ElfContainer<'_>,
-    edits: &[ElfEdit],
-) -> Result<(), ElfCommandError>
-    ensures runs { OnOk result (run (edits_model edits.now) elf.old.inner ≡ Ok elf.new.inner) }
-    ensures err { IfErr result (TellsUnmade (edits_model edits.now) elf.old.inner) }
+    edits: Vec<GroupEdit>,
+) -> Result<String, ElfCommandError>
+    ensures make { OnOk result
+        (MakeInTurn (map group_model edits.items) elf.old.inner elf.new.inner) }
+    ensures told { IfOk result (λ text. string_bytes text ≡ []) }
+    ensures err { IfErr result (TellsUnmade (map group_model edits.items) elf.old.inner) }
 {
-    match elf.apply(alloc, edits) {
-        Ok(()) => Ok(()),
+    match apply_edits(alloc, elf, edits) {
+        Ok(()) => Ok(String::new(alloc)),
         Err(error) => Err(ElfCommandError::from(error)),
     }
 }
 
-/// Makes edits in an image, and answers the lines of their notes.
+/// Makes edits in an image, and answers the lines of their notes; no text where one of them is of symbols or sections.
 fn apply_telling(
+    alloc: Global,
+    elf: &mut ElfContainer<'_>,
+    edits: Vec<GroupEdit>,
+    name: &str,
+) -> Result<String, ElfCommandError>
+    ensures make { OnOk result
+        (MakeInTurn (map group_model edits.items) elf.old.inner elf.new.inner) }
+    ensures told { IfOk result (λ text. TellsNoted (noted (map group_model edits.items))
+        name.now elf.old.inner (string_bytes text)) }
+    ensures err { IfErr result (TellsUnmade (map group_model edits.items) elf.old.inner) }
+{
+    if has_symbols(edits.as_slice()) {
+        return apply_untold(alloc, elf, edits);
+    }
+    let plain = plain_edits(alloc, edits)?;
+    apply_batch_telling(alloc, elf, plain.as_slice(), name)
+}
+
+/// Makes a batch of edits in an image, and answers the lines of their notes.
+fn apply_batch_telling(
     alloc: Global,
     elf: &mut ElfContainer<'_>,
     edits: &[ElfEdit],
     name: &str,
 ) -> Result<String, ElfCommandError>
-    ensures runs { OnOk result (run (edits_model edits.now) elf.old.inner ≡ Ok elf.new.inner) }
-    ensures told { IfOk result (λ text. (notes : ElfNotes)
-        × AreNotes (edits_model edits.now) elf.old.inner notes
-        × (string_bytes text ≡ lines_of name.now notes)) }
-    ensures err { IfErr result (TellsUnmade (edits_model edits.now) elf.old.inner) }
+    ensures make { OnOk result
+        (MakeInTurn (map plain (edits_model edits.now)) elf.old.inner elf.new.inner) }
+    ensures told { IfOk result (λ text. TellsNoted (Some (edits_model edits.now))
+        name.now elf.old.inner (string_bytes text)) }
+    ensures err { IfErr result (TellsUnmade (map plain (edits_model edits.now)) elf.old.inner) }
 {
     let found = findings_in(alloc, elf, edits)?;
-    apply_edits(alloc, elf, edits)?;
+    apply_batch(alloc, elf, edits)?;
     Ok(lines_for(alloc, elf, found, name)?)
 }
 

@@ -15,11 +15,11 @@ use crate::elf::shrink_rpath::Args;
 use byte_store::Store;
 use command_words::{NotDone, OpensOnce, RegularFiles, load};
 use elf_commands_steps::files::{CountedWrite, ElfContainer, ProbeAnswer, Sink, write_all_counted};
+use elf_commands_steps::laws::lists_are_their_edits;
 use elf_commands_steps::{
     ElfCommandError, FileProbe, Probe, Shrunk, StandardError, answers_of, make_opened,
     pieces_by_answers, shrink_image, tell_removed,
 };
-use elf_edits::laws::{batches_are_their_edits, edits_show};
 use elf_image::laws::read_images_hold_parts;
 use std::alloc::Global;
 use std::io::Write;
@@ -42,8 +42,7 @@ pub(crate) fn run_shrink<W: Write>(
         (map string_bytes args.now.allowed_rpath_prefixes.items) (map answer_model probe.now))
         bytes.now out.old out.new) }
 {
-    edits_show();
-    batches_are_their_edits();
+    lists_are_their_edits();
     let mut elf = ElfContainer::parse(alloc, bytes)?;
     match shrink_image(
         alloc,
@@ -72,8 +71,7 @@ fn shrunk_pieces<P: Probe>(
     ensures err { IfErr result (TellsShrunk (P.may_find probe.now)
         (map string_bytes prefixes.now) bytes.now) }
 {
-    edits_show();
-    batches_are_their_edits();
+    lists_are_their_edits();
     read_images_hold_parts();
     let elf = ElfContainer::parse(alloc, bytes)?;
     match answers_of(alloc, &elf, probe) {

@@ -1,10 +1,11 @@
-use Rattle.std.proofs.Common.{refl}
+use Rattle.std.proofs.Common.{map, refl, string_bytes}
 use Rattle.std.proofs.lemmas.Result.{err_from_is_err_and}
 use Rattle.elf_commands.specs.ElfAsked.{elf_asked}
-use Rattle.elf_commands.specs.ElfWords.{edits_model}
-use Rattle.elf_commands.specs.Meaning.{elf_command_model}
+use Rattle.elf_commands_steps.specs.Groups.{group_model}
+use Rattle.elf_commands.specs.Meaning.{elf_command_model, elf_file_of}
 use Rattle.elf_commands.proofs.ElfOutcomes.{may_fail}
 use Rattle.elf_commands.proofs.ElfStoreLaws.{elf_failed, elf_patched, file_refused, nothing_differs, replaced_as_asked}
+use Rattle.elf_commands.proofs.NotingLaws.{told_of_store}
 use Rattle.elf_commands.proofs.FailureLaws.{refused_unwritten, replaced_cause}
 use Rattle.elf_commands.proofs.elf.editing.edit_loaded.Goals as goal
 
@@ -41,11 +42,14 @@ returns-in_err-make_opened-clause-left g c =
 
 pub returns-clause-patched : goal.returns-clause-patched
 returns-clause-patched g c =
-    elf_patched (elf_asked (elf_command_model c.args.command.now)) (edits_model c.args.edits.now) (g.S.Store.contents c.args.store.now) (g.S.Store.contents c.make_opened.new.store) c.args.bytes.now
+    elf_patched (elf_asked (elf_command_model c.args.command.now)) (map group_model c.args.edits.items) (g.S.Store.contents c.args.store.now) (g.S.Store.contents c.make_opened.new.store) c.args.bytes.now
     c.in_ok-difference.difference c.requires.asked c.requires.whole c.in_ok-difference.ensures.left c.in_ok-make_opened.ensures.ok
 
+-- what is told of the bytes that were read is told of the store
 pub returns-clause-told : goal.returns-clause-told
-returns-clause-told g c = c.in_ok-difference.ensures.told
+returns-clause-told g c =
+    told_of_store c.args.notes (elf_asked (elf_command_model c.args.command.now)) (elf_file_of (elf_command_model c.args.command.now)) (g.S.Store.contents c.args.store.now) c.args.bytes.now (string_bytes c.in_ok-difference.text)
+    c.requires.whole c.in_ok-difference.ensures.told
 
 pub returns-clause-idle : goal.returns-clause-idle
 returns-clause-idle g c = λ nothing. c.in_ok-make_opened.ensures.idle (nothing_differs c.args.bytes.now _ c.in_ok-difference.difference refl (c.in_ok-difference.ensures.idle nothing))

@@ -9,7 +9,7 @@ pub returns-in-Ok-clause-makeable : goal.returns-in-Ok-clause-makeable
 returns-in-Ok-clause-makeable g c =
     let edit = ShrinkRpath (map string_bytes c.args.prefixes.now) (map answer_model c.in-Ok.answers.items) in
     IfOk-weaker c.pieces_by_answers.result _ _ (λ made shrunk.
-    shrunk_makeable c.edits_show.ensures c.read_images_hold_parts.ensures edit c.args.bytes.now c.in_ok-elf.elf.inner made.difference (string_bytes made.text) c.in_ok-elf.ensures.reads.0 shrunk) c.pieces_by_answers.ensures.shrunk
+    shrunk_makeable c.lists_are_their_edits.ensures c.read_images_hold_parts.ensures edit c.args.bytes.now c.in_ok-elf.elf.inner made.difference (string_bytes made.text) c.in_ok-elf.ensures.reads.0 shrunk) c.pieces_by_answers.ensures.shrunk
 
 pub returns-in-Ok-clause-shrunk : goal.returns-in-Ok-clause-shrunk
 returns-in-Ok-clause-shrunk g c =
@@ -17,7 +17,7 @@ returns-in-Ok-clause-shrunk g c =
     let answers = map answer_model c.in-Ok.answers.items in
     let found = found_in finds c.args.bytes.now c.in_ok-elf.elf.inner answers c.in_ok-elf.ensures.reads.0 c.in-Ok.ensures in
     IfOk-weaker c.pieces_by_answers.result _ _ (λ made shrunk.
-    shrunk_file c.edits_show.ensures c.batches_are_their_edits.ensures c.read_images_hold_parts.ensures finds (map string_bytes c.args.prefixes.now) c.args.bytes.now c.in_ok-elf.elf.inner answers made.difference
+    shrunk_file c.lists_are_their_edits.ensures c.read_images_hold_parts.ensures finds (map string_bytes c.args.prefixes.now) c.args.bytes.now c.in_ok-elf.elf.inner answers made.difference
     (string_bytes made.text) c.in_ok-elf.ensures.reads.0 c.in_ok-elf.ensures.shows found shrunk) c.pieces_by_answers.ensures.shrunk
 
 pub returns-in-Ok-clause-err : goal.returns-in-Ok-clause-err
@@ -26,4 +26,4 @@ returns-in-Ok-clause-err g c =
     let answers = map answer_model c.in-Ok.answers.items in
     let found = found_in finds c.args.bytes.now c.in_ok-elf.elf.inner answers c.in_ok-elf.ensures.reads.0 c.in-Ok.ensures in
     IfErr-weaker c.pieces_by_answers.result _ _ (λ e told.
-    unshrunk_file finds (map string_bytes c.args.prefixes.now) c.args.bytes.now c.in_ok-elf.elf.inner answers e c.in_ok-elf.ensures.reads.0 found told) c.pieces_by_answers.ensures.err
+    unshrunk_file c.lists_are_their_edits.ensures finds (map string_bytes c.args.prefixes.now) c.args.bytes.now c.in_ok-elf.elf.inner answers e c.in_ok-elf.ensures.reads.0 found told) c.pieces_by_answers.ensures.err

@@ -1,7 +1,7 @@
 use Rattle.std.proofs.Common.{drop, map}
 use Rattle.elf_commands_steps.specs.Groups.{group_model}
 use Rattle.elf_commands_steps.proofs.Turns.{StandsAt}
-use Rattle.elf_commands_steps.proofs.groups.apply_in_turn.Given as goal
+use Rattle.elf_commands_steps.proofs.groups.apply_each.Given as goal
 
 abbrev pub invariant-loop-index : goal.invariant-loop-index
 invariant-loop-index l =

@@ -1,7 +1,8 @@
 use Rattle.std.proofs.Common.{◌+◌, List, drop, map, subst}
 use Rattle.elf_commands_steps.specs.Groups.{GroupEdit, group_model}
+use Rattle.elf_commands_steps.proofs.ListLaws.{or_want}
 use Rattle.elf_commands_steps.proofs.Turns.{StandsAt, goes_on, is_refused, next_is, taken_more}
-use Rattle.elf_commands_steps.proofs.groups.apply_in_turn.Goals as goal
+use Rattle.elf_commands_steps.proofs.groups.apply_each.Goals as goal
 
 pub loop-index-preserved : goal.loop-index-preserved
 loop-index-preserved c =
@@ -24,4 +25,4 @@ returns-in-Err-clause-told c =
     let rest = map group_model (drop (i + 1) edits) in
     let Stands : List GroupEdit → Type 0 = λ l. StandsAt all l c.args.elf.now.inner c.loop-index.elf.inner i in
     let stands = subst Stands (next_is edits i edit c.loop-index-test.true c.index-edits-index.is) c.loop-index.invariant in
-    is_refused all (group_model edit) rest c.args.elf.now.inner c.loop-index.elf.inner i c.in-Err.fault stands c.in-Err.ensures.told
+    or_want all c.args.elf.now.inner i c.in-Err.fault (is_refused all (group_model edit) rest c.args.elf.now.inner c.loop-index.elf.inner i c.in-Err.fault stands c.in-Err.ensures.told)
