@@ -1,8 +1,8 @@
 -- What patchelf's options ask for: edits, each with the option that asks for it.
 use Rattle.std.specs.Prelude.{◌++◌, List, [], ◌∷◌, map, Option, Some, None, codes, if◌then◌else◌}
 use Rattle.elf_commands_steps.specs.Groups.{GroupEdit, plain}
-use Rattle.elf_edits.specs.Edit.{AddDebugEntry, AddNeeded, AddRunPath, AllowDynamicMove, ClearExecStack, ClearSymbolVersion, DeleteNeeded, DeleteRunPath, Edit}
-use Rattle.elf_edits.specs.Edit.{NoDefaultLibrary, RenameDynamicSymbols, ReplaceLibrary, SetExecStack, SetInterpreter, SetOsAbi, SetRunPath, SetSoname, UseRpath}
+use Rattle.elf_edits.specs.Edit.{AddDebugTag, AddNeeded, AddRpath, AllowDynamicMove, ClearExecStack, ClearSymbolVersion, RemoveNeeded, RemoveRpath, Edit}
+use Rattle.elf_edits.specs.Edit.{NoDefaultLib, RenameDynamicSymbols, ReplaceLibrary, SetExecStack, SetInterpreter, SetOsAbi, SetRpath, SetSoname, ForceRpath}
 use Rattle.elf_edits.specs.EditModel.{edit_model}
 use Rattle.arwen_cli_peers.specs.Asked.{is_given, last_of, pairs_of}
 use Rattle.arwen_cli_peers.specs.Options.{Asked, Text, values_of}
@@ -66,15 +66,15 @@ stack_edits asked =
 
 -- a run path that is set is a DT_RUNPATH, with `--force-rpath` a DT_RPATH
 abbrev pub forced : List Asked → List Planned
-forced asked = once (codes "--force-rpath") UseRpath asked
+forced asked = once (codes "--force-rpath") ForceRpath asked
 
 abbrev pub set_edits : List Asked → Text → List Planned
 set_edits asked text =
-    by (codes "--set-rpath") DeleteRunPath ∷ by (codes "--set-rpath") (SetRunPath text) ∷ forced asked
+    by (codes "--set-rpath") RemoveRpath ∷ by (codes "--set-rpath") (SetRpath text) ∷ forced asked
 
 abbrev pub added_edits : List Asked → Option Text → List Planned
 added_edits asked None = []
-added_edits asked (Some text) = by (codes "--add-rpath") (AddRunPath (text ∷ [])) ∷ forced asked
+added_edits asked (Some text) = by (codes "--add-rpath") (AddRpath (text ∷ [])) ∷ forced asked
 
 abbrev pub set_or_added : List Asked → Option Text → List Planned
 set_or_added asked None = added_edits asked (last_of (codes "--add-rpath") asked)
@@ -83,13 +83,13 @@ set_or_added asked (Some text) = set_edits asked text
 -- the run path: it is removed, or set, or added to
 abbrev pub run_path_edits : List Asked → List Planned
 run_path_edits asked =
-    if is_given (codes "--remove-rpath") asked then by (codes "--remove-rpath") DeleteRunPath ∷ []
+    if is_given (codes "--remove-rpath") asked then by (codes "--remove-rpath") RemoveRpath ∷ []
     else set_or_added asked (last_of (codes "--set-rpath") asked)
 
 -- the needed libraries: names that go, pairs, and names that come
 abbrev pub needed_edits : List Asked → List Planned
 needed_edits asked =
-    with_all (codes "--remove-needed") DeleteNeeded asked
+    with_all (codes "--remove-needed") RemoveNeeded asked
     ++ with_pairs (codes "--replace-needed") ReplaceLibrary asked
     ++ with_all (codes "--add-needed") AddNeeded asked
 
@@ -98,8 +98,8 @@ abbrev pub other_edits : List Asked → List Planned
 other_edits asked =
     with_each (codes "--clear-symbol-version") ClearSymbolVersion asked
     ++ with_pairs (codes "--rename-dynamic-symbols") RenameDynamicSymbols asked
-    ++ once (codes "--no-default-lib") NoDefaultLibrary asked
-    ++ once (codes "--add-debug-tag") AddDebugEntry asked
+    ++ once (codes "--no-default-lib") NoDefaultLib asked
+    ++ once (codes "--add-debug-tag") AddDebugTag asked
 
 -- a line's edits, in patchelf's order, whatever the order of the line's options
 abbrev pub planned_edits : List Asked → List Planned

@@ -1,6 +1,6 @@
 //! The edits that patchelf's options ask for.
 ghost use Rattle.std.specs.Prelude.{◌≡◌, ◌∷◌, ◌++◌, [], IfOk, OnOk, codes, map};
-ghost use Rattle.elf_edits.specs.Edit.{AddNeeded, ClearSymbolVersion, DeleteNeeded, RenameDynamicSymbols, ReplaceLibrary, SetInterpreter, SetOsAbi, SetSoname};
+ghost use Rattle.elf_edits.specs.Edit.{AddNeeded, ClearSymbolVersion, RemoveNeeded, RenameDynamicSymbols, ReplaceLibrary, SetInterpreter, SetOsAbi, SetSoname};
 ghost use Rattle.elf_edits.specs.EditModel.{edit_model};
 ghost use Rattle.arwen_cli_peers.specs.Asked.{asked_model, last_of as last_given};
 ghost use Rattle.arwen_cli_patchelf_lines.specs.OptionEdits.{added_edits, by, header_edits, needed_edits, once, other_edits, planned_edits as edits_planned, planned_model, run_path_edits, set_edits, stack_edits, with_all, with_each, with_last, with_pairs};
@@ -186,7 +186,7 @@ fn put_removed(
 ) -> Result<(), AllocError>
     ensures { OnOk result (map planned_model planned.new.items
         ≡ map planned_model planned.old.items
-        ++ with_all (codes "--remove-needed") DeleteNeeded (map asked_model asked.now)) }
+        ++ with_all (codes "--remove-needed") RemoveNeeded (map asked_model asked.now)) }
 {
     let names = values_of(alloc, asked, "--remove-needed")?;
     if names.is_empty() {

@@ -12,7 +12,7 @@ use Rattle.byte_store.specs.Known.{Becomes, IsAll}
 use Rattle.byte_store.specs.declared.composed.Difference.{Difference}
 use Rattle.byte_store.specs.declared.difference.ReplaceError.{ReplaceError}
 use Rattle.byte_store.specs.declared.difference.ReplaceError.TheVariants as replace
-use Rattle.elf_edits.specs.Edit.{Answer, Edit, ShrinkRunPath}
+use Rattle.elf_edits.specs.Edit.{Answer, Edit, ShrinkRpath}
 use Rattle.elf_edits.specs.Edited.{step}
 use Rattle.elf_commands_steps.specs.ShrinkModel.{removal_model}
 use Rattle.elf_commands_steps.specs.Removed.{Removed}
@@ -95,15 +95,15 @@ found_in finds file read answers is found image other =
 
 -- an error of the edit by the answers that were found
 pub told_shrunk : (finds : Finding) (prefixes : List Text) (file : List ℕ) (answers : List Answer) (e : ElfError) → AreFoundIn finds file answers
-    → TellsEdit (one (plain (ShrinkRunPath prefixes answers))) file (answer_to_elf e) → TellsShrunk finds prefixes file (answer_to_elf e)
+    → TellsEdit (one (plain (ShrinkRpath prefixes answers))) file (answer_to_elf e) → TellsShrunk finds prefixes file (answer_to_elf e)
 told_shrunk finds prefixes file answers elf.Memory found tells = tt
 told_shrunk finds prefixes file answers e found tells = (answers, found, tells)
 
 -- what an error of an image that was read tells of its file
 pub unshrunk_file : ListsAreTheirEdits → (finds : Finding) (prefixes : List Text) (file : List ℕ) (read : Image) (answers : List Answer) (e : ElfCommandError) → image_of file ≡ Ok read → AreFoundIn finds file answers
-    → TellsUnshrunk (ShrinkRunPath prefixes answers) read e → TellsShrunk finds prefixes file e
+    → TellsUnshrunk (ShrinkRpath prefixes answers) read e → TellsShrunk finds prefixes file e
 unshrunk_file lists finds prefixes file read answers e is found (cause, why, told) =
-    let edit : Edit = ShrinkRunPath prefixes answers in
+    let edit : Edit = ShrinkRpath prefixes answers in
     let tells : TellsEdit (one (plain edit)) file (answer_to_elf cause) = elim why [
       | inl refuses ↦ one_refused edit file read cause is refuses
       | inr none ↦ tells_unmade edit file read none.0 cause lists is none.1 none.2
@@ -113,11 +113,11 @@ unshrunk_file lists finds prefixes file read answers e is found (cause, why, tol
 
 -- what differs from the bytes of a file that was read, by answers that are found
 pub shrunk_file : ListsAreTheirEdits → ReadImagesHoldParts → (finds : Finding) (prefixes : List Text) (file : List ℕ) (read : Image) (answers : List Answer) (d : Difference) (text : Text) → image_of file ≡ Ok read
-    → ShowsBothViews file read → AreFoundIn finds file answers → IsShrunkImage (ShrinkRunPath prefixes answers) read d text → IsShrunkBy finds prefixes file d text
+    → ShowsBothViews file read → AreFoundIn finds file answers → IsShrunkImage (ShrinkRpath prefixes answers) read d text → IsShrunkBy finds prefixes file d text
 shrunk_file lists hold_parts finds prefixes file read answers d text is views found shrunk = record {
   answers = answers;
   found = found;
-  leaves = leaves_shrunk lists hold_parts (ShrinkRunPath prefixes answers) file read shrunk.made d is views shrunk.makes shrunk.written;
+  leaves = leaves_shrunk lists hold_parts (ShrinkRpath prefixes answers) file read shrunk.made d is views shrunk.makes shrunk.written;
   told = (read, is, shrunk.told);
 }
 

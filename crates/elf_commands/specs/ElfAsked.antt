@@ -1,6 +1,6 @@
 -- What a command for ELF files asks of the bytes of its file.
 use Rattle.std.specs.Prelude.{Bool, true, false, List, [], ◌∷◌, ◌++◌, Option, Some, None, Result, Ok, Err}
-use Rattle.elf_edits.specs.Edit.{AllowDynamicMove, Answer, ShrinkRunPath}
+use Rattle.elf_edits.specs.Edit.{AllowDynamicMove, Answer, ShrinkRpath}
 use Rattle.elf_commands_steps.specs.Groups.{GroupEdit, plain, symbols}
 use Rattle.elf_commands.specs.ElfWords.{elf_edits_of}
 use Rattle.command_words.specs.Rows.{Text}
@@ -29,7 +29,7 @@ elf_asked _ = printing
 
 -- what is asked for once it is known what was found for the directories of the run path and the needed libraries
 abbrev pub answered : List Answer → ElfAsked → ElfAsked
-answered answers (shrinking prefixes) = one (plain (ShrinkRunPath prefixes answers))
+answered answers (shrinking prefixes) = one (plain (ShrinkRpath prefixes answers))
 answered answers asked = asked
 
 -- the command prints, and edits nothing

@@ -9,7 +9,7 @@ use Rattle.byte_store.specs.Composed.{IsDifference, made_of, owned_patches}
 use Rattle.byte_store.specs.Fault.{IsLeft}
 use Rattle.byte_store.specs.declared.writing.Left.{Left}
 use Rattle.byte_store.specs.declared.composed.Difference.{Difference}
-use Rattle.elf_edits.specs.Edit.{Answer, Edit, ShrinkRunPath}
+use Rattle.elf_edits.specs.Edit.{Answer, Edit, ShrinkRpath}
 use Rattle.elf_commands_steps.specs.Removals.{removed_by}
 use Rattle.elf_format.specs.declared.fault.ElfFault.{ElfFault}
 use Rattle.elf_image.specs.Image.{Image, image_of, shown}
@@ -59,14 +59,14 @@ AreFoundIn finds file answers = (image : Image) → image_of file ≡ Ok image �
 pub record IsShrunkBy (finds : Finding) (prefixes : List Text) (file : List ℕ) (d : Difference) (text : Text) : Type 0 where
   pub answers : List Answer
   pub found : AreFoundIn finds file answers
-  pub leaves : LeavesElf (one (plain (ShrinkRunPath prefixes answers))) file (made_of file d)
-  pub told : TellsRemoved (ShrinkRunPath prefixes answers) (image_of file) text
+  pub leaves : LeavesElf (one (plain (ShrinkRpath prefixes answers))) file (made_of file d)
+  pub told : TellsRemoved (ShrinkRpath prefixes answers) (image_of file) text
 
 -- an error by some such answers; want of memory may come before there are any
 abbrev pub TellsShrunk : Finding → List Text → List ℕ → ElfCommandError → Type 0
 TellsShrunk finds prefixes file Memory = ⊤
 TellsShrunk finds prefixes file e = (answers : List Answer) × AreFoundIn finds file answers
-    × TellsEdit (one (plain (ShrinkRunPath prefixes answers))) file e
+    × TellsEdit (one (plain (ShrinkRpath prefixes answers))) file e
 
 -- known bytes are made others by such a difference, and a writer got the lines
 pub record IsShrunkIn (finds : Finding) (prefixes : List Text) (file : List ℕ) (new said told : Option (List ℕ)) : Type 0 where
@@ -125,11 +125,11 @@ IsQuietAt finds prefixes contents known old new e (Some store) = IsQuiet finds p
 
 -- what a run makes and prints, where these answers are handed in
 abbrev pub RunsCommand : ElfMeaning → List Answer → List ℕ → Option (Vec ℕ Global) → Option (List ℕ) → Option (List ℕ) → Type 0
-RunsCommand (shrink_elf path prefixes) found file answer old new = RunsShrink (ShrinkRunPath prefixes found) file answer old new
+RunsCommand (shrink_elf path prefixes) found file answer old new = RunsShrink (ShrinkRpath prefixes found) file answer old new
 RunsCommand meaning found file answer old new = RunsElf meaning (elf_asked meaning) file answer old new
 
 -- an error of a run
 abbrev pub TellsCommand : {W : Type 0} → (W → Option (List ℕ)) → ElfMeaning → List Answer → List ℕ → W → W → ElfCommandError → Type 0
 TellsCommand contents (shrink_elf path prefixes) found file old new e =
-    TellsShrink contents (ShrinkRunPath prefixes found) file old new e
+    TellsShrink contents (ShrinkRpath prefixes found) file old new e
 TellsCommand contents meaning found file old new e = TellsRun contents meaning (elf_asked meaning) file old new e
