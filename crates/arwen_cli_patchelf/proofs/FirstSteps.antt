@@ -11,6 +11,7 @@ use Rattle.elf_edits.proofs.ForCallers.{other_way}
 use Rattle.elf_edits_shrink.specs.ShrinkModel.{answer_model, pair_lent}
 use Rattle.elf_edits_shrink.specs.declared.probe.ProbeAnswer.{ProbeAnswer}
 use Rattle.elf_commands.specs.ElfAsked.{one}
+use Rattle.elf_commands.specs.Groups.{plain}
 use Rattle.elf_commands.specs.ElfEngine.{LeavesElf, TellsEdit}
 use Rattle.elf_commands.specs.Shrinking.{Answers, Finding, asked_of}
 use Rattle.elf_commands.specs.ElfCommandError.{ElfCommandError}
@@ -116,7 +117,7 @@ nothing_shrinks finds prefixes file nothing =
 
 -- others shrink by answers
 pub some_shrink : (finds : Finding) (prefixes : List Text) (file new : List ℕ) (answers : List Answer) → has_nothing_to_shrink file ≡ false → AreFirstFoundIn finds prefixes file answers
-    → LeavesElf (one (ShrinkRpath prefixes answers)) file new → IsShrunkTo finds (Some prefixes) file new
+    → LeavesElf (one (plain (ShrinkRpath prefixes answers))) file new → IsShrunkTo finds (Some prefixes) file new
 some_shrink finds prefixes file new answers some found leaves =
     let Of : Bool → Type 0 = λ b. IsShrunkUnless b finds prefixes file new in
     subst Of (sym some) (answers, found, leaves)
@@ -125,7 +126,7 @@ some_shrink finds prefixes file new answers some found leaves =
 
 -- an error of the edit by such answers
 pub first_tells : (finds : Finding) (prefixes : List Text) (file : List ℕ) (answers : List Answer) (e : ElfCommandError) → has_nothing_to_shrink file ≡ false → AreFirstFoundIn finds prefixes file answers
-    → TellsEdit (one (ShrinkRpath prefixes answers)) file e → TellsFirstShrunk finds prefixes file e
+    → TellsEdit (one (plain (ShrinkRpath prefixes answers))) file e → TellsFirstShrunk finds prefixes file e
 first_tells finds prefixes file answers Memory some found tells = tt
 first_tells finds prefixes file answers (Io e) some found tells = (some, answers, found, tells)
 first_tells finds prefixes file answers (Edits wrong) some found tells = (some, answers, found, tells)

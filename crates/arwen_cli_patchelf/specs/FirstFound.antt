@@ -13,6 +13,7 @@ use Rattle.elf_edits_shrink.specs.declared.probe.ProbeAnswer.{ProbeAnswer}
 use Rattle.elf_image.specs.Image.{Image, image_of, shown}
 use Rattle.elf_image.specs.Options.{is_some_and}
 use Rattle.elf_commands.specs.ElfAsked.{one}
+use Rattle.elf_commands.specs.Groups.{plain}
 use Rattle.elf_commands.specs.ElfEngine.{TellsEdit}
 use Rattle.elf_commands.specs.ElfCommandError.{ElfCommandError}
 use Rattle.elf_commands.specs.ElfCommandError.TheVariants.{Memory}
@@ -82,4 +83,4 @@ AreFirstFoundWhere finds prefixes file (Some answers) = (has_nothing_to_shrink f
 abbrev pub TellsFirstShrunk : Finding → List Text → List ℕ → ElfCommandError → Type 0
 TellsFirstShrunk finds prefixes file Memory = ⊤
 TellsFirstShrunk finds prefixes file e = (has_nothing_to_shrink file ≡ false) × (answers : List Answer) × AreFirstFoundIn finds prefixes file answers
-    × TellsEdit (one (ShrinkRpath prefixes answers)) file e
+    × TellsEdit (one (plain (ShrinkRpath prefixes answers))) file e

@@ -5,6 +5,7 @@ use Rattle.std.specs.declared.string.String.{String}
 use Rattle.std.specs.declared.vec.Vec.{Vec}
 use Rattle.elf_edits.specs.Edit.{Answer, ShrinkRpath}
 use Rattle.elf_commands.specs.ElfAsked.{ElfAsked, elf_asked, one}
+use Rattle.elf_commands.specs.Groups.{plain}
 use Rattle.elf_commands.specs.ElfEngine.{LeavesElf, TellsEdit}
 use Rattle.elf_commands.specs.Meaning.{apply_moving_elf}
 use Rattle.elf_commands.specs.ElfCommandError.{ElfCommandError}
@@ -28,7 +29,7 @@ words_ask words = elf_asked (apply_moving_elf [] words)
 abbrev pub IsShrunkUnless : Bool → Finding → List Text → List ℕ → List ℕ → Type 0
 IsShrunkUnless true finds prefixes file new = new ≡ file
 IsShrunkUnless false finds prefixes file new =
-    (answers : List Answer) × AreFirstFoundIn finds prefixes file answers × LeavesElf (one (ShrinkRpath prefixes answers)) file new
+    (answers : List Answer) × AreFirstFoundIn finds prefixes file answers × LeavesElf (one (plain (ShrinkRpath prefixes answers))) file new
 
 -- bytes with run paths that shrank, where they are to; without this step, and of a file without a run path, they stay
 abbrev pub IsShrunkTo : Finding → Option (List Text) → List ℕ → List ℕ → Type 0

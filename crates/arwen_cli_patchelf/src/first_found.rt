@@ -8,6 +8,7 @@ ghost use Rattle.elf_edits.specs.Edit.{ShrinkRpath};
 ghost use Rattle.elf_edits.specs.Shrunk.{is_allowed};
 ghost use Rattle.elf_edits_shrink.specs.ShrinkModel.{answer_model, pair_lent};
 ghost use Rattle.elf_commands.specs.ElfAsked.{one};
+ghost use Rattle.elf_commands.specs.Groups.GroupEdit.{plain};
 ghost use Rattle.elf_commands.specs.ElfEngine.{LeavesElf, TellsEdit, bytes_left};
 ghost use Rattle.elf_commands.specs.Meaning.{elf_command_model, shrink_elf};
 ghost use Rattle.elf_commands.specs.Shrinking.{Answers};
@@ -18,9 +19,9 @@ use crate::steps::{in_memory, texts_copied};
 use crate::unheard::Unheard;
 use elf_commands::elf::{Probe, run_elf, shrink_rpath};
 use elf_commands::files::{ElfContainer, ProbeAnswer};
+use elf_commands::laws::lists_are_their_edits;
 use elf_commands::{ElfCommand, ElfCommandError};
 use elf_edits::image_facts;
-use elf_edits::laws::edits_show;
 use elf_image::laws::read_images_hold_parts;
 use patch_bytes::ByteString;
 use std::alloc::{AllocError, Global};
@@ -61,13 +62,13 @@ fn shrunk_by(
     prefixes: &[String],
     answers: &[ProbeAnswer<'_>],
 ) -> Result<Option<Vec<u8>>, ElfCommandError>
-    ensures left { IfOk result (λ new. LeavesElf (one (ShrinkRpath
-        (map string_bytes prefixes.now) (map answer_model answers.now)))
+    ensures left { IfOk result (λ new. LeavesElf (one (plain (ShrinkRpath
+        (map string_bytes prefixes.now) (map answer_model answers.now))))
         bytes.now (bytes_left bytes.now new)) }
-    ensures err { IfErr result (TellsEdit (one (ShrinkRpath
-        (map string_bytes prefixes.now) (map answer_model answers.now))) bytes.now) }
+    ensures err { IfErr result (TellsEdit (one (plain (ShrinkRpath
+        (map string_bytes prefixes.now) (map answer_model answers.now)))) bytes.now) }
 {
-    edits_show();
+    lists_are_their_edits();
     read_images_hold_parts();
     let command = shrink_command(alloc, prefixes)?;
     let made = run_elf(alloc, bytes, &command, answers, &mut Unheard);

@@ -19,7 +19,7 @@ use Rattle.elf_commands_steps.specs.Storing.{IsNothing}
 use Rattle.elf_commands.specs.ElfStores.{FailsElf, IsElfPatched, WritesEnd}
 use Rattle.elf_commands_steps.specs.ElfErrors.{answer_to_read, answer_to_replaced}
 use Rattle.elf_commands_steps.specs.declared.error.ElfCommandError.{ElfCommandError}
-use Rattle.elf_commands_steps.specs.declared.error.ElfCommandError.TheVariants.{Io, Memory}
+use Rattle.elf_commands_steps.specs.declared.error.ElfCommandError.TheVariants.{Io}
 
 -- an error that tells of each file
 pub words_refused : (ended : Error → Type 0) (a : ElfAsked) (old mid : Option (List ℕ)) (e : ElfCommandError) → Stays old mid → TellsEachFile a e → FailsElf ended a old mid e

@@ -1,5 +1,5 @@
 -- What is told of edits: of an image, of bytes, of a store.
-use Rattle.std.proofs.Common.{◌≡◌, ◌∙◌, Bool, ℕ, List, [], Option, map, Some, None, Result, Ok, false, true, refl, sym, ap, subst, inl, inr}
+use Rattle.std.proofs.Common.{◌≡◌, ◌∙◌, Bool, ℕ, List, Option, map, Some, None, Result, Ok, sym, ap, subst, inl, inr}
 use Rattle.std.specs.Prelude.{option_and_then}
 use Rattle.std.proofs.lemmas.Option.{same_Some}
 use Rattle.byte_store.specs.Known.{IsAll}

@@ -1,5 +1,5 @@
 -- What comes of run paths that shrink.
-use Rattle.std.proofs.Common.{◌≡◌, ◌≤◌, ◌+◌, [], ◌∷◌, ◌∙◌, ℕ, List, Option, Some, None, Result, Ok, Err, arith, length, map, refl, sym, ap, subst, take, inl, inr}
+use Rattle.std.proofs.Common.{◌≡◌, ◌≤◌, [], ◌∷◌, ◌∙◌, ℕ, List, Option, Some, Ok, arith, length, map, refl, sym, ap, subst, take, inl, inr}
 use Rattle.std.proofs.lemmas.List.{take_all}
 use Rattle.std.specs.Io.KnownBytes.{Appends}
 use Rattle.std.specs.declared.alloc.Global.{Global}

@@ -1,5 +1,5 @@
 -- What holds of lists of edits.
-use Rattle.std.proofs.Common.{◌≡◌, ◌∙◌, ◌+◌, [], ◌∷◌, Bool, ℕ, List, Option, Some, None, Result, Ok, Err, true, false, arith, map, refl, sym, ap, subst, inl, inr}
+use Rattle.std.proofs.Common.{◌≡◌, ◌∙◌, ◌+◌, [], ◌∷◌, Bool, ℕ, List, Option, Some, None, Result, Ok, Err, false, arith, map, refl, sym, ap, subst, inl, inr}
 use Rattle.arwen_elf.specs.Told.{IsRefusedAt, IsRefusedFor, Refuses, RefusesAt, cause_told}
 use Rattle.arwen_elf.specs.ElfError.{ElfError}
 use Rattle.arwen_elf.specs.ElfError.TheVariants.{Memory, Modify}

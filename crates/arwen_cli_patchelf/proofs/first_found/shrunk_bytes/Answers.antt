@@ -8,6 +8,7 @@ use Rattle.elf_edits.specs.Edit.{Answer, ShrinkRpath}
 use Rattle.elf_edits_shrink.specs.ShrinkModel.{answer_model}
 use Rattle.elf_edits_shrink.specs.declared.probe.ProbeAnswer.{ProbeAnswer}
 use Rattle.elf_commands.specs.ElfAsked.{one}
+use Rattle.elf_commands.specs.Groups.{plain}
 use Rattle.elf_commands.specs.ElfEngine.{LeavesElf, TellsEdit, bytes_left}
 use Rattle.arwen_cli_peers.specs.Options.{Text}
 use Rattle.arwen_cli_patchelf.specs.FirstFound.{AreFirstFoundWhere, answers_model}
@@ -30,7 +31,7 @@ returns-in-Some-clause-shrunk g c =
     let answers : List Answer = map answer_model c.in-Some.answers.items in
     let Of : Option (Vec ProbeAnswer Global) → Type 0 = λ o. AreFirstFoundWhere finds prefixes file (answers_model o) in
     let found : AreFirstFoundWhere finds prefixes file (Some answers) = subst Of c.in-Some.is c.in_ok-found.ensures.found in
-    let At : List ProbeAnswer → Type 0 = λ l. IfOk c.shrunk_by-made.result (λ new. LeavesElf (one (ShrinkRpath prefixes (map answer_model l))) file (bytes_left file new)) in
+    let At : List ProbeAnswer → Type 0 = λ l. IfOk c.shrunk_by-made.result (λ new. LeavesElf (one (plain (ShrinkRpath prefixes (map answer_model l)))) file (bytes_left file new)) in
     IfOk-weaker c.shrunk_by-made.result _ _ (λ new leaves. some_shrink finds prefixes file (bytes_left file new) answers found.0 found.1 leaves)
     (subst At c.as_slice.ensures.value c.shrunk_by-made.ensures.left)
 
@@ -42,6 +43,6 @@ returns-in-Some-clause-err g c =
     let answers : List Answer = map answer_model c.in-Some.answers.items in
     let Of : Option (Vec ProbeAnswer Global) → Type 0 = λ o. AreFirstFoundWhere finds prefixes file (answers_model o) in
     let found : AreFirstFoundWhere finds prefixes file (Some answers) = subst Of c.in-Some.is c.in_ok-found.ensures.found in
-    let At : List ProbeAnswer → Type 0 = λ l. IfErr c.shrunk_by-made.result (TellsEdit (one (ShrinkRpath prefixes (map answer_model l))) file) in
+    let At : List ProbeAnswer → Type 0 = λ l. IfErr c.shrunk_by-made.result (TellsEdit (one (plain (ShrinkRpath prefixes (map answer_model l)))) file) in
     IfErr-weaker c.shrunk_by-made.result _ _ (λ e tells. first_tells finds prefixes file answers e found.0 found.1 tells)
     (subst At c.as_slice.ensures.value c.shrunk_by-made.ensures.err)

@@ -1,5 +1,5 @@
 -- A command that names one edit asks for that.
-use Rattle.std.proofs.Common.{◌∙◌, ◌∷◌, [], List, Some, ap, map, sym}
+use Rattle.std.proofs.Common.{◌∙◌, List, Some, ap, map, sym}
 use Rattle.std.specs.Option.{option_map}
 use Rattle.elf_commands_steps.specs.Groups.{group_model}
 use Rattle.elf_commands_steps.specs.declared.groups.GroupEdit.{GroupEdit as GroupHeld}

@@ -1,5 +1,5 @@
 -- The batch of a list of plain edits is this list.
-use Rattle.std.proofs.Common.{List, map, subst}
+use Rattle.std.proofs.Common.{List, subst}
 use Rattle.std.specs.Prelude.{IfErr, OnOk}
 use Rattle.elf_commands_steps.specs.Groups.{GroupEdit, MakeInTurn, TellsInTurn}
 use Rattle.elf_commands_steps.proofs.ListLaws.{is_batch}

@@ -1,5 +1,5 @@
 -- The batch of a list of plain edits is this list.
-use Rattle.std.proofs.Common.{◌≡◌, ◌∙◌, List, Option, Some, ap, map, string_bytes, subst}
+use Rattle.std.proofs.Common.{◌∙◌, List, Option, ap, string_bytes, subst}
 use Rattle.std.specs.Prelude.{IfErr, IfOk, OnOk}
 use Rattle.elf_edits.specs.Edit.{Edit}
 use Rattle.elf_commands_steps.specs.Groups.{GroupEdit, MakeInTurn}
