@@ -26,7 +26,7 @@ pub use printing::{print_path, print_store};
 use shrinking::shrink_file;
 pub use shrinking::{shrink_path, shrink_store};
 use std::rt::Files;
-pub use typed::{edit_bytes, edited_pieces};
+pub use typed::{edit_bytes, edit_each, edited_pieces};
 
 /// Does what is asked of an ELF file, and tells no notes. What is printed goes to the standard output, and which
 /// directories `shrink-rpath` leaves out to the standard error.

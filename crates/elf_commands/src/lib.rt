@@ -10,7 +10,7 @@ mod tables;
 
 pub use command::ElfCommand;
 pub use elf_commands_steps::{
-    ElfCommandError, GroupEdit, SymbolTexts, apply_edits, files, laws, plain_edits,
+    ElfCommandError, GroupEdit, SymbolTexts, apply_each, apply_edits, files, laws, plain_edits,
 };
 pub use elf_edits::ElfEdit;
 pub use elf_words::parse_elf_edits;

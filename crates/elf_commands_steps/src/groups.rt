@@ -104,9 +104,9 @@ pub fn apply_batch(
     }
 }
 
-/// Makes edits in an image, one after the other. Errors: those of `apply_edits`; the image is then what the edits before the
-/// refused one left.
-fn apply_each(
+/// Makes edits that are lent in an image, one after the other. Errors: those of `apply_edits`; the image is then what the edits
+/// before the refused one left.
+pub fn apply_each(
     alloc: Global,
     elf: &mut ElfContainer<'_>,
     edits: &[GroupEdit],

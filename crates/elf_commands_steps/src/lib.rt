@@ -15,7 +15,9 @@ pub mod symbol_texts;
 pub mod texts;
 
 pub use crate::error::ElfCommandError;
-pub use crate::groups::{GroupEdit, apply_batch, apply_edits, has_symbols, plain_edits};
+pub use crate::groups::{
+    GroupEdit, apply_batch, apply_each, apply_edits, has_symbols, plain_edits,
+};
 pub use crate::images::{changed_bytes, pieces_and_text, pieces_of};
 pub use crate::probing::{FileProbe, Probe, answers_of, removal_text};
 pub use crate::shrinking::{Shrunk, pieces_by_answers, shrink_image, tell_removed};

@@ -14,7 +14,7 @@ use byte_store::Difference;
 use command_words::Notes;
 use elf_commands_steps::files::ElfContainer;
 use elf_commands_steps::laws::lists_are_their_edits;
-use elf_commands_steps::{ElfCommandError, GroupEdit, changed_bytes, pieces_and_text};
+use elf_commands_steps::{ElfCommandError, GroupEdit, apply_each, changed_bytes, pieces_and_text};
 use elf_image::laws::read_images_hold_parts;
 use std::alloc::Global;
 
@@ -50,6 +50,27 @@ pub fn edit_bytes(
         Err(error) => {
             drop(elf);
             Err(error)
+        }
+    }
+}
+
+/// The bytes of a file after edits that are lent, or `None` where they change nothing: those that `edit_bytes` answers, without
+/// notes. Errors: those of `edit_bytes`.
+pub fn edit_each(
+    alloc: Global,
+    bytes: &[u8],
+    edits: &[GroupEdit],
+) -> Result<Option<Vec<u8>>, ElfCommandError>
+    ensures made { IfOk result (IsEditedBy (map group_model edits.now) bytes.now) }
+    ensures err { IfErr result (TellsEdit (several (Ok (map group_model edits.now))) bytes.now) }
+{
+    lists_are_their_edits();
+    let mut elf = ElfContainer::parse(alloc, bytes)?;
+    match apply_each(alloc, &mut elf, edits) {
+        Ok(()) => changed_bytes(alloc, elf),
+        Err(error) => {
+            drop(elf);
+            Err(ElfCommandError::from(error))
         }
     }
 }
