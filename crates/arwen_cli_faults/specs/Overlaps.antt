@@ -1,6 +1,6 @@
 -- What is said of two blocks that stand against edits of an ELF file.
 use Rattle.std.specs.Prelude.{ℕ, ◌≡◌, ◌≢◌, List, []}
-use Rattle.elf_commands.specs.ElfEngine.{MakesInTurn}
+use Rattle.elf_commands.specs.ElfEngine.{Makes}
 use Rattle.elf_commands.specs.Groups.{GroupEdit}
 use Rattle.elf_image.specs.Image.{Image}
 use Rattle.elf_layout_plan.specs.Plan.{resized}
@@ -22,5 +22,5 @@ TellsMade makes text = (made : Image) × makes made × TellsPair made text
 pub record TellsOverlap (edits : List GroupEdit) (file text : List ℕ) : Type 0 where
   pub image : Image
   pub are_some : edits ≢ []
-  pub makes : MakesInTurn edits file image
+  pub makes : Makes edits file image
   pub tells : TellsPair image text

@@ -4,7 +4,7 @@ ghost use Rattle.elf_commands.specs.Groups.{MakeInTurn, group_model};
 ghost use Rattle.arwen_cli_faults.specs.Overlaps.{TellsMade, TellsOverlap, TellsPair};
 
 use elf_commands::files::ElfContainer;
-use elf_commands::{GroupEdit, apply_in_turn};
+use elf_commands::{GroupEdit, apply_each};
 use elf_image::Builder;
 use elf_layout_reasons::{pair_text, stuck_pair};
 use std::alloc::{AllocError, Global};
@@ -30,7 +30,7 @@ fn text_after(alloc: Global, elf: &mut ElfContainer<'_>, edits: &[GroupEdit]) ->
     ensures { IfSome result (λ text. TellsMade
         (MakeInTurn (map group_model edits.now) elf.old.inner) (string_bytes text)) }
 {
-    match apply_in_turn(alloc, elf, edits) {
+    match apply_each(alloc, elf, edits) {
         Ok(()) => text_if(text_of_image(alloc, elf.inner.builder())),
         Err(_) => None,
     }

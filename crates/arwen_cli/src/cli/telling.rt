@@ -69,7 +69,7 @@ fn named_line<F: FileBytes>(
     let Some(path) = path_of(command) else {
         return causes_text(alloc, error);
     };
-    let edits = edits_for(alloc, command)?;
+    let edits = edits_for(alloc, command);
     file_fault_line(alloc, files, path, edits.as_slice(), error)
 }
 
@@ -92,12 +92,11 @@ fn some_path(path: &str) -> Option<&str>
 }
 
 /// The edits of ELF files that a command asks for.
-fn edits_for(alloc: Global, command: &Command) -> Result<Vec<GroupEdit>, AllocError>
-    ensures { IfOk result (λ edits.
-        AreEditsFor (Some (shown command.now)) (map group_model edits.items)) }
+fn edits_for(alloc: Global, command: &Command) -> Vec<GroupEdit>
+    ensures { AreEditsFor (Some (shown command.now)) (map group_model result.items) }
 {
     match command {
         Command::Elf(elf) => edits_of(alloc, elf),
-        _ => Ok(Vec::new(alloc)),
+        _ => Vec::new(alloc),
     }
 }
