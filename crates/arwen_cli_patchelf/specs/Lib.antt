@@ -10,4 +10,4 @@ pub use Rattle.elf_commands.specs.ElfCommandError
 pub use Rattle.elf_commands.specs.Failures
 pub use Rattle.elf_commands.specs.Meaning
 pub use Rattle.elf_commands.specs.Shrinking
-pub use Rattle.elf_commands.specs.declared.command.ElfCommand
+pub use Rattle.elf_commands.specs.ElfCommand

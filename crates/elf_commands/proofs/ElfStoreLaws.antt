@@ -12,7 +12,7 @@ use Rattle.byte_store.specs.declared.difference.ReplaceError.TheVariants as repl
 use Rattle.byte_store.specs.declared.reading.ReadError.{ReadError}
 use Rattle.byte_store.specs.declared.reading.ReadError.TheVariants as read
 use Rattle.elf_commands_steps.specs.Written.{IsNoDifference}
-use Rattle.elf_commands.specs.ElfAsked.{ElfAsked, edits_asked, printing, shrinking}
+use Rattle.elf_commands_lines.specs.ElfAsked.{ElfAsked, edits_asked, printing, shrinking}
 use Rattle.elf_commands_steps.specs.Groups.{GroupEdit}
 use Rattle.elf_commands.specs.ElfEngine.{LeavesElf, MayFailAs, TellsEachFile, TellsEdit}
 use Rattle.elf_commands_steps.specs.Storing.{IsNothing}

@@ -8,7 +8,7 @@ use Rattle.byte_store.specs.declared.difference.ReplaceError.TheVariants as repl
 use Rattle.byte_store.specs.declared.reading.ReadError.{ReadError}
 use Rattle.byte_store.specs.declared.reading.ReadError.TheVariants as read
 use Rattle.command_words.specs.Rows.{Text}
-use Rattle.elf_commands.specs.ElfAsked.{ElfAsked}
+use Rattle.elf_commands_lines.specs.ElfAsked.{ElfAsked}
 use Rattle.elf_commands.specs.ElfEngine.{TellsEdit}
 use Rattle.elf_commands_steps.specs.ElfErrors.{answer_to_read, answer_to_replaced}
 use Rattle.command_words.specs.Loading.{IsNotLoaded}

@@ -15,7 +15,7 @@ use Rattle.elf_notes.specs.declared.findings.Findings.{Findings}
 use Rattle.elf_notes.specs.declared.notes.ElfNotes.{ElfNotes}
 use Rattle.elf_commands_steps.specs.Groups.{GroupEdit, plain, plain_of}
 use Rattle.elf_commands_steps.proofs.ListLaws.{no_symbols, plain_back}
-use Rattle.elf_commands.specs.ElfAsked.{ElfAsked, edits_asked, several}
+use Rattle.elf_commands_lines.specs.ElfAsked.{ElfAsked, edits_asked, several}
 use Rattle.elf_commands.specs.ElfEngine.{TellsEdit}
 use Rattle.elf_commands.specs.Noting.{TellsImage, TellsNoted, TellsNotesAt, TellsUnmade, TellsWantedAt, noted, noted_if}
 use Rattle.elf_commands_steps.specs.declared.error.ElfCommandError.{ElfCommandError}

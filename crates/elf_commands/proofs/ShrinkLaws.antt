@@ -23,7 +23,7 @@ use Rattle.elf_commands_steps.specs.WriterModel.{ShowsBothViews}
 use Rattle.elf_commands_steps.specs.Written.{IsImageWritten, IsNoImage}
 use Rattle.elf_commands_steps.specs.ElfError.{ElfError}
 use Rattle.elf_commands_steps.specs.ElfError.TheVariants as elf
-use Rattle.elf_commands.specs.ElfAsked.{one, shrinking}
+use Rattle.elf_commands_lines.specs.ElfAsked.{one, shrinking}
 use Rattle.elf_commands_steps.specs.Images.{AreChanged, TellsNoImage}
 use Rattle.elf_commands.specs.ElfEngine.{IsElfEdited, LeavesElf, MayFailAs, TellsEdit}
 use Rattle.elf_commands.specs.ElfStores.{WritesEnd}

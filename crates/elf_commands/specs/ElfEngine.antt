@@ -13,10 +13,10 @@ use Rattle.elf_image.specs.Views.{dynamic_symbol_count, loader_view, section_vie
 use Rattle.elf_commands_steps.specs.Final.{final_view}
 use Rattle.elf_commands_steps.specs.WrittenFile.{IsWrittenOf}
 use Rattle.elf_commands_steps.specs.Groups.{GroupEdit, MakeInTurn, RefuseInTurn, group_model, has_symbols, plain_of}
-use Rattle.elf_commands_steps.specs.declared.groups.GroupEdit.{GroupEdit as GroupHeld}
-use Rattle.elf_commands.specs.ElfAsked.{ElfAsked, answered, asks_edits, edits_asked, elf_asked, one, printing, several, shrinking}
+use Rattle.elf_commands_lines.specs.declared.groups.GroupEdit.{GroupEdit as GroupHeld}
+use Rattle.elf_commands_lines.specs.ElfAsked.{ElfAsked, answered, asks_edits, edits_asked, elf_asked, one, printing, several, shrinking}
 use Rattle.elf_commands_steps.specs.ElfErrors.{answer_to_elf}
-use Rattle.elf_commands.specs.Meaning.{ElfMeaning}
+use Rattle.elf_commands_lines.specs.Meaning.{ElfMeaning}
 use Rattle.elf_commands.specs.Prints.{PrintMayFail, Prints, TellsElf}
 use Rattle.elf_commands_steps.specs.declared.error.ElfCommandError.{ElfCommandError}
 use Rattle.elf_commands_steps.specs.declared.error.ElfCommandError.TheVariants.{Edits, Elf, ElfBatch, Io, Memory}

@@ -7,7 +7,7 @@ use Rattle.byte_store.specs.Composed.{IsDifference, made_of, owned_patches}
 use Rattle.byte_store.specs.Fault.{IsLeft}
 use Rattle.byte_store.specs.declared.composed.Difference.{Difference}
 use Rattle.byte_store.specs.declared.writing.Left.{Left}
-use Rattle.elf_commands.specs.ElfAsked.{ElfAsked, edits_asked, printing, shrinking}
+use Rattle.elf_commands_lines.specs.ElfAsked.{ElfAsked, edits_asked, printing, shrinking}
 use Rattle.elf_commands_steps.specs.Groups.{GroupEdit}
 use Rattle.elf_image.specs.Image.{Image}
 use Rattle.elf_commands.specs.ElfEngine.{LeavesElf, Makes, TellsEdit}

@@ -11,7 +11,7 @@ use Rattle.elf_image.specs.Image.{Image, image_of}
 use Rattle.elf_notes.specs.Lines.{lines_of}
 use Rattle.elf_notes.specs.Notes.{AreNotes}
 use Rattle.elf_notes.specs.declared.notes.ElfNotes.{ElfNotes}
-use Rattle.elf_commands.specs.ElfAsked.{ElfAsked, edits_asked}
+use Rattle.elf_commands_lines.specs.ElfAsked.{ElfAsked, edits_asked}
 use Rattle.elf_commands_steps.specs.declared.error.ElfCommandError.{ElfCommandError}
 use Rattle.elf_commands_steps.specs.declared.error.ElfCommandError.TheVariants.{Memory}
 

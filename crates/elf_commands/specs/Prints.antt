@@ -11,8 +11,8 @@ use Rattle.elf_format.specs.declared.fault.ElfFault.{ElfFault}
 use Rattle.elf_commands_steps.specs.Counted.{Stops}
 use Rattle.elf_commands_steps.specs.declared.error.ElfCommandError.{ElfCommandError}
 use Rattle.elf_commands_steps.specs.declared.error.ElfCommandError.TheVariants.{Elf, Io, Memory}
-use Rattle.elf_commands.specs.Meaning.{ElfMeaning, apply_elf, apply_moving_elf, edit_elf, print_exec_stack, print_interpreter, print_needed}
-use Rattle.elf_commands.specs.Meaning.{print_os_abi, print_rpath, print_soname, shrink_elf, symbols_elf}
+use Rattle.elf_commands_lines.specs.Meaning.{ElfMeaning, apply_elf, apply_moving_elf, edit_elf, print_exec_stack, print_interpreter, print_needed}
+use Rattle.elf_commands_lines.specs.Meaning.{print_os_abi, print_rpath, print_soname, shrink_elf, symbols_elf}
 
 -- the bytes that a command prints of what a file shows; an edit prints nothing
 abbrev pub printed : ElfMeaning → View → List ℕ

@@ -13,11 +13,11 @@ use Rattle.elf_edits.specs.Edit.{Answer, Edit, ShrinkRpath}
 use Rattle.elf_commands_steps.specs.Removals.{removed_by}
 use Rattle.elf_format.specs.declared.fault.ElfFault.{ElfFault}
 use Rattle.elf_image.specs.Image.{Image, image_of, shown}
-use Rattle.elf_commands.specs.ElfAsked.{elf_asked, one}
+use Rattle.elf_commands_lines.specs.ElfAsked.{elf_asked, one}
 use Rattle.elf_commands_steps.specs.Groups.{plain}
 use Rattle.elf_commands.specs.ElfEngine.{IsElfEdited, LeavesElf, RunsElf, TellsEdit, TellsRun}
 use Rattle.elf_commands.specs.ElfStores.{WritesEnd}
-use Rattle.elf_commands.specs.Meaning.{ElfMeaning, shrink_elf}
+use Rattle.elf_commands_lines.specs.Meaning.{ElfMeaning, shrink_elf}
 use Rattle.command_words.specs.Rows.{Text}
 use Rattle.elf_commands_steps.specs.Prints.{IsCutShort}
 use Rattle.elf_commands_steps.specs.Shrinking.{AreFound, Finding, removal_lines}

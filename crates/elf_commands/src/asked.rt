@@ -1,15 +1,16 @@
 //! The edits that a command asks for.
 ghost use Rattle.std.specs.Prelude.{◌≡◌, ◌∷◌, [], IfErr, IfOk, Ok, map, string_bytes};
 ghost use Rattle.elf_commands_steps.specs.Groups.{group_model};
-ghost use Rattle.elf_commands.specs.ElfAsked.{elf_asked, several, with_leave};
+ghost use Rattle.elf_commands_lines.specs.ElfAsked.{elf_asked, several, with_leave};
 ghost use Rattle.elf_commands.specs.ElfEngine.{AreAsked, TellsEachFile};
-ghost use Rattle.elf_commands.specs.ElfWords.{elf_edits_of};
-ghost use Rattle.elf_commands.specs.Meaning.{elf_command_model};
+ghost use Rattle.elf_commands_lines.specs.ElfWords.{elf_edits_of};
+ghost use Rattle.elf_commands_lines.specs.Meaning.{elf_command_model};
 
-use crate::command::ElfCommand;
-use crate::elf_words::parse_elf_edits;
+use elf_commands_lines::ElfCommand;
+use elf_commands_lines::parse_elf_edits;
 use command_words::words_of;
-use elf_commands_steps::{ElfCommandError, GroupEdit};
+use elf_commands_lines::{GroupEdit};
+use elf_commands_steps::{ElfCommandError};
 use elf_edits::ElfEdit;
 use std::alloc::{AllocError, Global};
 

@@ -1,7 +1,7 @@
-//! The commands for ELF files: of each its name, its values, and the call that does it.
+//! The commands for ELF files: of each the call that does it.
 ghost use Rattle.std.specs.Prelude.{IfErr};
 ghost use Rattle.elf_commands.specs.ElfEngine.{ElfMayFail};
-ghost use Rattle.elf_commands.specs.Meaning.{elf_command_model};
+ghost use Rattle.elf_commands_lines.specs.Meaning.{elf_command_model};
 ghost use Rattle.elf_commands.specs.Prints.{PrintMayFail};
 
 mod editing;
@@ -13,7 +13,7 @@ mod shrinking;
 mod typed;
 
 pub use crate::asked::asked_by;
-use crate::command::ElfCommand;
+use elf_commands_lines::ElfCommand;
 use command_words::Notes;
 pub use editing::{edit_path, edit_store};
 use editing::{edit_file, edit_telling};
@@ -69,23 +69,11 @@ fn execute_unprobed<R: Files + Print + Eprint + AllocGlobal>(
     }
 }
 
-/// Values that are a path alone.
-pub(crate) mod path_alone {
-    /// The file of a command.
-    #[derive(Debug, Drop)]
-    pub struct Args {
-        /// Path to the file to change, or to read.
-        pub path_to_binary: String,
-    }
-}
-
 /// `add-debug-tag`: adds an entry for a debugger (gABI, Dynamic Section, DT_DEBUG).
 pub mod add_debug_tag {
-    pub use super::path_alone::Args;
-    use super::{ElfCommand, ElfCommandError, Files, edit_file};
+    pub use elf_commands_lines::commands::add_debug_tag::{Args, NAME};
 
-    /// The word that names the command.
-    pub const NAME: &str = "add-debug-tag";
+    use super::{ElfCommand, ElfCommandError, Files, edit_file};
 
     /// Edits the file.
     pub fn execute<R: Files + AllocGlobal>(rt: &R, args: Args) -> Result<(), ElfCommandError>
@@ -97,11 +85,9 @@ pub mod add_debug_tag {
 
 /// `clear-exec-stack`: takes the permission to run from the stack (GNU extension, PT_GNU_STACK).
 pub mod clear_execstack {
-    pub use super::path_alone::Args;
-    use super::{ElfCommand, ElfCommandError, Files, edit_file};
+    pub use elf_commands_lines::commands::clear_execstack::{Args, NAME};
 
-    /// The word that names the command.
-    pub const NAME: &str = "clear-exec-stack";
+    use super::{ElfCommand, ElfCommandError, Files, edit_file};
 
     /// Edits the file.
     pub fn execute<R: Files + AllocGlobal>(rt: &R, args: Args) -> Result<(), ElfCommandError>
@@ -113,11 +99,9 @@ pub mod clear_execstack {
 
 /// `force-rpath`: makes every DT_RUNPATH a DT_RPATH (gABI, Dynamic Section).
 pub mod force_rpath {
-    pub use super::path_alone::Args;
-    use super::{ElfCommand, ElfCommandError, Files, edit_file};
+    pub use elf_commands_lines::commands::force_rpath::{Args, NAME};
 
-    /// The word that names the command.
-    pub const NAME: &str = "force-rpath";
+    use super::{ElfCommand, ElfCommandError, Files, edit_file};
 
     /// Edits the file.
     pub fn execute<R: Files + AllocGlobal>(rt: &R, args: Args) -> Result<(), ElfCommandError>
@@ -129,11 +113,9 @@ pub mod force_rpath {
 
 /// `no-default-lib`: leaves out the default directories of libraries (DT_FLAGS_1, DF_1_NODEFLIB).
 pub mod no_default_lib {
-    pub use super::path_alone::Args;
-    use super::{ElfCommand, ElfCommandError, Files, edit_file};
+    pub use elf_commands_lines::commands::no_default_lib::{Args, NAME};
 
-    /// The word that names the command.
-    pub const NAME: &str = "no-default-lib";
+    use super::{ElfCommand, ElfCommandError, Files, edit_file};
 
     /// Edits the file.
     pub fn execute<R: Files + AllocGlobal>(rt: &R, args: Args) -> Result<(), ElfCommandError>
@@ -145,11 +127,9 @@ pub mod no_default_lib {
 
 /// `remove-rpath`: removes the run path (gABI, Dynamic Section).
 pub mod remove_rpath {
-    pub use super::path_alone::Args;
-    use super::{ElfCommand, ElfCommandError, Files, edit_file};
+    pub use elf_commands_lines::commands::remove_rpath::{Args, NAME};
 
-    /// The word that names the command.
-    pub const NAME: &str = "remove-rpath";
+    use super::{ElfCommand, ElfCommandError, Files, edit_file};
 
     /// Edits the file.
     pub fn execute<R: Files + AllocGlobal>(rt: &R, args: Args) -> Result<(), ElfCommandError>
@@ -161,11 +141,9 @@ pub mod remove_rpath {
 
 /// `set-exec-stack`: gives the stack the permission to run (GNU extension, PT_GNU_STACK).
 pub mod set_execstack {
-    pub use super::path_alone::Args;
-    use super::{ElfCommand, ElfCommandError, Files, edit_file};
+    pub use elf_commands_lines::commands::set_execstack::{Args, NAME};
 
-    /// The word that names the command.
-    pub const NAME: &str = "set-exec-stack";
+    use super::{ElfCommand, ElfCommandError, Files, edit_file};
 
     /// Edits the file.
     pub fn execute<R: Files + AllocGlobal>(rt: &R, args: Args) -> Result<(), ElfCommandError>
@@ -177,19 +155,9 @@ pub mod set_execstack {
 
 /// `add-rpath`: adds a directory to the run path (gABI, Dynamic Section).
 pub mod add_rpath {
+    pub use elf_commands_lines::commands::add_rpath::{Args, NAME};
+
     use super::{ElfCommand, ElfCommandError, Files, edit_file};
-
-    /// The word that names the command.
-    pub const NAME: &str = "add-rpath";
-
-    /// The values of the command.
-    #[derive(Debug, Drop)]
-    pub struct Args {
-        /// Directory to add.
-        pub new_rpath: String,
-        /// Path to the file to change.
-        pub path_to_binary: String,
-    }
 
     /// Edits the file.
     pub fn execute<R: Files + AllocGlobal>(rt: &R, args: Args) -> Result<(), ElfCommandError>
@@ -201,19 +169,9 @@ pub mod add_rpath {
 
 /// `set-rpath`: sets the run path (gABI, Dynamic Section).
 pub mod set_rpath {
+    pub use elf_commands_lines::commands::set_rpath::{Args, NAME};
+
     use super::{ElfCommand, ElfCommandError, Files, edit_file};
-
-    /// The word that names the command.
-    pub const NAME: &str = "set-rpath";
-
-    /// The values of the command.
-    #[derive(Debug, Drop)]
-    pub struct Args {
-        /// Directories, with a colon between two.
-        pub new_rpath: String,
-        /// Path to the file to change.
-        pub path_to_binary: String,
-    }
 
     /// Edits the file.
     pub fn execute<R: Files + AllocGlobal>(rt: &R, args: Args) -> Result<(), ElfCommandError>
@@ -225,19 +183,9 @@ pub mod set_rpath {
 
 /// `set-interpreter`: sets the interpreter (gABI, Program Interpreter).
 pub mod set_interpreter {
+    pub use elf_commands_lines::commands::set_interpreter::{Args, NAME};
+
     use super::{ElfCommand, ElfCommandError, Files, edit_file};
-
-    /// The word that names the command.
-    pub const NAME: &str = "set-interpreter";
-
-    /// The values of the command.
-    #[derive(Debug, Drop)]
-    pub struct Args {
-        /// Path of the interpreter.
-        pub interpreter: String,
-        /// Path to the file to change.
-        pub path_to_binary: String,
-    }
 
     /// Edits the file.
     pub fn execute<R: Files + AllocGlobal>(rt: &R, args: Args) -> Result<(), ElfCommandError>
@@ -249,19 +197,9 @@ pub mod set_interpreter {
 
 /// `set-os-abi`: sets the ABI byte (gABI, ELF Identification, EI_OSABI).
 pub mod set_os_abi {
+    pub use elf_commands_lines::commands::set_os_abi::{Args, NAME};
+
     use super::{ElfCommand, ElfCommandError, Files, edit_file};
-
-    /// The word that names the command.
-    pub const NAME: &str = "set-os-abi";
-
-    /// The values of the command.
-    #[derive(Debug, Drop)]
-    pub struct Args {
-        /// Name of the ABI.
-        pub os_abi: String,
-        /// Path to the file to change.
-        pub path_to_binary: String,
-    }
 
     /// Edits the file.
     pub fn execute<R: Files + AllocGlobal>(rt: &R, args: Args) -> Result<(), ElfCommandError>
@@ -273,19 +211,9 @@ pub mod set_os_abi {
 
 /// `set-soname`: sets the library's own name (gABI, Dynamic Section, DT_SONAME).
 pub mod set_soname {
+    pub use elf_commands_lines::commands::set_soname::{Args, NAME};
+
     use super::{ElfCommand, ElfCommandError, Files, edit_file};
-
-    /// The word that names the command.
-    pub const NAME: &str = "set-soname";
-
-    /// The values of the command.
-    #[derive(Debug, Drop)]
-    pub struct Args {
-        /// New name.
-        pub soname: String,
-        /// Path to the file to change.
-        pub path_to_binary: String,
-    }
 
     /// Edits the file.
     pub fn execute<R: Files + AllocGlobal>(rt: &R, args: Args) -> Result<(), ElfCommandError>
@@ -297,19 +225,9 @@ pub mod set_soname {
 
 /// `set-page-size`: sets the page size (gABI, Program Header, p_align of each PT_LOAD).
 pub mod set_page_size {
+    pub use elf_commands_lines::commands::set_page_size::{Args, NAME};
+
     use super::{ElfCommand, ElfCommandError, Files, edit_file};
-
-    /// The word that names the command.
-    pub const NAME: &str = "set-page-size";
-
-    /// The values of the command.
-    #[derive(Debug, Drop)]
-    pub struct Args {
-        /// Page size in bytes, a power of two from 1,024 on.
-        pub page_size: u32,
-        /// Path to the file to change.
-        pub path_to_binary: String,
-    }
 
     /// Edits the file.
     pub fn execute<R: Files + AllocGlobal>(rt: &R, args: Args) -> Result<(), ElfCommandError>
@@ -321,19 +239,9 @@ pub mod set_page_size {
 
 /// `clear-symbol-version`: makes the version of symbols of a name that of a global symbol (GNU symbol versioning).
 pub mod clear_version_symbol {
+    pub use elf_commands_lines::commands::clear_version_symbol::{Args, NAME};
+
     use super::{ElfCommand, ElfCommandError, Files, edit_file};
-
-    /// The word that names the command.
-    pub const NAME: &str = "clear-symbol-version";
-
-    /// The values of the command.
-    #[derive(Debug, Drop)]
-    pub struct Args {
-        /// Name of the dynamic symbols.
-        pub symbol: String,
-        /// Path to the file to change.
-        pub path_to_binary: String,
-    }
 
     /// Edits the file.
     pub fn execute<R: Files + AllocGlobal>(rt: &R, args: Args) -> Result<(), ElfCommandError>
@@ -346,19 +254,9 @@ pub mod clear_version_symbol {
 
 /// `add-needed`: adds needed libraries (gABI, Dynamic Section, DT_NEEDED).
 pub mod add_needed {
+    pub use elf_commands_lines::commands::add_needed::{Args, NAME};
+
     use super::{ElfCommand, ElfCommandError, Files, edit_file};
-
-    /// The word that names the command.
-    pub const NAME: &str = "add-needed";
-
-    /// The values of the command.
-    #[derive(Debug, Drop)]
-    pub struct Args {
-        /// Path to the file to change.
-        pub path_to_binary: String,
-        /// Names of the libraries to add.
-        pub dt_needed: Vec<String>,
-    }
 
     /// Edits the file.
     pub fn execute<R: Files + AllocGlobal>(rt: &R, args: Args) -> Result<(), ElfCommandError>
@@ -370,19 +268,9 @@ pub mod add_needed {
 
 /// `remove-needed`: removes needed libraries (gABI, Dynamic Section, DT_NEEDED).
 pub mod remove_needed {
+    pub use elf_commands_lines::commands::remove_needed::{Args, NAME};
+
     use super::{ElfCommand, ElfCommandError, Files, edit_file};
-
-    /// The word that names the command.
-    pub const NAME: &str = "remove-needed";
-
-    /// The values of the command.
-    #[derive(Debug, Drop)]
-    pub struct Args {
-        /// Path to the file to change.
-        pub path_to_binary: String,
-        /// Names of the libraries to remove.
-        pub dt_needed: Vec<String>,
-    }
 
     /// Edits the file.
     pub fn execute<R: Files + AllocGlobal>(rt: &R, args: Args) -> Result<(), ElfCommandError>
@@ -394,19 +282,9 @@ pub mod remove_needed {
 
 /// `replace-needed`: replaces needed libraries, all at once (gABI, Dynamic Section, DT_NEEDED).
 pub mod replace_needed {
+    pub use elf_commands_lines::commands::replace_needed::{Args, NAME};
+
     use super::{ElfCommand, ElfCommandError, Files, edit_file};
-
-    /// The word that names the command.
-    pub const NAME: &str = "replace-needed";
-
-    /// The values of the command.
-    #[derive(Debug, Drop)]
-    pub struct Args {
-        /// Path to the file to change.
-        pub path_to_binary: String,
-        /// Pairs of an old and a new name; of a repeated old name the last pair counts.
-        pub dt_needed: Vec<(String, String)>,
-    }
 
     /// Edits the file.
     pub fn execute<R: Files + AllocGlobal>(rt: &R, args: Args) -> Result<(), ElfCommandError>
@@ -419,19 +297,9 @@ pub mod replace_needed {
 /// `replace-library`: replaces needed libraries, all at once, with the versions that are needed of them (gABI, Dynamic Section,
 /// DT_NEEDED; GNU symbol versioning, `Elfxx_Verneed`, `vn_file`).
 pub mod replace_library {
+    pub use elf_commands_lines::commands::replace_library::{Args, NAME};
+
     use super::{ElfCommand, ElfCommandError, Files, edit_file};
-
-    /// The word that names the command.
-    pub const NAME: &str = "replace-library";
-
-    /// The values of the command.
-    #[derive(Debug, Drop)]
-    pub struct Args {
-        /// Path to the file to change.
-        pub path_to_binary: String,
-        /// Pairs of an old and a new name; of a repeated old name the last pair counts.
-        pub libraries: Vec<(String, String)>,
-    }
 
     /// Edits the file.
     pub fn execute<R: Files + AllocGlobal>(rt: &R, args: Args) -> Result<(), ElfCommandError>
@@ -443,19 +311,9 @@ pub mod replace_library {
 
 /// `rename-dynamic-symbols`: gives dynamic symbols other names, all at once (gABI, Symbol Table, st_name).
 pub mod rename_dynamic_symbols {
+    pub use elf_commands_lines::commands::rename_dynamic_symbols::{Args, NAME};
+
     use super::{ElfCommand, ElfCommandError, Files, edit_file};
-
-    /// The word that names the command.
-    pub const NAME: &str = "rename-dynamic-symbols";
-
-    /// The values of the command.
-    #[derive(Debug, Drop)]
-    pub struct Args {
-        /// Path to the file to change.
-        pub path_to_binary: String,
-        /// Pairs of an old and a new name; of a repeated old name the last pair counts.
-        pub rename_symbols: Vec<(String, String)>,
-    }
 
     /// Edits the file.
     pub fn execute<R: Files + AllocGlobal>(rt: &R, args: Args) -> Result<(), ElfCommandError>
@@ -468,19 +326,9 @@ pub mod rename_dynamic_symbols {
 
 /// `apply`: makes several edits, all or none.
 pub mod apply {
+    pub use elf_commands_lines::commands::apply::{Args, NAME};
+
     use super::{ElfCommand, ElfCommandError, Files, edit_file};
-
-    /// The word that names the command.
-    pub const NAME: &str = "apply";
-
-    /// The values of the command.
-    #[derive(Debug, Drop)]
-    pub struct Args {
-        /// Path to the file to change.
-        pub path_to_binary: String,
-        /// The words of the edits, with a word `+` between two edits.
-        pub edits: Vec<String>,
-    }
 
     /// Edits the file.
     pub fn execute<R: Files + AllocGlobal>(rt: &R, args: Args) -> Result<(), ElfCommandError>
@@ -492,19 +340,9 @@ pub mod apply {
 
 /// `shrink-rpath`: leaves out of the run path the directories that have no needed library.
 pub mod shrink_rpath {
+    pub use elf_commands_lines::commands::shrink_rpath::{Args, NAME};
+
     use super::{ElfCommand, ElfCommandError, Files, shrink_file};
-
-    /// The word that names the command.
-    pub const NAME: &str = "shrink-rpath";
-
-    /// The values of the command.
-    #[derive(Debug, Drop)]
-    pub struct Args {
-        /// Path to the file to change.
-        pub path_to_binary: String,
-        /// Prefixes that are allowed: directories that none begins are left out too. None allow all.
-        pub allowed_rpath_prefixes: Vec<String>,
-    }
 
     /// Edits the file. Which directories went is told on the standard error.
     pub fn execute<R: Files + Eprint + AllocGlobal>(
@@ -519,19 +357,9 @@ pub mod shrink_rpath {
 
 /// `rename-symbols`: gives symbols other names, all at once, for link editors and for the loader (gABI, Symbol Table, st_name).
 pub mod rename_symbols {
+    pub use elf_commands_lines::commands::rename_symbols::{Args, NAME};
+
     use super::{ElfCommand, ElfCommandError, Files, edit_file};
-
-    /// The word that names the command.
-    pub const NAME: &str = "rename-symbols";
-
-    /// The values of the command.
-    #[derive(Debug, Drop)]
-    pub struct Args {
-        /// Path to the file to change.
-        pub path_to_binary: String,
-        /// Pairs of an old and a new name; of a repeated old name the last pair counts.
-        pub rename_symbols: Vec<(String, String)>,
-    }
 
     /// Edits the file.
     pub fn execute<R: Files + AllocGlobal>(rt: &R, args: Args) -> Result<(), ElfCommandError>
@@ -543,19 +371,9 @@ pub mod rename_symbols {
 
 /// `delete-symbols`: deletes symbols, for link editors and for the loader (gABI, Symbol Table).
 pub mod delete_symbols {
+    pub use elf_commands_lines::commands::delete_symbols::{Args, NAME};
+
     use super::{ElfCommand, ElfCommandError, Files, edit_file};
-
-    /// The word that names the command.
-    pub const NAME: &str = "delete-symbols";
-
-    /// The values of the command.
-    #[derive(Debug, Drop)]
-    pub struct Args {
-        /// Path to the file to change.
-        pub path_to_binary: String,
-        /// Names of the symbols to delete.
-        pub symbols: Vec<String>,
-    }
 
     /// Edits the file.
     pub fn execute<R: Files + AllocGlobal>(rt: &R, args: Args) -> Result<(), ElfCommandError>
@@ -567,19 +385,9 @@ pub mod delete_symbols {
 
 /// `rename-sections`: gives sections other names, all at once (gABI, Sections, sh_name).
 pub mod rename_sections {
+    pub use elf_commands_lines::commands::rename_sections::{Args, NAME};
+
     use super::{ElfCommand, ElfCommandError, Files, edit_file};
-
-    /// The word that names the command.
-    pub const NAME: &str = "rename-sections";
-
-    /// The values of the command.
-    #[derive(Debug, Drop)]
-    pub struct Args {
-        /// Path to the file to change.
-        pub path_to_binary: String,
-        /// Pairs of an old and a new name; of a repeated old name the last pair counts.
-        pub rename_sections: Vec<(String, String)>,
-    }
 
     /// Edits the file.
     pub fn execute<R: Files + AllocGlobal>(rt: &R, args: Args) -> Result<(), ElfCommandError>
@@ -591,19 +399,9 @@ pub mod rename_sections {
 
 /// `delete-sections`: deletes sections, with what goes along (gABI, Sections).
 pub mod delete_sections {
+    pub use elf_commands_lines::commands::delete_sections::{Args, NAME};
+
     use super::{ElfCommand, ElfCommandError, Files, edit_file};
-
-    /// The word that names the command.
-    pub const NAME: &str = "delete-sections";
-
-    /// The values of the command.
-    #[derive(Debug, Drop)]
-    pub struct Args {
-        /// Path to the file to change.
-        pub path_to_binary: String,
-        /// Names of the sections to delete.
-        pub sections: Vec<String>,
-    }
 
     /// Edits the file.
     pub fn execute<R: Files + AllocGlobal>(rt: &R, args: Args) -> Result<(), ElfCommandError>
@@ -615,11 +413,9 @@ pub mod delete_sections {
 
 /// `print-rpath`: prints the run path.
 pub mod print_rpath {
-    pub use super::path_alone::Args;
-    use super::{ElfCommand, ElfCommandError, Files, print_file};
+    pub use elf_commands_lines::commands::print_rpath::{Args, NAME};
 
-    /// The word that names the command.
-    pub const NAME: &str = "print-rpath";
+    use super::{ElfCommand, ElfCommandError, Files, print_file};
 
     /// Prints to the standard output.
     pub fn execute<R: Files + Print + AllocGlobal>(
@@ -634,11 +430,9 @@ pub mod print_rpath {
 
 /// `print-needed`: prints the needed libraries.
 pub mod print_needed {
-    pub use super::path_alone::Args;
-    use super::{ElfCommand, ElfCommandError, Files, print_file};
+    pub use elf_commands_lines::commands::print_needed::{Args, NAME};
 
-    /// The word that names the command.
-    pub const NAME: &str = "print-needed";
+    use super::{ElfCommand, ElfCommandError, Files, print_file};
 
     /// Prints to the standard output.
     pub fn execute<R: Files + Print + AllocGlobal>(
@@ -653,11 +447,9 @@ pub mod print_needed {
 
 /// `print-soname`: prints the library's own name.
 pub mod print_soname {
-    pub use super::path_alone::Args;
-    use super::{ElfCommand, ElfCommandError, Files, print_file};
+    pub use elf_commands_lines::commands::print_soname::{Args, NAME};
 
-    /// The word that names the command.
-    pub const NAME: &str = "print-soname";
+    use super::{ElfCommand, ElfCommandError, Files, print_file};
 
     /// Prints to the standard output.
     pub fn execute<R: Files + Print + AllocGlobal>(
@@ -672,11 +464,9 @@ pub mod print_soname {
 
 /// `print-interpreter`: prints the interpreter.
 pub mod print_interpreter {
-    pub use super::path_alone::Args;
-    use super::{ElfCommand, ElfCommandError, Files, print_file};
+    pub use elf_commands_lines::commands::print_interpreter::{Args, NAME};
 
-    /// The word that names the command.
-    pub const NAME: &str = "print-interpreter";
+    use super::{ElfCommand, ElfCommandError, Files, print_file};
 
     /// Prints to the standard output.
     pub fn execute<R: Files + Print + AllocGlobal>(
@@ -691,11 +481,9 @@ pub mod print_interpreter {
 
 /// `print-os-abi`: prints the ABI byte.
 pub mod print_os_abi {
-    pub use super::path_alone::Args;
-    use super::{ElfCommand, ElfCommandError, Files, print_file};
+    pub use elf_commands_lines::commands::print_os_abi::{Args, NAME};
 
-    /// The word that names the command.
-    pub const NAME: &str = "print-os-abi";
+    use super::{ElfCommand, ElfCommandError, Files, print_file};
 
     /// Prints to the standard output.
     pub fn execute<R: Files + Print + AllocGlobal>(
@@ -710,11 +498,9 @@ pub mod print_os_abi {
 
 /// `print-exec-stack`: prints whether the stack may be run.
 pub mod print_execstack {
-    pub use super::path_alone::Args;
-    use super::{ElfCommand, ElfCommandError, Files, print_file};
+    pub use elf_commands_lines::commands::print_execstack::{Args, NAME};
 
-    /// The word that names the command.
-    pub const NAME: &str = "print-exec-stack";
+    use super::{ElfCommand, ElfCommandError, Files, print_file};
 
     /// Prints to the standard output.
     pub fn execute<R: Files + Print + AllocGlobal>(

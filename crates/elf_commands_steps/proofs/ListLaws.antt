@@ -14,7 +14,7 @@ use Rattle.elf_format.specs.declared.header.Header.{Header}
 use Rattle.elf_image.specs.Image.{Image, shown}
 use Rattle.elf_symbol_edits.specs.Laws.{SymbolEditsKeep}
 use Rattle.elf_commands_steps.specs.Groups.{GroupEdit, ListsAreTheirEdits, MakeInTurn, MakesNext, RefuseInTurn, RefuseOrWant, group_model, has_symbols, plain, plain_of, symbols}
-use Rattle.elf_commands_steps.specs.declared.groups.GroupEdit.{GroupEdit as GroupHeld}
+use Rattle.elf_commands_lines.specs.declared.groups.GroupEdit.{GroupEdit as GroupHeld}
 
 -- ## What edits keep
 

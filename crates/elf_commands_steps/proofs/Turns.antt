@@ -4,7 +4,7 @@ use Rattle.std.proofs.lemmas.List.{drop_more, get_or-map, length-map, take_more}
 use Rattle.arwen_elf.specs.ElfError.{ElfError}
 use Rattle.elf_image.specs.Image.{Image, shown}
 use Rattle.elf_commands_steps.specs.Groups.{GroupEdit, MakeInTurn, MakesNext, RefuseInTurn, RefusesNext, group_model, plain, plain_of, shown_next, symbols}
-use Rattle.elf_commands_steps.specs.declared.groups.GroupEdit.{GroupEdit as GroupHeld}
+use Rattle.elf_commands_lines.specs.declared.groups.GroupEdit.{GroupEdit as GroupHeld}
 
 -- what the edits from one on make of an image, and what they tell of it, is what all of them make of the first, and tell; and those
 -- before it made the image
@@ -62,8 +62,3 @@ is_refused all edit rest first image done e stands refuses =
     let same : 0 + done ≡ done = omega arith in
     subst (λ (i : ℕ). RefuseInTurn all first i e) same (stands.refuses 0 e (inl (refl, refuses)))
 
--- those of a batch, of some and one more
-pub plain_of_more : (edits : List GroupEdit) (edit : GroupEdit) → plain_of (edits ++ edit ∷ []) ≡ plain_of edits ++ plain_of (edit ∷ [])
-plain_of_more [] edit = refl
-plain_of_more (plain one ∷ edits) edit = ap (λ l. one ∷ l) (plain_of_more edits edit)
-plain_of_more (symbols one ∷ edits) edit = plain_of_more edits edit

@@ -1,4 +1,4 @@
--- Edits that groups of words name, and what lists of them make of an image.
+-- What lists of edits make of an image.
 use Rattle.std.specs.Prelude.{ℕ, ◌≡◌, ◌+◌, ◌⊎◌, Bool, true, false, List, [], ◌∷◌, Ok, if◌then◌else◌, ⊤}
 use Rattle.arwen_elf.specs.SymbolsTaken.{RefusesSymbolEdit}
 use Rattle.arwen_elf.specs.Told.{Refuses, RefusesAt}
@@ -15,30 +15,7 @@ use Rattle.elf_image.specs.Views.{View}
 use Rattle.elf_symbol_edits.specs.Cause.{step as symbol_step}
 use Rattle.elf_symbol_edits.specs.Laws.{shown_after}
 use Rattle.elf_symbol_edits.specs.SymbolEdit.{SymbolEdit}
-use Rattle.elf_commands_steps.specs.SymbolTexts.{symbol_texts_model}
-use Rattle.elf_commands_steps.specs.declared.groups.GroupEdit.{GroupEdit as GroupHeld}
-use Rattle.elf_commands_steps.specs.declared.groups.GroupEdit.TheVariants as held
-
--- an edit that a batch takes, or one of symbols or sections
-pub data GroupEdit : Type 0 where
-  plain : Edit → GroupEdit
-  symbols : SymbolEdit → GroupEdit
-
-abbrev pub group_model : GroupHeld → GroupEdit
-group_model (held.Plain edit) = plain (edit_model edit)
-group_model (held.Symbols texts) = symbols (symbol_texts_model texts)
-
--- the edits of a list that a batch takes
-abbrev pub plain_of : List GroupEdit → List Edit
-plain_of [] = []
-plain_of (plain edit ∷ rest) = edit ∷ plain_of rest
-plain_of (symbols edit ∷ rest) = plain_of rest
-
--- whether one of a list is of symbols or sections, which no batch takes
-abbrev pub has_symbols : List GroupEdit → Bool
-has_symbols [] = false
-has_symbols (plain edit ∷ rest) = has_symbols rest
-has_symbols (symbols edit ∷ rest) = true
+pub use Rattle.elf_commands_lines.specs.Groups.{GroupEdit, group_model, has_symbols, plain, plain_of, symbols}
 
 -- ## One edit
 

@@ -11,7 +11,6 @@ pub mod Images
 pub mod Shrinking
 pub mod ShrunkImages
 pub mod Storing
-pub mod SymbolTexts
 pub use Rattle.arwen_elf.specs.Final
 pub use Rattle.arwen_elf.specs.WrittenFile
 pub use Rattle.arwen_elf.specs.Causes

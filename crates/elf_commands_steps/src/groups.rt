@@ -1,63 +1,19 @@
-//! Edits that groups of words name, of either kind, and lists of them.
+//! What lists of edits make of an image.
 ghost use Rattle.std.specs.Prelude.{◌≡◌, ◌++◌, ◌∷◌, [], IfErr, IfOk, Ok, OnErr, OnOk, map, take};
 ghost use Rattle.arwen_elf.specs.Taken.{edits_model};
 ghost use Rattle.elf_edits.specs.Batch.{run};
 ghost use Rattle.elf_edits.specs.EditModel.{edit_model};
 ghost use Rattle.elf_commands_steps.specs.Groups.{MakeInTurn, MakesNext, RefusesNext, TellsInTurn, group_model, has_symbols as are_some_symbols, made_before, plain_of, shown_next};
 ghost use Rattle.elf_image.specs.Image.{shown};
-ghost use Rattle.elf_commands_steps.specs.Groups.GroupEdit.{plain};
+ghost use Rattle.elf_commands_lines.specs.Groups.GroupEdit.{plain};
 
 use crate::laws::lists_are_their_edits;
-use crate::symbol_texts::SymbolTexts;
 use arwen_elf::elf::{ElfBatchError, ElfContainer, ElfError};
+use elf_commands_lines::{GroupEdit, has_symbols, plain_edits};
 use elf_edits::ElfEdit;
 use elf_edits::laws::batches_are_their_edits;
 use std::alloc::{AllocError, Global};
 use std::slice;
-
-/// An edit that a group of words names.
-#[derive(Drop)]
-pub enum GroupEdit {
-    /// One that a batch takes.
-    Plain(ElfEdit),
-    /// One of symbols or sections.
-    Symbols(SymbolTexts),
-}
-
-/// Whether one of a list is of symbols or sections, which no batch takes.
-pub fn has_symbols(edits: &[GroupEdit]) -> bool
-    ensures { result ≡ are_some_symbols (map group_model edits.now) }
-{
-    for edit in edits {
-        if let GroupEdit::Symbols(_) = edit {
-            return true;
-        }
-    }
-    false
-}
-
-/// The edits of a list that a batch takes, in order. Error: `AllocError`.
-pub fn plain_edits(alloc: Global, edits: Vec<GroupEdit>) -> Result<Vec<ElfEdit>, AllocError>
-    ensures { IfOk result (λ plain. edits_model plain.items
-        ≡ plain_of (map group_model edits.items)) }
-{
-    let mut plain = Vec::with_capacity(alloc, edits.len())?;
-    for edit in edits {
-        push_plain(&mut plain, edit)?;
-    }
-    Ok(plain)
-}
-
-/// Puts an edit behind others, where a batch takes it.
-fn push_plain(plain: &mut Vec<ElfEdit>, edit: GroupEdit) -> Result<(), AllocError>
-    ensures { OnOk result (edits_model plain.new.items
-        ≡ edits_model plain.old.items ++ plain_of (group_model edit ∷ [])) }
-{
-    if let GroupEdit::Plain(edit) = edit {
-        plain.push(edit)?;
-    }
-    Ok(())
-}
 
 /// Makes edits in an image, each upon what the one before it left; those of which none is of symbols or sections as one batch, all
 /// or none.

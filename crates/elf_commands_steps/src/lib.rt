@@ -11,17 +11,11 @@ pub mod probing;
 pub mod shrinking;
 pub mod standard_error;
 pub mod storing;
-pub mod symbol_texts;
-pub mod texts;
 
 pub use crate::error::ElfCommandError;
-pub use crate::groups::{
-    GroupEdit, apply_batch, apply_each, apply_edits, has_symbols, plain_edits,
-};
+pub use crate::groups::{apply_batch, apply_each, apply_edits};
 pub use crate::images::{changed_bytes, pieces_and_text, pieces_of};
 pub use crate::probing::{FileProbe, Probe, answers_of, removal_text};
 pub use crate::shrinking::{Shrunk, pieces_by_answers, shrink_image, tell_removed};
 pub use crate::standard_error::{StandardError, tell};
 pub use crate::storing::make_opened;
-pub use crate::symbol_texts::SymbolTexts;
-pub use crate::texts::{bytes_of, pairs_copied, texts_of};

@@ -14,7 +14,7 @@ use crate::error::ElfCommandError;
 use crate::files::{ElfContainer, ElfError, ProbeAnswer, Removed, write_whole};
 use crate::images::{changed_bytes, pieces_of};
 use crate::probing::removal_text;
-use crate::texts::texts_of;
+use elf_commands_lines::texts_of;
 use byte_store::Difference;
 use std::alloc::Global;
 use std::io::Write;

@@ -8,21 +8,22 @@ ghost use Rattle.elf_commands_steps.specs.Written.{IsNoDifference};
 ghost use Rattle.elf_commands.specs.ElfStores.{ChangesNothing};
 ghost use Rattle.elf_commands_steps.specs.Prints.{FailsPrint};
 ghost use Rattle.elf_image.specs.Image.{image_of, shown};
-ghost use Rattle.elf_commands.specs.ElfAsked.{edits_asked, elf_asked};
+ghost use Rattle.elf_commands_lines.specs.ElfAsked.{edits_asked, elf_asked};
 ghost use Rattle.elf_commands_steps.specs.Groups.{group_model};
 ghost use Rattle.elf_commands.specs.ElfEngine.{IsElfEdited, LeavesElf, RunsElf, TellsEdit, TellsRun, as_asked, with_no_number};
-ghost use Rattle.elf_commands.specs.Meaning.{elf_command_model, elf_file_of};
+ghost use Rattle.elf_commands_lines.specs.Meaning.{elf_command_model, elf_file_of};
 ghost use Rattle.elf_commands.specs.Noting.{TellsWantedAt};
 ghost use Rattle.elf_commands.specs.Prints.{Prints, TellsElf, printed};
 
 use crate::asked::asked_by;
-use crate::command::ElfCommand;
+use elf_commands_lines::ElfCommand;
 use crate::elf::shrinking::run_shrink;
 use crate::elf::typed::{edit_bytes, edited_pieces};
 use byte_store::Difference;
 use command_words::Notes;
 use elf_commands_steps::files::{ElfContainer, ElfError, ProbeAnswer};
-use elf_commands_steps::{ElfCommandError, GroupEdit};
+use elf_commands_lines::{GroupEdit};
+use elf_commands_steps::{ElfCommandError};
 use std::alloc::Global;
 use std::io::Write;
 

@@ -4,11 +4,11 @@ ghost use Rattle.std.specs.Io.KnownBytes.{Appends};
 ghost use Rattle.byte_store.specs.Known.{Stays};
 ghost use Rattle.elf_commands_steps.specs.Failures.{HasReadCause, HasReadCauseAt};
 ghost use Rattle.elf_commands.specs.ElfStores.{IsKeptAt};
-ghost use Rattle.elf_commands.specs.Meaning.{elf_file_of, elf_command_model};
+ghost use Rattle.elf_commands_lines.specs.Meaning.{elf_file_of, elf_command_model};
 ghost use Rattle.elf_commands.specs.Prints.{PrintMayFail, Prints, PrintsStored, StopsWriting, TellsPrint, TellsStored, printed};
 ghost use Rattle.elf_image.specs.Image.{image_of, shown};
 
-use crate::command::ElfCommand;
+use elf_commands_lines::ElfCommand;
 use crate::elf::engine::print_asked;
 use crate::elf::opening::open_path;
 use byte_store::Store;

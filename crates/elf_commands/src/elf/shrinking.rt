@@ -4,7 +4,7 @@ ghost use Rattle.byte_store.specs.Composed.{IsDifference};
 ghost use Rattle.byte_store.specs.Known.{HasLength, IsAll};
 ghost use Rattle.elf_commands_steps.specs.ShrinkModel.{answer_model};
 ghost use Rattle.elf_edits.specs.Edit.{ShrinkRpath};
-ghost use Rattle.elf_commands.specs.ElfAsked.{shrinking};
+ghost use Rattle.elf_commands_lines.specs.ElfAsked.{shrinking};
 ghost use Rattle.elf_commands.specs.ElfEngine.{MayFailAs};
 ghost use Rattle.elf_commands.specs.ElfStores.{WritesEnd};
 ghost use Rattle.elf_commands_steps.specs.Failures.{HasShrinkCause, HasShrinkCauseAt, HasTellCause};
@@ -16,10 +16,7 @@ use byte_store::Store;
 use command_words::{NotDone, OpensOnce, RegularFiles, load};
 use elf_commands_steps::files::{CountedWrite, ElfContainer, ProbeAnswer, Sink, write_all_counted};
 use elf_commands_steps::laws::lists_are_their_edits;
-use elf_commands_steps::{
-    ElfCommandError, FileProbe, Probe, Shrunk, StandardError, answers_of, make_opened,
-    pieces_by_answers, shrink_image, tell_removed,
-};
+use elf_commands_steps::{ElfCommandError, FileProbe, Probe, Shrunk, StandardError, answers_of, make_opened, pieces_by_answers, shrink_image, tell_removed};
 use elf_image::laws::read_images_hold_parts;
 use std::alloc::Global;
 use std::io::Write;

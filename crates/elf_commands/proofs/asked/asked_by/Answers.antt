@@ -2,9 +2,9 @@
 use Rattle.std.proofs.Common.{◌∙◌, List, Some, ap, map, sym}
 use Rattle.std.specs.Option.{option_map}
 use Rattle.elf_commands_steps.specs.Groups.{group_model}
-use Rattle.elf_commands_steps.specs.declared.groups.GroupEdit.{GroupEdit as GroupHeld}
-use Rattle.elf_commands.specs.ElfAsked.{edits_asked}
-use Rattle.elf_commands.specs.Meaning.{elf_command_model}
+use Rattle.elf_commands_lines.specs.declared.groups.GroupEdit.{GroupEdit as GroupHeld}
+use Rattle.elf_commands_lines.specs.ElfAsked.{edits_asked}
+use Rattle.elf_commands_lines.specs.Meaning.{elf_command_model}
 use Rattle.elf_commands.proofs.ElfOutcomes.{asks_one}
 use Rattle.elf_commands.proofs.asked.asked_by.Goals as goal
 

@@ -3,9 +3,9 @@ use Rattle.std.specs.Prelude.{IfErr, IfOk, OnOk}
 use Rattle.std.proofs.lemmas.Result.{IfErr-weaker, err_from_is_err_and}
 use Rattle.std.specs.declared.io.Error.{Error}
 use Rattle.command_words.specs.Rows.{Text}
-use Rattle.elf_commands.specs.ElfAsked.{ElfAsked, elf_asked}
+use Rattle.elf_commands_lines.specs.ElfAsked.{ElfAsked, elf_asked}
 use Rattle.elf_commands.specs.ElfStores.{FailsElf, IsElfPatched, WritesEnd}
-use Rattle.elf_commands.specs.Meaning.{elf_command_model, elf_file_of}
+use Rattle.elf_commands_lines.specs.Meaning.{elf_command_model, elf_file_of}
 use Rattle.elf_commands.specs.Noting.{TellsWantedAt}
 use Rattle.elf_commands.proofs.ElfOutcomes.{may_fail}
 use Rattle.elf_commands.proofs.ElfStoreLaws.{fails_after, read_as_asked, read_fails, words_refused}

@@ -2,8 +2,8 @@
 use Rattle.std.proofs.Common.{◌∙◌, List, Some, map, string_bytes, subst, sym}
 use Rattle.command_words.specs.Rows.{Text}
 use Rattle.elf_commands_steps.specs.Groups.{GroupEdit, group_model}
-use Rattle.elf_commands.specs.ElfAsked.{ElfAsked, elf_asked}
-use Rattle.elf_commands.specs.Meaning.{elf_command_model}
+use Rattle.elf_commands_lines.specs.ElfAsked.{ElfAsked, elf_asked}
+use Rattle.elf_commands_lines.specs.Meaning.{elf_command_model}
 use Rattle.elf_commands.specs.Noting.{TellsWantedAt}
 use Rattle.elf_commands.proofs.ElfOutcomes.{told_as_asked}
 use Rattle.elf_commands.proofs.NotingLaws.{notes_as_asked}

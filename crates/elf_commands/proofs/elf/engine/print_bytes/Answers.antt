@@ -1,5 +1,5 @@
 use Rattle.std.proofs.lemmas.Result.{err_from_is_err_and}
-use Rattle.elf_commands.specs.Meaning.{elf_command_model}
+use Rattle.elf_commands_lines.specs.Meaning.{elf_command_model}
 use Rattle.elf_commands.proofs.ElfOutcomes.{tells_unprinted}
 use Rattle.elf_commands.proofs.elf.engine.print_bytes.Goals as goal
 

@@ -1,7 +1,7 @@
 use Rattle.std.proofs.lemmas.Result.{err_from_is_err_and}
 use Rattle.std.proofs.Common.{refl}
-use Rattle.elf_commands.specs.ElfAsked.{elf_asked}
-use Rattle.elf_commands.specs.Meaning.{elf_command_model}
+use Rattle.elf_commands_lines.specs.ElfAsked.{elf_asked}
+use Rattle.elf_commands_lines.specs.Meaning.{elf_command_model}
 use Rattle.elf_commands.proofs.ElfOutcomes.{tells_words}
 use Rattle.elf_commands.proofs.elf.engine.run_unprobed.Goals as goal
 

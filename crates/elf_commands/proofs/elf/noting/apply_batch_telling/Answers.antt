@@ -1,6 +1,6 @@
 -- What the edits found in the image as it was, and what holds of the image that they leave.
 use Rattle.std.proofs.Common.{string_bytes}
-use Rattle.elf_commands.specs.ElfWords.{edits_model}
+use Rattle.elf_commands_lines.specs.Groups.{edits_model}
 use Rattle.elf_commands.proofs.NotingLaws.{notes_made}
 use Rattle.elf_commands.proofs.elf.noting.apply_batch_telling.Goals as goal
 

@@ -2,7 +2,7 @@ use Rattle.std.proofs.Common.{subst}
 use Rattle.std.specs.Prelude.{IfOk}
 use Rattle.elf_image.specs.Image.{Image}
 use Rattle.elf_notes.specs.Notes.{AreFindings}
-use Rattle.elf_commands.specs.ElfWords.{edits_model}
+use Rattle.elf_commands_lines.specs.Groups.{edits_model}
 use Rattle.elf_commands.proofs.elf.noting.findings_in.Goals as goal
 
 -- the image is the container's

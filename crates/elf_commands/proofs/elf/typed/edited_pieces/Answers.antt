@@ -4,7 +4,7 @@ use Rattle.byte_store.specs.Composed.{IsDifference}
 use Rattle.command_words.specs.Rows.{Text}
 use Rattle.elf_commands_steps.specs.Groups.{GroupEdit, group_model}
 use Rattle.elf_commands_steps.specs.Written.{IsNoDifference}
-use Rattle.elf_commands.specs.ElfAsked.{several}
+use Rattle.elf_commands_lines.specs.ElfAsked.{several}
 use Rattle.elf_commands.specs.Noting.{TellsWantedAt}
 use Rattle.elf_commands.proofs.ElfOutcomes.{if_ok_and, made_of_edits, pieces_made, source_is, stays_unmarked, tells_no_bytes}
 use Rattle.elf_commands.proofs.NotingLaws.{told_of_file, unmade_of_file}

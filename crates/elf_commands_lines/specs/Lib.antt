@@ -1,0 +1,6 @@
+pub mod ElfAsked
+pub mod ElfWords
+pub mod Groups
+pub mod Meaning
+pub mod Moving
+pub mod SymbolTexts
