@@ -19,11 +19,12 @@ use Rattle.command_words.specs.Rows.{Given, Line, Named, Text, asked_by_words, a
 use Rattle.command_words.specs.WordValues.{TellsNoValue}
 use Rattle.command_words.specs.declared.word_values.ValueError.{ValueError}
 use Rattle.command_words.specs.declared.word_values.ValueError.TheVariants as value
-use Rattle.arwen_cli.specs.Line.{LineMayFail, MeaningMayFail, has_option, if_taken, meaning_of}
-use Rattle.arwen_cli.specs.Parser.{IsTaken, MeansBy, MeansTaken, is_table}
-use Rattle.arwen_cli.proofs.Named.{differs}
-use Rattle.arwen_cli.proofs.Table.{NamesValues, line_passes, line_taken}
-use Rattle.arwen_cli.proofs.Values.{first_value}
+use Rattle.arwen_cli.specs.Line.{LineMayFail, MeaningMayFail, if_taken, meaning_of}
+use Rattle.arwen_cli_parser.specs.Asked.{has_option}
+use Rattle.arwen_cli_parser.specs.Parser.{IsTaken, MeansBy, MeansTaken, is_table}
+use Rattle.arwen_cli_parser.proofs.Named.{differs}
+use Rattle.arwen_cli_parser.proofs.Table.{NamesValues, line_passes, line_taken}
+use Rattle.arwen_cli_parser.proofs.Values.{first_value}
 
 abbrev pub texts : List (Bor Text) → List Text
 texts = map (λ w. w.now)

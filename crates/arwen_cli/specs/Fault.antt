@@ -1,20 +1,15 @@
 -- What the program answers for lines that mean no command, and for files that are read.
-use Rattle.std.specs.Prelude.{ℕ, Option, Some, None, ⊤}
+use Rattle.std.specs.Prelude.{⊤}
 use Rattle.arwen_cli_faults.specs.declared.error.ArwenError.{ArwenError}
 use Rattle.arwen_cli_faults.specs.declared.error.ArwenError.TheVariants.{Io, Line, Memory}
-use Rattle.arwen_cli.specs.declared.cli.line_error.LineError.{LineError}
-use Rattle.arwen_cli.specs.declared.cli.line_error.LineError.TheVariants as line
+use Rattle.arwen_cli_parser.specs.declared.line_error.LineError.{LineError}
+use Rattle.arwen_cli_parser.specs.declared.line_error.LineError.TheVariants as line
 
 -- the error of a line that means no command, or want of memory
 abbrev pub IsOfLine : ArwenError → Type 0
 IsOfLine (Line text status) = ⊤
 IsOfLine Memory = ⊤
 IsOfLine _ = ⊥
-
--- the status that a line asks for with a text
-abbrev pub asked_status : LineError → Option ℕ
-asked_status (line.Text text status) = Some status
-asked_status line.Memory = None
 
 -- the program's answer for a line that means no command
 abbrev pub answer_to_line : LineError → ArwenError

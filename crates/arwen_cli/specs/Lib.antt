@@ -2,7 +2,7 @@ pub use Rattle.arwen_cli_peers.specs.Lines
 pub mod Fault
 pub mod Line
 pub mod Meaning
-pub mod Parser
 pub mod Signing
 pub mod Moving
 pub mod Telling
+pub use Rattle.arwen_cli_parser.specs.Asked

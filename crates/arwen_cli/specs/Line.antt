@@ -36,17 +36,6 @@ meaning_of (first ∷ name ∷ words) =
     else None))
 meaning_of _ = None
 
--- ---- words that are no values by themselves
-
-abbrev pub begins_with_hyphen : Text → Bool
-begins_with_hyphen [] = false
-begins_with_hyphen (first ∷ rest) = first == 45
-
--- some word begins with a hyphen, so that it may be an option or the mark behind which all words
--- are values
-abbrev pub has_option : List Text → Bool
-has_option words = list_any begins_with_hyphen words
-
 -- ---- what comes of words
 
 -- the error of a command: the program's answer to one that the command may have

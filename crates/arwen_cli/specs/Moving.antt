@@ -5,7 +5,7 @@ use Rattle.command_words.specs.Rows.{Given, Text, named, named_of}
 use Rattle.elf_format.specs.Options.{is_some_and}
 use Rattle.arwen_cli_faults.specs.Meaning.{ElfMeaning, elf_lines}
 use Rattle.arwen_cli_faults.specs.Moving.{meant_moving}
-use Rattle.arwen_cli.specs.Parser.{IsTaken}
+use Rattle.arwen_cli_parser.specs.Parser.{IsTaken}
 use Rattle.arwen_cli_peers.specs.Lines.{without_move}
 
 -- the command of a name is `apply`, or an edit that it takes

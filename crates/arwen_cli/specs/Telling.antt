@@ -10,7 +10,8 @@ use Rattle.arwen_cli_faults.specs.Telling.{IsFileFault}
 use Rattle.arwen_cli_faults.specs.declared.error.ArwenError.{ArwenError}
 use Rattle.arwen_cli_faults.specs.declared.error.ArwenError.TheVariants.{Edits, Line}
 use Rattle.macho_commands.specs.Meaning.{file_of as macho_file_of}
-use Rattle.arwen_cli.specs.Line.{has_option, meaning_of}
+use Rattle.arwen_cli.specs.Line.{meaning_of}
+use Rattle.arwen_cli_parser.specs.Asked.{has_option}
 use Rattle.arwen_cli.specs.Meaning.{Meaning, of_elf, of_macho, of_show}
 
 -- the file that is named, unless by the empty word; none where files are shown, of which each has a line of its own

@@ -1,6 +1,7 @@
 //! The command line: what the words of a line mean, and doing it.
 ghost use Rattle.std.specs.Prelude.{◌≡◌, false, IfErr, IsSome, OnOk, map};
-ghost use Rattle.arwen_cli.specs.Line.{ElfMayFail, LineMayFail, MachoMayFail, MeaningMayFail, ShowMayFail, has_option, meaning_of};
+ghost use Rattle.arwen_cli.specs.Line.{ElfMayFail, LineMayFail, MachoMayFail, MeaningMayFail, ShowMayFail, meaning_of};
+ghost use Rattle.arwen_cli_parser.specs.Asked.{has_option};
 ghost use Rattle.arwen_cli.specs.Meaning.{shown};
 ghost use Rattle.arwen_cli_peers.specs.Lines.{notes_asked};
 ghost use Rattle.arwen_cli.specs.Signing.{signing_asked};
@@ -11,8 +12,6 @@ mod build;
 mod command;
 mod file;
 mod line;
-mod line_error;
-mod parser;
 mod telling;
 
 pub use arwen_cli_faults::commands::elf::{

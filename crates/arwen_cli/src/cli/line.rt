@@ -1,23 +1,23 @@
 //! What the words of a line mean.
 ghost use Rattle.std.specs.Prelude.{◌≡◌, None, Some, codes, false, IfErr, IfOk, MatchResult, map};
-ghost use Rattle.arwen_cli.specs.Fault.{IsOfLine, asked_status};
+ghost use Rattle.arwen_cli.specs.Fault.{IsOfLine, answer_to_line};
 ghost use Rattle.arwen_cli.specs.Meaning.{Meaning};
 ghost use Rattle.command_words.specs.Rows.{given_model, meant_with};
 ghost use Rattle.arwen_cli_faults.specs.Meaning.{elf_lines, elf_command_model, reading_of};
 ghost use Rattle.macho_commands.specs.Meaning.{macho_lines};
 ghost use Rattle.macho_commands.specs.Meaning.{macho_command_model};
 ghost use Rattle.arwen_cli.specs.Meaning.{shown};
-ghost use Rattle.arwen_cli.specs.Line.{has_option, meaning_of};
+ghost use Rattle.arwen_cli.specs.Line.{meaning_of};
+ghost use Rattle.arwen_cli_parser.specs.Asked.{has_option};
 ghost use Rattle.arwen_cli.specs.Moving.{MeansMoving, takes_leave as takes_the_leave};
 ghost use Rattle.arwen_cli_faults.specs.Args.{ShowMeaning, meaning_of_args, args_model};
-ghost use Rattle.arwen_cli.specs.Parser.{MayRefuse, MayRefuseReading, MayRefuseTaken, MeansBy, MeansTaken};
+ghost use Rattle.arwen_cli_parser.specs.Parser.{MayRefuse, MayRefuseReading, MayRefuseTaken, MeansBy, MeansTaken};
 
 use crate::cli::build::BUILT;
-use crate::cli::line_error::LineError;
-use crate::cli::parser::{First, parse_values};
 use crate::cli::{ArwenError, Command, ElfCommand, MachoCommand};
 use arwen_cli_faults::commands::{elf, elf_table};
 use arwen_cli_faults::show::{Args, ArgsFault, HELP, parse_args};
+use arwen_cli_parser::{First, LineError, USAGE, line_of, or_memory, or_usage, parse_values, usage};
 use arwen_cli_peers::{is_moved_by, without_move, without_quiet, without_sign};
 use command_words::{ValueError, Values, find_row};
 use macho_commands::macho_table;
@@ -25,27 +25,6 @@ use std::alloc::{AllocError, Global};
 
 /// The program's name and its version, the first line that `--version` prints.
 const VERSION: &str = "arwen 0.1.0, port of arwen 0.0.5\n";
-
-/// What the program says where no command is named.
-const USAGE: &str = "Patches finished Mach-O and ELF files, and prints what ELF files say.
-
-Usage: arwen <COMMAND>
-
-Commands:
-  macho  Edit a Mach-O file (`arwen help macho` lists the edits)
-  elf    Edit or print an ELF file (`arwen help elf` lists the commands)
-  show   Tell what files are, and what they ask of a loader
-  help   Print this text, or the help of the command behind it
-
-Lines of other tools:
-  patchelf           Take a line of patchelf 0.18 (`--help` behind it lists the options)
-  install-name-tool  Take a line of install_name_tool (`--help` behind it lists the options)
-
-Options:
-  -q, --quiet    Leave out notes; also behind the command's name
-  -h, --help     Print this text
-  -V, --version  Print the version
-";
 
 /// The first word of the commands for Mach-O files.
 const MACHO: First = First {
@@ -75,7 +54,17 @@ pub fn parse_line(alloc: Global, words: &[&str]) -> Result<Command, ArwenError>
 {
     match read_line(alloc, words) {
         Ok(command) => Ok(command),
-        Err(error) => Err(ArwenError::from(error)),
+        Err(error) => Err(line_answer(error)),
+    }
+}
+
+/// What the program answers for a line that means no command.
+fn line_answer(error: LineError) -> ArwenError
+    ensures { result ≡ answer_to_line error }
+{
+    match error {
+        LineError::Text { text, status } => ArwenError::Line { text, status },
+        LineError::Memory => ArwenError::Memory,
     }
 }
 
@@ -200,42 +189,6 @@ fn help_of<T: Drop>(alloc: Global, answer: Result<T, LineError>) -> Result<LineE
 fn unknown_word(alloc: Global, word: &str) -> Result<LineError, AllocError> {
     let text = format!(in alloc; "error: unrecognized command '{word}'\n\n{USAGE}")?;
     Ok(LineError::Text { text, status: 2 })
-}
-
-/// The usage text, as the fault of a line.
-pub(crate) fn usage(alloc: Global, status: u8) -> Result<LineError, AllocError>
-    ensures { IfOk result (λ fault. asked_status fault ≡ Some status) }
-{
-    line_of(alloc, USAGE, status)
-}
-
-/// A fault of a line, or want of memory for it.
-pub(crate) fn or_memory(fault: Result<LineError, AllocError>) -> LineError
-    ensures { MatchResult fault (λ fault. result ≡ fault) (λ _. result ≡ LineError.Memory) }
-{
-    match fault {
-        Ok(fault) => fault,
-        Err(_) => LineError::Memory,
-    }
-}
-
-/// A value, or the usage text as the fault of a line where there is none.
-pub(crate) fn or_usage<T>(alloc: Global, value: Option<T>) -> Result<T, LineError>
-    ensures ok { IfOk result (λ found. value ≡ Some found) }
-    ensures none { IfErr result (λ _. value ≡ None) }
-{
-    match value {
-        Some(value) => Ok(value),
-        None => Err(or_memory(usage(alloc, 2))),
-    }
-}
-
-/// A text, as the fault of a line.
-fn line_of(alloc: Global, text: &str, status: u8) -> Result<LineError, AllocError>
-    ensures { IfOk result (λ fault. asked_status fault ≡ Some status) }
-{
-    let text = String::from_str(alloc, text)?;
-    Ok(LineError::Text { text, status })
 }
 
 /// The command of a line whose first word is `macho`.

@@ -7,7 +7,7 @@ ghost use Rattle.arwen_cli_faults.specs.Groups.{group_model};
 
 use crate::cli::Command;
 use crate::cli::line::read_line;
-use crate::cli::line_error::LineError;
+use arwen_cli_parser::LineError;
 use arwen_cli_faults::commands::GroupEdit;
 use arwen_cli_faults::{ArwenError, causes_text, edits_of, file_fault_line};
 use command_words::FileBytes;

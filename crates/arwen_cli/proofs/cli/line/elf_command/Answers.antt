@@ -4,7 +4,7 @@ use Rattle.std.specs.Option.{option_map}
 use Rattle.std.proofs.lemmas.Result.{IfErr-weaker, IfOk-weaker}
 use Rattle.arwen_cli_faults.specs.Meaning.{reading_of}
 use Rattle.arwen_cli.proofs.Meanings.{of_memory}
-use Rattle.arwen_cli.proofs.Parsing.{some≢none}
+use Rattle.arwen_cli_parser.proofs.Parsing.{some≢none}
 use Rattle.arwen_cli.proofs.cli.line.elf_command.Goals as goal
 
 pub returns-in-Ok-clause-means : goal.returns-in-Ok-clause-means

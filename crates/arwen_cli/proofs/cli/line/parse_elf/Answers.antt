@@ -3,7 +3,7 @@ use Rattle.std.proofs.Common.{List, Bor, Ok, codes, map, sym, ◌∙◌, subst}
 use Rattle.std.proofs.lemmas.Result.{IfErr-weaker, IfOk-weaker, err_from_is_err_and}
 use Rattle.arwen_cli_faults.specs.Meaning.{elf_lines}
 use Rattle.command_words.specs.Rows.{Named, Text, given_model}
-use Rattle.arwen_cli.specs.Parser.{IsTaken}
+use Rattle.arwen_cli_parser.specs.Parser.{IsTaken}
 use Rattle.arwen_cli.proofs.Meanings.{found_meaning}
 use Rattle.arwen_cli.proofs.cli.line.parse_elf.Goals as goal
 

@@ -4,7 +4,7 @@ use Rattle.std.specs.Option.{option_map}
 use Rattle.std.proofs.lemmas.Result.{IfErr-weaker, IfOk-weaker, err_from_is_err_and}
 use Rattle.macho_commands.specs.Meaning.{macho_lines, macho_command_model}
 use Rattle.command_words.specs.Rows.{Named, Text, given_model}
-use Rattle.arwen_cli.specs.Parser.{IsTaken}
+use Rattle.arwen_cli_parser.specs.Parser.{IsTaken}
 use Rattle.arwen_cli.proofs.Meanings.{no_meaning}
 use Rattle.arwen_cli.proofs.cli.line.parse_macho.Goals as goal
 

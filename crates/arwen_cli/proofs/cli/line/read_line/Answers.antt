@@ -3,7 +3,7 @@ use Rattle.std.proofs.Common.{◌≡◌, ◌∙◌, Some, ap}
 use Rattle.std.proofs.lemmas.Result.{IfErr-weaker, IfOk-weaker}
 use Rattle.arwen_cli.specs.Line.{meaning_of}
 use Rattle.arwen_cli.specs.Meaning.{Meaning, shown}
-use Rattle.arwen_cli.specs.declared.cli.line_error.LineError.TheVariants.{Memory}
+use Rattle.arwen_cli_parser.specs.declared.line_error.LineError.TheVariants.{Memory}
 use Rattle.arwen_cli.proofs.Meanings.{texts}
 use Rattle.arwen_cli.proofs.Quiet.{heard_for_all}
 use Rattle.arwen_cli.proofs.cli.line.read_line.Goals as goal

@@ -1,8 +1,8 @@
 -- The parser adds a command as it is.
 use Rattle.std.proofs.Common.{refl}
 use Rattle.std.proofs.lemmas.Result.{IfOk-weaker}
-use Rattle.arwen_cli.proofs.Parsing.{added}
-use Rattle.arwen_cli.proofs.cli.parser.with_row.Goals as goal
+use Rattle.arwen_cli_parser.proofs.Parsing.{added}
+use Rattle.arwen_cli_parser.proofs.parser.with_row.Goals as goal
 
 pub returns : goal.returns
 returns c =

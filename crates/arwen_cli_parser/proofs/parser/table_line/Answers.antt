@@ -1,6 +1,6 @@
 -- Each command of the table is added behind those before it.
-use Rattle.arwen_cli.proofs.Parsing.{with_row}
-use Rattle.arwen_cli.proofs.cli.parser.table_line.Goals as goal
+use Rattle.arwen_cli_parser.proofs.Parsing.{with_row}
+use Rattle.arwen_cli_parser.proofs.parser.table_line.Goals as goal
 
 pub loop-row-preserved : goal.loop-row-preserved
 loop-row-preserved c =

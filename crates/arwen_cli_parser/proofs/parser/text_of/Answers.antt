@@ -2,7 +2,7 @@
 use Rattle.std.proofs.Common.{◌∙◌}
 use Rattle.clap.specs.Matches.{found_of}
 use Rattle.clap.proofs.WalkLemmas.{first_value-rows}
-use Rattle.arwen_cli.proofs.cli.parser.text_of.Goals as goal
+use Rattle.arwen_cli_parser.proofs.parser.text_of.Goals as goal
 
 pub returns : goal.returns
 returns c = c.get_str.ensures ∙ first_value-rows (found_of c.args.matches.now) c.args.id.now

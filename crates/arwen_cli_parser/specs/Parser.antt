@@ -17,8 +17,8 @@ use Rattle.command_words.specs.Rows.{text_and_path, texts, texts_and_path, words
 use Rattle.command_words.specs.Rows.{given_model}
 use Rattle.command_words.specs.declared.rows.Values.{Values}
 use Rattle.std.specs.Borrow.{Bor}
-use Rattle.arwen_cli.specs.declared.cli.line_error.LineError.{LineError}
-use Rattle.arwen_cli.specs.declared.cli.line_error.LineError.TheVariants.{Memory}
+use Rattle.arwen_cli_parser.specs.declared.line_error.LineError.{LineError}
+use Rattle.arwen_cli_parser.specs.declared.line_error.LineError.TheVariants.{Memory}
 
 -- ---- the commands
 

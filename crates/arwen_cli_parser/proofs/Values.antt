@@ -10,9 +10,9 @@ use Rattle.clap.specs.Faults.{level_fault, step_fault, turn_fault, walk_fault, w
 use Rattle.clap.specs.declared.builder.value_parser.ValueParser.TheVariants as vp
 use Rattle.clap.proofs.OnLiterals.{clap_on_literals}
 use Rattle.command_words.specs.Rows.{Given, Kind, given_by, options, path, path_alone, path_and_options, path_and_words, text, text_and_path, texts, texts_and_path, words as words_given}
-use Rattle.arwen_cli.specs.Line.{has_option}
-use Rattle.arwen_cli.specs.Parser.{first_id, found_values, leaf_app, path_id, second_id, with_text, with_texts, words_id}
-use Rattle.arwen_cli.proofs.Words.{IsValue, at, end_fault, no_fault_after, no_fault_here, no_words, one_word, value_at_positional, walked_idle, walked_positional}
+use Rattle.arwen_cli_parser.specs.Asked.{has_option}
+use Rattle.arwen_cli_parser.specs.Parser.{first_id, found_values, leaf_app, path_id, second_id, with_text, with_texts, words_id}
+use Rattle.arwen_cli_parser.proofs.Words.{IsValue, at, end_fault, no_fault_after, no_fault_here, no_words, one_word, value_at_positional, walked_idle, walked_positional}
 
 -- a command with its values, as the parser builds it
 abbrev pub leaf : Text → Kind → Shape

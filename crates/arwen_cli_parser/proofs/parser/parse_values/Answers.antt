@@ -4,9 +4,9 @@ use Rattle.std.proofs.lemmas.Result.{IfErr-weaker, IfOk-weaker, err_from_is_err_
 use Rattle.clap.specs.Walk.{rows_of}
 use Rattle.clap.specs.Words.{found_of}
 use Rattle.command_words.specs.Rows.{row_model}
-use Rattle.arwen_cli.specs.Parser.{taken_in}
-use Rattle.arwen_cli.proofs.Parsing.{by_parts, no_command, some≢none}
-use Rattle.arwen_cli.proofs.cli.parser.parse_values.Goals as goal
+use Rattle.arwen_cli_parser.specs.Parser.{taken_in}
+use Rattle.arwen_cli_parser.proofs.Parsing.{by_parts, no_command, some≢none}
+use Rattle.arwen_cli_parser.proofs.parser.parse_values.Goals as goal
 
 pub returns-in_err-matches-clause-refused : goal.returns-in_err-matches-clause-refused
 returns-in_err-matches-clause-refused c =

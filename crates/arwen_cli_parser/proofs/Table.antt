@@ -14,11 +14,11 @@ use Rattle.clap.specs.Kinds.{or_else}
 use Rattle.clap.specs.Faults.{has_free_rules, level_fault, other_fault, step_fault, turn_fault}
 use Rattle.clap.proofs.OnLiterals.{clap_on_literals}
 use Rattle.command_words.specs.Rows.{Given, Kind, Named, given_by, named, path_alone, path_and_options, path_and_words, text_and_path, texts_and_path}
-use Rattle.arwen_cli.specs.Line.{has_option}
-use Rattle.arwen_cli.specs.Parser.{found_by, found_values, has_no_help, is_table, leaf_app, leaf_of, line_app, top_app}
-use Rattle.arwen_cli.proofs.Named.{IsNamed, IsTakenAt, differs, fault_of_stranger, found_at, found_by_name, meaning_by, named_fault, named_found, named_taken, rest_fault}
-use Rattle.arwen_cli.proofs.Values.{first_value, found_given, leaf, takes_given}
-use Rattle.arwen_cli.proofs.Words.{at, no_first}
+use Rattle.arwen_cli_parser.specs.Asked.{has_option}
+use Rattle.arwen_cli_parser.specs.Parser.{found_by, found_values, has_no_help, is_table, leaf_app, leaf_of, line_app, top_app}
+use Rattle.arwen_cli_parser.proofs.Named.{IsNamed, IsTakenAt, differs, fault_of_stranger, found_at, found_by_name, meaning_by, named_fault, named_found, named_taken, rest_fault}
+use Rattle.arwen_cli_parser.proofs.Values.{first_value, found_given, leaf, takes_given}
+use Rattle.arwen_cli_parser.proofs.Words.{at, no_first}
 
 -- ---- a table with one more command
 

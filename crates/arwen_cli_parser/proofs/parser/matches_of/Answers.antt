@@ -1,6 +1,6 @@
 -- The parser's own clauses, at a command that is simple.
 use Rattle.std.proofs.Common.{◌≡◌, ◌&&◌, Bool, true, false, refl}
-use Rattle.arwen_cli.proofs.cli.parser.matches_of.Goals as goal
+use Rattle.arwen_cli_parser.proofs.parser.matches_of.Goals as goal
 
 first_holds : (a b : Bool) → (a && b) ≡ true → a ≡ true
 first_holds true b e = refl

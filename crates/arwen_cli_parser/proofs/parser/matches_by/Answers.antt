@@ -4,8 +4,8 @@ use Rattle.std.proofs.lemmas.Result.{IfErr-weaker, IfOk-weaker}
 use Rattle.clap.specs.Walk.{Text}
 use Rattle.clap.specs.Words.{App, fault_of, is_simple_and_free, subcommand_of}
 use Rattle.command_words.specs.Rows.{row_model}
-use Rattle.arwen_cli.proofs.Table.{table_simple}
-use Rattle.arwen_cli.proofs.cli.parser.matches_by.Goals as goal
+use Rattle.arwen_cli_parser.proofs.Table.{table_simple}
+use Rattle.arwen_cli_parser.proofs.parser.matches_by.Goals as goal
 
 abbrev texts : List (Bor Text) → List Text
 texts = map (λ w. w.now)

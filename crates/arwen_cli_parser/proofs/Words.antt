@@ -4,7 +4,7 @@ use Rattle.clap.specs.Walk.{Held, Rule, Step, Text, Waiting, Walk, after_step, a
 use Rattle.clap.specs.Simple.{Shape}
 use Rattle.clap.specs.Kinds.{Kinds, or_else}
 use Rattle.clap.specs.Faults.{check_fault, defaults_fault, settle_fault, step_fault, turn_fault, walk_fault, word_fault}
-use Rattle.arwen_cli.specs.Line.{begins_with_hyphen}
+use Rattle.arwen_cli_parser.specs.Asked.{begins_with_hyphen}
 
 abbrev pub IsValue : Text → Type 0
 IsValue word = begins_with_hyphen word ≡ false

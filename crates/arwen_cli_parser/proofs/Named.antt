@@ -10,7 +10,7 @@ use Rattle.clap.specs.Kinds.{Kinds, or_else}
 use Rattle.clap.specs.Faults.{built_fault, check_fault, defaults_fault, entered_fault, level_fault, settle_fault, step_fault, turn_fault, walk_fault, word_fault}
 use Rattle.clap.proofs.WalkLemmas.{walk_stopped}
 use Rattle.clap.proofs.FaultLemmas.{stopped_fault}
-use Rattle.arwen_cli.proofs.Words.{IsValue, at, no_first, no_second, value_at_idle}
+use Rattle.arwen_cli_parser.proofs.Words.{IsValue, at, no_first, no_second, value_at_idle}
 
 -- the command and its rows that are found at words, and what fails there
 abbrev pub found_at : App → List Text → Option (Text × List Row)

@@ -2,9 +2,9 @@
 use Rattle.std.proofs.Common.{sym, ap, ◌∙◌}
 use Rattle.std.specs.Option.{option_map}
 use Rattle.std.proofs.lemmas.Result.{IfErr-weaker, IfOk-weaker}
-use Rattle.arwen_cli.specs.Parser.{taken_model}
-use Rattle.arwen_cli.proofs.Parsing.{some≢none}
-use Rattle.arwen_cli.proofs.cli.parser.row_values.Goals as goal
+use Rattle.arwen_cli_parser.specs.Parser.{taken_model}
+use Rattle.arwen_cli_parser.proofs.Parsing.{some≢none}
+use Rattle.arwen_cli_parser.proofs.parser.row_values.Goals as goal
 
 pub returns-clause-taken : goal.returns-clause-taken
 returns-clause-taken c =

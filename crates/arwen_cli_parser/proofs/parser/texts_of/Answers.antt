@@ -4,7 +4,7 @@ use Rattle.std.proofs.lemmas.Result.{IfOk-weaker}
 use Rattle.clap.specs.Walk.{Text}
 use Rattle.clap.specs.Matches.{found_of}
 use Rattle.clap.proofs.WalkLemmas.{raw_values-rows}
-use Rattle.arwen_cli.proofs.cli.parser.texts_of.Goals as goal
+use Rattle.arwen_cli_parser.proofs.parser.texts_of.Goals as goal
 
 abbrev or_none : Option (List Text) → List Text
 or_none values = unwrap_or values []

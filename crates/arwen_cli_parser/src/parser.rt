@@ -4,13 +4,12 @@ ghost use Rattle.std.specs.Prelude.{unwrap_or};
 ghost use Rattle.clap.specs.Words.{all_of, app_of, fault_of, first_of, found_of, kind_of, new_app, rows_of};
 ghost use Rattle.clap.specs.Words.{rule_of, with_rule, with_subcommand};
 ghost use Rattle.command_words.specs.Rows.{given_model, kind_model, row_model, texts};
-ghost use Rattle.arwen_cli.specs.Parser.{IsTaken, Matches, MatchesBy, RefusesNone, MayRefuseFound, MayRefuseValues, first_id, found_by};
-ghost use Rattle.arwen_cli.specs.Parser.{found_values, has_globals, is_table, leaf_app, leaf_of, line_app};
-ghost use Rattle.arwen_cli.specs.Parser.{option_rule, options_id, path_id, second_id, taken_model, top_app, value_rule};
-ghost use Rattle.arwen_cli.specs.Parser.{values_rule, with_options, with_path, with_text, with_texts, with_words, words_id};
+ghost use Rattle.arwen_cli_parser.specs.Parser.{IsTaken, Matches, MatchesBy, RefusesNone, MayRefuseFound, MayRefuseValues, first_id, found_by};
+ghost use Rattle.arwen_cli_parser.specs.Parser.{found_values, has_globals, is_table, leaf_app, leaf_of, line_app};
+ghost use Rattle.arwen_cli_parser.specs.Parser.{option_rule, options_id, path_id, second_id, taken_model, top_app, value_rule};
+ghost use Rattle.arwen_cli_parser.specs.Parser.{values_rule, with_options, with_path, with_text, with_texts, with_words, words_id};
 
-use crate::cli::line::{or_memory, or_usage, usage};
-use crate::cli::line_error::LineError;
+use crate::line_error::{LineError, or_memory, or_usage, usage};
 use clap::error::ErrorKind;
 use clap::{Arg, ArgAction, ArgMatches, Error};
 use command_words::{Row, Value, ValueForm, ValueOption, Values, copies, find_row};
@@ -18,13 +17,13 @@ use std::alloc::{AllocError, Global};
 
 /// A first word of lines.
 #[derive(Clone, Copy)]
-pub(crate) struct First {
+pub struct First {
     /// The word.
-    pub(crate) word: &'static str,
+    pub word: &'static str,
     /// The program's name with the word, as help shows it.
-    pub(crate) shown_as: &'static str,
+    pub shown_as: &'static str,
     /// What the commands of the word are for.
-    pub(crate) about: &'static str,
+    pub about: &'static str,
 }
 
 /// What the parser calls the path.
@@ -49,7 +48,7 @@ const FILE: Value = Value {
 };
 
 /// The name and the values of the command that a line's words name, of which the first is `first`.
-pub(crate) fn parse_values(
+pub fn parse_values(
     alloc: Global,
     first: First,
     rows: &'static [Row],

@@ -12,8 +12,8 @@ use Rattle.clap.specs.declared.error.Error.{Error}
 use Rattle.clap.specs.declared.error.kind.ErrorKind.TheVariants.{OutOfMemory}
 use Rattle.clap.specs.declared.parser.matches.ArgMatches.TheViews.{out-SubCommand}
 use Rattle.clap.specs.declared.parser.matches.SubCommand.{SubCommand}
-use Rattle.arwen_cli.specs.Parser.{has_globals, leaf_of, line_app}
-use Rattle.arwen_cli.proofs.Table.{line_app-push}
+use Rattle.arwen_cli_parser.specs.Parser.{has_globals, leaf_of, line_app}
+use Rattle.arwen_cli_parser.proofs.Table.{line_app-push}
 
 -- a subcommand is added as it is
 pub added : (old sub new : Command) (a s : App) → app_of old ≡ a → app_of sub ≡ s → has_globals sub ≡ false → AddsSubcommand old sub new → app_of new ≡ with_subcommand a s.top

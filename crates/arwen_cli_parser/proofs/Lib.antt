@@ -1,0 +1,5 @@
+pub mod Words
+pub mod Named
+pub mod Values
+pub mod Table
+pub mod Parsing
