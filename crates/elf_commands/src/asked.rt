@@ -6,11 +6,9 @@ ghost use Rattle.elf_commands.specs.ElfEngine.{AreAsked, TellsEachFile};
 ghost use Rattle.elf_commands_lines.specs.ElfWords.{elf_edits_of};
 ghost use Rattle.elf_commands_lines.specs.Meaning.{elf_command_model};
 
-use elf_commands_lines::ElfCommand;
-use elf_commands_lines::parse_elf_edits;
 use command_words::words_of;
-use elf_commands_lines::{GroupEdit};
-use elf_commands_steps::{ElfCommandError};
+use elf_commands_lines::{ElfCommand, GroupEdit, parse_elf_edits};
+use elf_commands_steps::ElfCommandError;
 use elf_edits::ElfEdit;
 use std::alloc::{AllocError, Global};
 

@@ -13,10 +13,10 @@ mod shrinking;
 mod typed;
 
 pub use crate::asked::asked_by;
-use elf_commands_lines::ElfCommand;
 use command_words::Notes;
 pub use editing::{edit_path, edit_store};
 use editing::{edit_file, edit_telling};
+use elf_commands_lines::ElfCommand;
 use elf_commands_steps::ElfCommandError;
 pub use elf_commands_steps::{FileProbe, Probe};
 pub use engine::run_elf;
@@ -71,9 +71,8 @@ fn execute_unprobed<R: Files + Print + Eprint + AllocGlobal>(
 
 /// `add-debug-tag`: adds an entry for a debugger (gABI, Dynamic Section, DT_DEBUG).
 pub mod add_debug_tag {
-    pub use elf_commands_lines::commands::add_debug_tag::{Args, NAME};
-
     use super::{ElfCommand, ElfCommandError, Files, edit_file};
+    pub use elf_commands_lines::commands::add_debug_tag::{Args, NAME};
 
     /// Edits the file.
     pub fn execute<R: Files + AllocGlobal>(rt: &R, args: Args) -> Result<(), ElfCommandError>
@@ -85,9 +84,8 @@ pub mod add_debug_tag {
 
 /// `clear-exec-stack`: takes the permission to run from the stack (GNU extension, PT_GNU_STACK).
 pub mod clear_execstack {
-    pub use elf_commands_lines::commands::clear_execstack::{Args, NAME};
-
     use super::{ElfCommand, ElfCommandError, Files, edit_file};
+    pub use elf_commands_lines::commands::clear_execstack::{Args, NAME};
 
     /// Edits the file.
     pub fn execute<R: Files + AllocGlobal>(rt: &R, args: Args) -> Result<(), ElfCommandError>
@@ -99,9 +97,8 @@ pub mod clear_execstack {
 
 /// `force-rpath`: makes every DT_RUNPATH a DT_RPATH (gABI, Dynamic Section).
 pub mod force_rpath {
-    pub use elf_commands_lines::commands::force_rpath::{Args, NAME};
-
     use super::{ElfCommand, ElfCommandError, Files, edit_file};
+    pub use elf_commands_lines::commands::force_rpath::{Args, NAME};
 
     /// Edits the file.
     pub fn execute<R: Files + AllocGlobal>(rt: &R, args: Args) -> Result<(), ElfCommandError>
@@ -113,9 +110,8 @@ pub mod force_rpath {
 
 /// `no-default-lib`: leaves out the default directories of libraries (DT_FLAGS_1, DF_1_NODEFLIB).
 pub mod no_default_lib {
-    pub use elf_commands_lines::commands::no_default_lib::{Args, NAME};
-
     use super::{ElfCommand, ElfCommandError, Files, edit_file};
+    pub use elf_commands_lines::commands::no_default_lib::{Args, NAME};
 
     /// Edits the file.
     pub fn execute<R: Files + AllocGlobal>(rt: &R, args: Args) -> Result<(), ElfCommandError>
@@ -127,9 +123,8 @@ pub mod no_default_lib {
 
 /// `remove-rpath`: removes the run path (gABI, Dynamic Section).
 pub mod remove_rpath {
-    pub use elf_commands_lines::commands::remove_rpath::{Args, NAME};
-
     use super::{ElfCommand, ElfCommandError, Files, edit_file};
+    pub use elf_commands_lines::commands::remove_rpath::{Args, NAME};
 
     /// Edits the file.
     pub fn execute<R: Files + AllocGlobal>(rt: &R, args: Args) -> Result<(), ElfCommandError>
@@ -141,9 +136,8 @@ pub mod remove_rpath {
 
 /// `set-exec-stack`: gives the stack the permission to run (GNU extension, PT_GNU_STACK).
 pub mod set_execstack {
-    pub use elf_commands_lines::commands::set_execstack::{Args, NAME};
-
     use super::{ElfCommand, ElfCommandError, Files, edit_file};
+    pub use elf_commands_lines::commands::set_execstack::{Args, NAME};
 
     /// Edits the file.
     pub fn execute<R: Files + AllocGlobal>(rt: &R, args: Args) -> Result<(), ElfCommandError>
@@ -155,9 +149,8 @@ pub mod set_execstack {
 
 /// `add-rpath`: adds a directory to the run path (gABI, Dynamic Section).
 pub mod add_rpath {
-    pub use elf_commands_lines::commands::add_rpath::{Args, NAME};
-
     use super::{ElfCommand, ElfCommandError, Files, edit_file};
+    pub use elf_commands_lines::commands::add_rpath::{Args, NAME};
 
     /// Edits the file.
     pub fn execute<R: Files + AllocGlobal>(rt: &R, args: Args) -> Result<(), ElfCommandError>
@@ -169,9 +162,8 @@ pub mod add_rpath {
 
 /// `set-rpath`: sets the run path (gABI, Dynamic Section).
 pub mod set_rpath {
-    pub use elf_commands_lines::commands::set_rpath::{Args, NAME};
-
     use super::{ElfCommand, ElfCommandError, Files, edit_file};
+    pub use elf_commands_lines::commands::set_rpath::{Args, NAME};
 
     /// Edits the file.
     pub fn execute<R: Files + AllocGlobal>(rt: &R, args: Args) -> Result<(), ElfCommandError>
@@ -183,9 +175,8 @@ pub mod set_rpath {
 
 /// `set-interpreter`: sets the interpreter (gABI, Program Interpreter).
 pub mod set_interpreter {
-    pub use elf_commands_lines::commands::set_interpreter::{Args, NAME};
-
     use super::{ElfCommand, ElfCommandError, Files, edit_file};
+    pub use elf_commands_lines::commands::set_interpreter::{Args, NAME};
 
     /// Edits the file.
     pub fn execute<R: Files + AllocGlobal>(rt: &R, args: Args) -> Result<(), ElfCommandError>
@@ -197,9 +188,8 @@ pub mod set_interpreter {
 
 /// `set-os-abi`: sets the ABI byte (gABI, ELF Identification, EI_OSABI).
 pub mod set_os_abi {
-    pub use elf_commands_lines::commands::set_os_abi::{Args, NAME};
-
     use super::{ElfCommand, ElfCommandError, Files, edit_file};
+    pub use elf_commands_lines::commands::set_os_abi::{Args, NAME};
 
     /// Edits the file.
     pub fn execute<R: Files + AllocGlobal>(rt: &R, args: Args) -> Result<(), ElfCommandError>
@@ -211,9 +201,8 @@ pub mod set_os_abi {
 
 /// `set-soname`: sets the library's own name (gABI, Dynamic Section, DT_SONAME).
 pub mod set_soname {
-    pub use elf_commands_lines::commands::set_soname::{Args, NAME};
-
     use super::{ElfCommand, ElfCommandError, Files, edit_file};
+    pub use elf_commands_lines::commands::set_soname::{Args, NAME};
 
     /// Edits the file.
     pub fn execute<R: Files + AllocGlobal>(rt: &R, args: Args) -> Result<(), ElfCommandError>
@@ -225,9 +214,8 @@ pub mod set_soname {
 
 /// `set-page-size`: sets the page size (gABI, Program Header, p_align of each PT_LOAD).
 pub mod set_page_size {
-    pub use elf_commands_lines::commands::set_page_size::{Args, NAME};
-
     use super::{ElfCommand, ElfCommandError, Files, edit_file};
+    pub use elf_commands_lines::commands::set_page_size::{Args, NAME};
 
     /// Edits the file.
     pub fn execute<R: Files + AllocGlobal>(rt: &R, args: Args) -> Result<(), ElfCommandError>
@@ -239,9 +227,8 @@ pub mod set_page_size {
 
 /// `clear-symbol-version`: makes the version of symbols of a name that of a global symbol (GNU symbol versioning).
 pub mod clear_version_symbol {
-    pub use elf_commands_lines::commands::clear_version_symbol::{Args, NAME};
-
     use super::{ElfCommand, ElfCommandError, Files, edit_file};
+    pub use elf_commands_lines::commands::clear_version_symbol::{Args, NAME};
 
     /// Edits the file.
     pub fn execute<R: Files + AllocGlobal>(rt: &R, args: Args) -> Result<(), ElfCommandError>
@@ -254,9 +241,8 @@ pub mod clear_version_symbol {
 
 /// `add-needed`: adds needed libraries (gABI, Dynamic Section, DT_NEEDED).
 pub mod add_needed {
-    pub use elf_commands_lines::commands::add_needed::{Args, NAME};
-
     use super::{ElfCommand, ElfCommandError, Files, edit_file};
+    pub use elf_commands_lines::commands::add_needed::{Args, NAME};
 
     /// Edits the file.
     pub fn execute<R: Files + AllocGlobal>(rt: &R, args: Args) -> Result<(), ElfCommandError>
@@ -268,9 +254,8 @@ pub mod add_needed {
 
 /// `remove-needed`: removes needed libraries (gABI, Dynamic Section, DT_NEEDED).
 pub mod remove_needed {
-    pub use elf_commands_lines::commands::remove_needed::{Args, NAME};
-
     use super::{ElfCommand, ElfCommandError, Files, edit_file};
+    pub use elf_commands_lines::commands::remove_needed::{Args, NAME};
 
     /// Edits the file.
     pub fn execute<R: Files + AllocGlobal>(rt: &R, args: Args) -> Result<(), ElfCommandError>
@@ -282,9 +267,8 @@ pub mod remove_needed {
 
 /// `replace-needed`: replaces needed libraries, all at once (gABI, Dynamic Section, DT_NEEDED).
 pub mod replace_needed {
-    pub use elf_commands_lines::commands::replace_needed::{Args, NAME};
-
     use super::{ElfCommand, ElfCommandError, Files, edit_file};
+    pub use elf_commands_lines::commands::replace_needed::{Args, NAME};
 
     /// Edits the file.
     pub fn execute<R: Files + AllocGlobal>(rt: &R, args: Args) -> Result<(), ElfCommandError>
@@ -297,9 +281,8 @@ pub mod replace_needed {
 /// `replace-library`: replaces needed libraries, all at once, with the versions that are needed of them (gABI, Dynamic Section,
 /// DT_NEEDED; GNU symbol versioning, `Elfxx_Verneed`, `vn_file`).
 pub mod replace_library {
-    pub use elf_commands_lines::commands::replace_library::{Args, NAME};
-
     use super::{ElfCommand, ElfCommandError, Files, edit_file};
+    pub use elf_commands_lines::commands::replace_library::{Args, NAME};
 
     /// Edits the file.
     pub fn execute<R: Files + AllocGlobal>(rt: &R, args: Args) -> Result<(), ElfCommandError>
@@ -311,9 +294,8 @@ pub mod replace_library {
 
 /// `rename-dynamic-symbols`: gives dynamic symbols other names, all at once (gABI, Symbol Table, st_name).
 pub mod rename_dynamic_symbols {
-    pub use elf_commands_lines::commands::rename_dynamic_symbols::{Args, NAME};
-
     use super::{ElfCommand, ElfCommandError, Files, edit_file};
+    pub use elf_commands_lines::commands::rename_dynamic_symbols::{Args, NAME};
 
     /// Edits the file.
     pub fn execute<R: Files + AllocGlobal>(rt: &R, args: Args) -> Result<(), ElfCommandError>
@@ -326,9 +308,8 @@ pub mod rename_dynamic_symbols {
 
 /// `apply`: makes several edits, all or none.
 pub mod apply {
-    pub use elf_commands_lines::commands::apply::{Args, NAME};
-
     use super::{ElfCommand, ElfCommandError, Files, edit_file};
+    pub use elf_commands_lines::commands::apply::{Args, NAME};
 
     /// Edits the file.
     pub fn execute<R: Files + AllocGlobal>(rt: &R, args: Args) -> Result<(), ElfCommandError>
@@ -340,9 +321,8 @@ pub mod apply {
 
 /// `shrink-rpath`: leaves out of the run path the directories that have no needed library.
 pub mod shrink_rpath {
-    pub use elf_commands_lines::commands::shrink_rpath::{Args, NAME};
-
     use super::{ElfCommand, ElfCommandError, Files, shrink_file};
+    pub use elf_commands_lines::commands::shrink_rpath::{Args, NAME};
 
     /// Edits the file. Which directories went is told on the standard error.
     pub fn execute<R: Files + Eprint + AllocGlobal>(
@@ -357,9 +337,8 @@ pub mod shrink_rpath {
 
 /// `rename-symbols`: gives symbols other names, all at once, for link editors and for the loader (gABI, Symbol Table, st_name).
 pub mod rename_symbols {
-    pub use elf_commands_lines::commands::rename_symbols::{Args, NAME};
-
     use super::{ElfCommand, ElfCommandError, Files, edit_file};
+    pub use elf_commands_lines::commands::rename_symbols::{Args, NAME};
 
     /// Edits the file.
     pub fn execute<R: Files + AllocGlobal>(rt: &R, args: Args) -> Result<(), ElfCommandError>
@@ -371,9 +350,8 @@ pub mod rename_symbols {
 
 /// `delete-symbols`: deletes symbols, for link editors and for the loader (gABI, Symbol Table).
 pub mod delete_symbols {
-    pub use elf_commands_lines::commands::delete_symbols::{Args, NAME};
-
     use super::{ElfCommand, ElfCommandError, Files, edit_file};
+    pub use elf_commands_lines::commands::delete_symbols::{Args, NAME};
 
     /// Edits the file.
     pub fn execute<R: Files + AllocGlobal>(rt: &R, args: Args) -> Result<(), ElfCommandError>
@@ -385,9 +363,8 @@ pub mod delete_symbols {
 
 /// `rename-sections`: gives sections other names, all at once (gABI, Sections, sh_name).
 pub mod rename_sections {
-    pub use elf_commands_lines::commands::rename_sections::{Args, NAME};
-
     use super::{ElfCommand, ElfCommandError, Files, edit_file};
+    pub use elf_commands_lines::commands::rename_sections::{Args, NAME};
 
     /// Edits the file.
     pub fn execute<R: Files + AllocGlobal>(rt: &R, args: Args) -> Result<(), ElfCommandError>
@@ -399,9 +376,8 @@ pub mod rename_sections {
 
 /// `delete-sections`: deletes sections, with what goes along (gABI, Sections).
 pub mod delete_sections {
-    pub use elf_commands_lines::commands::delete_sections::{Args, NAME};
-
     use super::{ElfCommand, ElfCommandError, Files, edit_file};
+    pub use elf_commands_lines::commands::delete_sections::{Args, NAME};
 
     /// Edits the file.
     pub fn execute<R: Files + AllocGlobal>(rt: &R, args: Args) -> Result<(), ElfCommandError>
@@ -413,9 +389,8 @@ pub mod delete_sections {
 
 /// `print-rpath`: prints the run path.
 pub mod print_rpath {
-    pub use elf_commands_lines::commands::print_rpath::{Args, NAME};
-
     use super::{ElfCommand, ElfCommandError, Files, print_file};
+    pub use elf_commands_lines::commands::print_rpath::{Args, NAME};
 
     /// Prints to the standard output.
     pub fn execute<R: Files + Print + AllocGlobal>(
@@ -430,9 +405,8 @@ pub mod print_rpath {
 
 /// `print-needed`: prints the needed libraries.
 pub mod print_needed {
-    pub use elf_commands_lines::commands::print_needed::{Args, NAME};
-
     use super::{ElfCommand, ElfCommandError, Files, print_file};
+    pub use elf_commands_lines::commands::print_needed::{Args, NAME};
 
     /// Prints to the standard output.
     pub fn execute<R: Files + Print + AllocGlobal>(
@@ -447,9 +421,8 @@ pub mod print_needed {
 
 /// `print-soname`: prints the library's own name.
 pub mod print_soname {
-    pub use elf_commands_lines::commands::print_soname::{Args, NAME};
-
     use super::{ElfCommand, ElfCommandError, Files, print_file};
+    pub use elf_commands_lines::commands::print_soname::{Args, NAME};
 
     /// Prints to the standard output.
     pub fn execute<R: Files + Print + AllocGlobal>(
@@ -464,9 +437,8 @@ pub mod print_soname {
 
 /// `print-interpreter`: prints the interpreter.
 pub mod print_interpreter {
-    pub use elf_commands_lines::commands::print_interpreter::{Args, NAME};
-
     use super::{ElfCommand, ElfCommandError, Files, print_file};
+    pub use elf_commands_lines::commands::print_interpreter::{Args, NAME};
 
     /// Prints to the standard output.
     pub fn execute<R: Files + Print + AllocGlobal>(
@@ -481,9 +453,8 @@ pub mod print_interpreter {
 
 /// `print-os-abi`: prints the ABI byte.
 pub mod print_os_abi {
-    pub use elf_commands_lines::commands::print_os_abi::{Args, NAME};
-
     use super::{ElfCommand, ElfCommandError, Files, print_file};
+    pub use elf_commands_lines::commands::print_os_abi::{Args, NAME};
 
     /// Prints to the standard output.
     pub fn execute<R: Files + Print + AllocGlobal>(
@@ -498,9 +469,8 @@ pub mod print_os_abi {
 
 /// `print-exec-stack`: prints whether the stack may be run.
 pub mod print_execstack {
-    pub use elf_commands_lines::commands::print_execstack::{Args, NAME};
-
     use super::{ElfCommand, ElfCommandError, Files, print_file};
+    pub use elf_commands_lines::commands::print_execstack::{Args, NAME};
 
     /// Prints to the standard output.
     pub fn execute<R: Files + Print + AllocGlobal>(

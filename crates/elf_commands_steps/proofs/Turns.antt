@@ -61,4 +61,3 @@ pub is_refused : (all : List GroupEdit) (edit : GroupEdit) (rest : List GroupEdi
 is_refused all edit rest first image done e stands refuses =
     let same : 0 + done ≡ done = omega arith in
     subst (λ (i : ℕ). RefuseInTurn all first i e) same (stands.refuses 0 e (inl (refl, refuses)))
-

@@ -14,8 +14,8 @@ use crate::error::ElfCommandError;
 use crate::files::{ElfContainer, ElfError, ProbeAnswer, Removed, write_whole};
 use crate::images::{changed_bytes, pieces_of};
 use crate::probing::removal_text;
-use elf_commands_lines::texts_of;
 use byte_store::Difference;
+use elf_commands_lines::texts_of;
 use std::alloc::Global;
 use std::io::Write;
 

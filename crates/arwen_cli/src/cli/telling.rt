@@ -7,9 +7,9 @@ ghost use Rattle.arwen_cli_faults.specs.Groups.{group_model};
 
 use crate::cli::Command;
 use crate::cli::line::read_line;
-use arwen_cli_parser::LineError;
 use arwen_cli_faults::commands::GroupEdit;
 use arwen_cli_faults::{ArwenError, causes_text, edits_of, file_fault_line};
+use arwen_cli_parser::LineError;
 use command_words::FileBytes;
 use std::alloc::{AllocError, Global};
 

@@ -10,12 +10,11 @@ ghost use Rattle.elf_commands_lines.specs.Meaning.{elf_file_of, elf_command_mode
 ghost use Rattle.elf_commands.specs.Noting.{TellsWantedAt};
 
 use crate::asked::asked_by;
-use elf_commands_lines::ElfCommand;
 use crate::elf::engine::pieces_asked;
 use crate::elf::opening::open_path;
 use byte_store::Store;
 use command_words::{NotDone, Notes, OpensOnce, RegularFiles, load};
-use elf_commands_lines::{GroupEdit};
+use elf_commands_lines::{ElfCommand, GroupEdit};
 use elf_commands_steps::{ElfCommandError, make_opened, tell};
 use std::alloc::Global;
 use std::rt::Files;

@@ -16,14 +16,13 @@ ghost use Rattle.elf_commands.specs.Noting.{TellsWantedAt};
 ghost use Rattle.elf_commands.specs.Prints.{Prints, TellsElf, printed};
 
 use crate::asked::asked_by;
-use elf_commands_lines::ElfCommand;
 use crate::elf::shrinking::run_shrink;
 use crate::elf::typed::{edit_bytes, edited_pieces};
 use byte_store::Difference;
 use command_words::Notes;
+use elf_commands_lines::{ElfCommand, GroupEdit};
+use elf_commands_steps::ElfCommandError;
 use elf_commands_steps::files::{ElfContainer, ElfError, ProbeAnswer};
-use elf_commands_lines::{GroupEdit};
-use elf_commands_steps::{ElfCommandError};
 use std::alloc::Global;
 use std::io::Write;
 

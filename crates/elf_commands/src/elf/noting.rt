@@ -9,8 +9,8 @@ ghost use Rattle.elf_notes.specs.Notes.{AreFindings, AreLeft};
 ghost use Rattle.elf_notes.specs.declared.notes.ElfNotes.{ElfNotes};
 
 use command_words::Notes;
-use elf_commands_steps::files::ElfContainer;
 use elf_commands_lines::{GroupEdit, has_symbols, plain_edits};
+use elf_commands_steps::files::ElfContainer;
 use elf_commands_steps::{ElfCommandError, apply_batch, apply_edits};
 use elf_edits::ElfEdit;
 use elf_notes::{Findings, findings_of, note_lines, notes_of};

@@ -8,11 +8,11 @@ ghost use Rattle.elf_commands_lines.specs.Meaning.{elf_file_of, elf_command_mode
 ghost use Rattle.elf_commands.specs.Prints.{PrintMayFail, Prints, PrintsStored, StopsWriting, TellsPrint, TellsStored, printed};
 ghost use Rattle.elf_image.specs.Image.{image_of, shown};
 
-use elf_commands_lines::ElfCommand;
 use crate::elf::engine::print_asked;
 use crate::elf::opening::open_path;
 use byte_store::Store;
 use command_words::{NotDone, OpensOnce, RegularFiles, load};
+use elf_commands_lines::ElfCommand;
 use elf_commands_steps::ElfCommandError;
 use elf_commands_steps::files::{CountedWrite, ElfContainer, ElfError, Sink, write_all_counted};
 use std::alloc::{AllocError, Global};

@@ -16,7 +16,10 @@ use byte_store::Store;
 use command_words::{NotDone, OpensOnce, RegularFiles, load};
 use elf_commands_steps::files::{CountedWrite, ElfContainer, ProbeAnswer, Sink, write_all_counted};
 use elf_commands_steps::laws::lists_are_their_edits;
-use elf_commands_steps::{ElfCommandError, FileProbe, Probe, Shrunk, StandardError, answers_of, make_opened, pieces_by_answers, shrink_image, tell_removed};
+use elf_commands_steps::{
+    ElfCommandError, FileProbe, Probe, Shrunk, StandardError, answers_of, make_opened,
+    pieces_by_answers, shrink_image, tell_removed,
+};
 use elf_image::laws::read_images_hold_parts;
 use std::alloc::Global;
 use std::io::Write;
