@@ -1,6 +1,6 @@
 -- What patchelf's options ask for: edits, each with the option that asks for it.
 use Rattle.std.specs.Prelude.{◌++◌, List, [], ◌∷◌, map, Option, Some, None, codes, if◌then◌else◌}
-use Rattle.elf_commands_steps.specs.Groups.{GroupEdit, plain}
+use Rattle.elf_commands_lines.specs.Groups.{GroupEdit, plain}
 use Rattle.elf_edits.specs.Edit.{AddDebugTag, AddNeeded, AddRpath, AllowDynamicMove, ClearExecStack, ClearSymbolVersion, RemoveNeeded, RemoveRpath, Edit}
 use Rattle.elf_edits.specs.Edit.{NoDefaultLib, RenameDynamicSymbols, ReplaceLibrary, SetExecStack, SetInterpreter, SetOsAbi, SetRpath, SetSoname, ForceRpath}
 use Rattle.elf_edits.specs.EditModel.{edit_model}

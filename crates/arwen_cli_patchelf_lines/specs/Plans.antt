@@ -1,7 +1,7 @@
 -- What a line asks of the bytes of each of its files.
 use Rattle.std.specs.Prelude.{ℕ, ◌==◌, List, [], map, Option, Some, None, codes, if◌then◌else◌, option_map, slice_get, string_bytes, unwrap_or}
 use Rattle.std.specs.List.{slice_split}
-use Rattle.elf_commands_steps.specs.Groups.{GroupEdit, group_model}
+use Rattle.elf_commands_lines.specs.Groups.{GroupEdit, group_model}
 use Rattle.arwen_cli_peers.specs.Asked.{is_given, last_of}
 use Rattle.arwen_cli_peers.specs.Options.{Asked, Text}
 use Rattle.command_words.specs.Parts.{without_empty}

@@ -1,6 +1,6 @@
 //! What a line asks of the bytes of each of its files.
 ghost use Rattle.std.specs.Prelude.{◌≡◌, IfOk, map, option_map, string_bytes};
-ghost use Rattle.elf_commands_steps.specs.Groups.{group_model};
+ghost use Rattle.elf_commands_lines.specs.Groups.{group_model};
 ghost use Rattle.arwen_cli_peers.specs.Asked.{asked_model};
 ghost use Rattle.arwen_cli_patchelf_lines.specs.OptionEdits.{planned_model, with_leave};
 ghost use Rattle.arwen_cli_patchelf_lines.specs.Plans.{option_of as option_asking, plan_model, plan_of_options, prefixes_asked, prefixes_in as prefixes_named, shrinks_of_options};
@@ -9,7 +9,7 @@ use crate::option_edits::{OptionEdit, planned_edits};
 use arwen_cli_peers::AskedOption;
 use arwen_cli_peers::asked::{is_given, last_of};
 use command_words::{copies, filled_parts};
-use elf_commands_steps::GroupEdit;
+use elf_commands_lines::GroupEdit;
 use elf_edits::ElfEdit;
 use std::alloc::{AllocError, Global};
 

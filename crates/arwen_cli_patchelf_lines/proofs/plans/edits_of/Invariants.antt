@@ -1,5 +1,5 @@
 use Rattle.std.proofs.Common.{◌≡◌, map}
-use Rattle.elf_commands_steps.specs.Groups.{group_model, plain}
+use Rattle.elf_commands_lines.specs.Groups.{group_model, plain}
 use Rattle.arwen_cli_patchelf_lines.specs.OptionEdits.{planned_model}
 use Rattle.arwen_cli_patchelf_lines.proofs.plans.edits_of.Given as goal
 
