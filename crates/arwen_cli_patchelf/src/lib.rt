@@ -3,11 +3,11 @@
 
 mod error;
 mod first_found;
+mod in_memory;
 mod making;
 mod patching;
 mod print_texts;
 mod printing;
-mod steps;
 mod unheard;
 mod writing;
 

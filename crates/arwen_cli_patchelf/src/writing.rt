@@ -145,7 +145,10 @@ fn made_of<S: Store, P: Probe>(
         (S.failed store.old) (S.failed store.new)) }
 {
     let bytes = load(alloc, store)?;
-    made_bytes(alloc, bytes, plan, probe)
+    match made_bytes(alloc, bytes.as_slice(), plan, probe)? {
+        Some(made) => Ok(made),
+        None => Ok(bytes),
+    }
 }
 
 /// Creates a file, and writes bytes to it.

@@ -1,5 +1,5 @@
 use Rattle.std.proofs.Common.{◌≡◌, map, take, string_bytes}
-use Rattle.arwen_cli_patchelf.proofs.steps.texts_copied.Given as goal
+use Rattle.arwen_cli_patchelf.proofs.in_memory.texts_copied.Given as goal
 
 -- the texts so far
 abbrev pub invariant-loop-text : goal.invariant-loop-text
