@@ -1,7 +1,9 @@
 pub mod FirstFound
 pub mod Made
+pub mod OptionEdits
 pub mod Output
 pub mod Patched
+pub mod Plans
 pub mod PrintTexts
 pub mod Printing
 pub use Rattle.elf_commands.specs.Counted

@@ -11,7 +11,7 @@ use Rattle.elf_commands.specs.ElfCommandError.{ElfCommandError}
 use Rattle.elf_commands.specs.ElfCommandError.TheVariants.{Io, Memory}
 use Rattle.elf_commands.specs.Shrinking.{Finding}
 use Rattle.arwen_cli_peers.specs.Options.{Text}
-use Rattle.arwen_cli_patchelf_lines.specs.Plans.{PlanMeant}
+use Rattle.arwen_cli_patchelf.specs.Plans.{PlanMeant}
 use Rattle.arwen_cli_patchelf.specs.FirstFound.{AreFirstFoundIn, TellsFirstShrunk, has_nothing_to_shrink}
 
 -- the prefixes by which run paths shrink, where they do

@@ -2,11 +2,11 @@
 ghost use Rattle.std.specs.Prelude.{ℕ, List, IfErr, IfOk, map};
 ghost use Rattle.elf_commands.specs.ElfEngine.{bytes_left};
 ghost use Rattle.elf_commands.specs.Groups.{group_model};
-ghost use Rattle.arwen_cli_patchelf_lines.specs.Plans.{plan_model};
+ghost use Rattle.arwen_cli_patchelf.specs.Plans.{plan_model};
 ghost use Rattle.arwen_cli_patchelf.specs.Made.{IsEditedWith, IsMadeOf, IsShrunkTo, TellsUnedited, TellsUnmade, TellsUnshrunk, prefixes_model};
 
 use crate::first_found::shrunk_bytes;
-use arwen_cli_patchelf_lines::Plan;
+use crate::plans::Plan;
 use elf_commands::elf::{Probe, edit_each};
 use elf_commands::{ElfCommandError, GroupEdit};
 use std::alloc::Global;

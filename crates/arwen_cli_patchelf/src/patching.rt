@@ -5,12 +5,12 @@ ghost use Rattle.byte_store.specs.Known.{Becomes, IsAll};
 ghost use Rattle.elf_commands.specs.ElfEngine.{bytes_left};
 ghost use Rattle.elf_commands.specs.ElfStores.{WritesEnd};
 ghost use Rattle.elf_commands.specs.Failures.{HasCause, HasCauseAt, HasWriteCause};
-ghost use Rattle.arwen_cli_patchelf_lines.specs.Plans.{plan_model};
+ghost use Rattle.arwen_cli_patchelf.specs.Plans.{plan_model};
 ghost use Rattle.arwen_cli_patchelf.specs.Made.{AsksNothing};
 ghost use Rattle.arwen_cli_patchelf.specs.Patched.{FailsPatch, FailsPatchAt, IsPatched, IsPatchedAt, IsUnwritten};
 
 use crate::making::made_bytes;
-use arwen_cli_patchelf_lines::Plan;
+use crate::plans::Plan;
 use byte_store::{Store, replace};
 use command_words::{NotDone, OpensOnce, load};
 use elf_commands::ElfCommandError;
@@ -83,7 +83,12 @@ pub fn patch_store<S: Store, P: Probe>(
     }
     let bytes = load(alloc, store)?;
     let new = made_bytes(alloc, bytes.as_slice(), plan, probe)?;
-    write_made(alloc, store, bytes.as_slice(), left_of(bytes.as_slice(), &new))
+    write_made(
+        alloc,
+        store,
+        bytes.as_slice(),
+        left_of(bytes.as_slice(), &new),
+    )
 }
 
 /// The bytes that there are after an answer that has new ones, or none.

@@ -7,7 +7,7 @@ use Rattle.arwen_cli_overlaps.specs.ElfAsked.{elf_asked}
 use Rattle.arwen_cli_overlaps.specs.Overlaps.{TellsOverlap}
 use Rattle.arwen_cli_patchelf.specs.ElfCommand.{ElfCommand}
 use Rattle.arwen_cli_patchelf.specs.Meaning.{ElfMeaning, elf_command_model}
-use Rattle.arwen_cli_patchelf_lines.specs.Plans.{PlanMeant}
+use Rattle.arwen_cli_patchelf.specs.Plans.{PlanMeant}
 use Rattle.arwen_cli_runners.specs.Causes.{IsApplyCommand, TellsOverlapOf}
 
 -- a text on two blocks of the bytes that were read

@@ -21,7 +21,7 @@ use Rattle.arwen_cli_patchelf.specs.declared.error.PatchelfError.TheVariants.{Ab
 use Rattle.arwen_cli_patchelf.specs.declared.error.PatchelfError.TheVariants as patchelf
 use Rattle.arwen_cli_patchelf.specs.declared.printing.Print.{Print}
 use Rattle.arwen_cli_patchelf.specs.declared.printing.Print.TheVariants.{ExecStack, Interpreter, Needed, OsAbi, RunPath, Soname}
-use Rattle.arwen_cli_patchelf_lines.specs.Plans.{PlanMeant}
+use Rattle.arwen_cli_patchelf.specs.Plans.{PlanMeant}
 use Rattle.arwen_cli_peers.specs.Options.{Text}
 
 -- ## Causes

@@ -3,7 +3,7 @@ ghost use Rattle.std.specs.Prelude.{◌≡◌, ◌++◌, IfOk, IfSome, codes, de
 ghost use Rattle.byte_store.specs.Known.{IsAll};
 ghost use Rattle.arwen_cli_facts.specs.Reasons.{elf_words as elf_told};
 ghost use Rattle.arwen_cli_facts.specs.Texts.{text_model};
-ghost use Rattle.arwen_cli_patchelf_lines.specs.Plans.{plan_model};
+ghost use Rattle.arwen_cli_patchelf.specs.Plans.{plan_model};
 ghost use Rattle.arwen_cli_runners.specs.Causes.{AreElfCauses, AreElfInner, AreNameCauses, AreNamesInner, IsApplyCommand, IsElfBracket, IsElfFaultLine, IsNamesBracket, IsNamesFaultLine, TellsElfKnown, TellsMachoKnown, TellsOverlapOf, absent_words as absent_told, command_kind as command_kind_of, elf_kind as elf_kind_of, names_kind as names_kind_of};
 
 use crate::ending::{joined, three};

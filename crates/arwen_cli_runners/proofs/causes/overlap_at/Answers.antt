@@ -1,5 +1,5 @@
 -- The command makes the words of the plan.
-use Rattle.arwen_cli_patchelf_lines.specs.Plans.{plan_model}
+use Rattle.arwen_cli_patchelf.specs.Plans.{plan_model}
 use Rattle.arwen_cli_runners.proofs.BracketLaws.{of_blocks}
 use Rattle.arwen_cli_runners.proofs.causes.overlap_at.Goals as goal
 
