@@ -1,3 +1,4 @@
+pub mod EditLaws
 pub mod FirstSteps
 pub mod OutputLaws
 pub mod PatchLaws

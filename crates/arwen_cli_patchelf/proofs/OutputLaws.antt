@@ -4,14 +4,15 @@ use Rattle.std.specs.declared.io.Error.{Error}
 use Rattle.byte_store.specs.declared.reading.ReadError.{ReadError}
 use Rattle.byte_store.specs.declared.reading.ReadError.TheVariants as read
 use Rattle.elf_commands.specs.ElfErrors.{answer_to_read}
+use Rattle.elf_commands.specs.Groups.{GroupEdit}
 use Rattle.command_words.specs.Loading.{IsNotLoaded}
 use Rattle.elf_commands.specs.Failures.{HasReadCause}
 use Rattle.elf_commands.specs.ElfCommandError.{ElfCommandError}
 use Rattle.elf_commands.specs.ElfCommandError.TheVariants.{Edits, Elf, ElfBatch, Io, Memory}
 use Rattle.elf_commands.specs.Shrinking.{Finding}
 use Rattle.arwen_cli_peers.specs.Options.{Text}
-use Rattle.arwen_cli_patchelf_lines.specs.Plans.{PlanMeant}
-use Rattle.arwen_cli_patchelf.specs.Made.{TellsUnapplied, TellsUnmade, TellsUnshrunk}
+use Rattle.arwen_cli_patchelf.specs.Plans.{PlanMeant}
+use Rattle.arwen_cli_patchelf.specs.Made.{TellsUnedited, TellsUnmade, TellsUnshrunk}
 use Rattle.arwen_cli_patchelf.specs.Output.{HasOutputCause, IsCutOff, IsMadeAndCutOff}
 use Rattle.arwen_cli_patchelf.specs.Patched.{HoldsBytes, HoldsKnown, IsMadeKnown, TellsPlanPath}
 
@@ -22,13 +23,13 @@ never_unshrunk : (finds : Finding) (shrinks : Option (List Text)) (file : List �
 never_unshrunk finds None file e tells = tells
 never_unshrunk finds (Some prefixes) file e tells = tells.3
 
-never_unapplied : (words : List Text) (file : List ℕ) (e : Error) → TellsUnapplied words file (Io e) → ⊥
-never_unapplied [] file e tells = tells
-never_unapplied (word ∷ words) file e tells = tells
+never_unedited : (edits : List GroupEdit) (file : List ℕ) (e : Error) → TellsUnedited edits file (Io e) → ⊥
+never_unedited [] file e tells = tells
+never_unedited (edit ∷ edits) file e tells = tells
 
 never_unmade : (finds : Finding) (plan : PlanMeant) (file : List ℕ) (e : Error) → TellsUnmade finds plan file (Io e) → ⊥
 never_unmade finds plan file e (inl tells) = never_unshrunk finds plan.shrinks file e tells
-never_unmade finds plan file e (inr refused) = never_unapplied plan.words refused.between e refused.refused
+never_unmade finds plan file e (inr refused) = never_unedited plan.edits refused.between e refused.refused
 
 pub unmade_cause : (reads : Error → Type 0) (known : Option (List ℕ)) (a b : ℕ) (finds : Finding) (plan : PlanMeant) (file : List ℕ) (e : ElfCommandError) → TellsUnmade finds plan file e → HasReadCause reads known a b e
 unmade_cause reads known a b finds plan file (Io e) tells = absurd (never_unmade finds plan file e tells)

@@ -10,7 +10,7 @@ use Rattle.elf_commands.specs.ElfCommandError.{ElfCommandError}
 use Rattle.elf_commands.specs.ElfCommandError.TheVariants.{Edits, Elf, ElfBatch, Io, Memory}
 use Rattle.elf_commands.specs.ElfStores.{WritesEnd}
 use Rattle.elf_commands.specs.Shrinking.{Finding}
-use Rattle.arwen_cli_patchelf_lines.specs.Plans.{PlanMeant}
+use Rattle.arwen_cli_patchelf.specs.Plans.{PlanMeant}
 use Rattle.arwen_cli_patchelf.specs.Made.{IsMadeOf}
 use Rattle.arwen_cli_patchelf.specs.Patched.{FailsPatch, IsMadeKnown, IsPatchTorn, IsUnwritten}
 

@@ -1,13 +1,13 @@
 pub mod FirstFound
 pub mod Made
+pub mod OptionEdits
 pub mod Output
 pub mod Patched
+pub mod Plans
 pub mod PrintTexts
 pub mod Printing
-pub mod Steps
 pub use Rattle.elf_commands.specs.Counted
 pub use Rattle.elf_commands.specs.ElfCommandError
 pub use Rattle.elf_commands.specs.Failures
-pub use Rattle.elf_commands.specs.Meaning
 pub use Rattle.elf_commands.specs.Shrinking
 pub use Rattle.elf_commands.specs.ElfCommand

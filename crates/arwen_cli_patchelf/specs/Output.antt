@@ -5,7 +5,7 @@ use Rattle.elf_commands.specs.Counted.{Stops}
 use Rattle.elf_commands.specs.ElfCommandError.{ElfCommandError}
 use Rattle.elf_commands.specs.ElfCommandError.TheVariants.{Io}
 use Rattle.elf_commands.specs.Shrinking.{Finding}
-use Rattle.arwen_cli_patchelf_lines.specs.Plans.{PlanMeant}
+use Rattle.arwen_cli_patchelf.specs.Plans.{PlanMeant}
 use Rattle.arwen_cli_patchelf.specs.Patched.{IsMadeKnown}
 
 -- ## Bytes

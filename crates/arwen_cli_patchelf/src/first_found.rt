@@ -15,7 +15,7 @@ ghost use Rattle.elf_commands.specs.Shrinking.{Answers};
 ghost use Rattle.arwen_cli_patchelf.specs.FirstFound.{AreFirstFound, AreFirstFoundIf, AreFirstFoundWhere, TellsFirstShrunk, answers_model, finds_unless, is_found_for, lists_no_run_path};
 ghost use Rattle.arwen_cli_patchelf.specs.Made.{IsShrunkTo};
 
-use crate::steps::{in_memory, texts_copied};
+use crate::in_memory::{in_memory, texts_copied};
 use crate::unheard::Unheard;
 use elf_commands::elf::{Probe, run_elf, shrink_rpath};
 use elf_commands::files::{ElfContainer, ProbeAnswer};

@@ -2,15 +2,15 @@
 ghost use Rattle.std.specs.Prelude.{◌≡◌, None, IfErr, IfOk, IsOkAnd, IsTrue, OnOk};
 ghost use Rattle.byte_store.specs.Fault.{IsOkAndSame};
 ghost use Rattle.byte_store.specs.Known.{Becomes, IsAll};
+ghost use Rattle.elf_commands.specs.ElfEngine.{bytes_left};
 ghost use Rattle.elf_commands.specs.ElfStores.{WritesEnd};
 ghost use Rattle.elf_commands.specs.Failures.{HasCause, HasCauseAt, HasWriteCause};
-ghost use Rattle.arwen_cli_patchelf_lines.specs.Plans.{plan_model};
-ghost use Rattle.arwen_cli_patchelf.specs.Made.{AsksNothing, IsMadeOf, TellsUnmade};
+ghost use Rattle.arwen_cli_patchelf.specs.Plans.{plan_model};
+ghost use Rattle.arwen_cli_patchelf.specs.Made.{AsksNothing};
 ghost use Rattle.arwen_cli_patchelf.specs.Patched.{FailsPatch, FailsPatchAt, IsPatched, IsPatchedAt, IsUnwritten};
 
 use crate::making::made_bytes;
-use crate::steps::apply_if;
-use arwen_cli_patchelf_lines::Plan;
+use crate::plans::Plan;
 use byte_store::{Store, replace};
 use command_words::{NotDone, OpensOnce, load};
 use elf_commands::ElfCommandError;
@@ -55,12 +55,13 @@ pub fn patch_path<'p, O: OpensOnce<'p> + Drop, P: Probe>(
     }
 }
 
-/// Makes a plan of the bytes of a store, all or nothing: run paths shrink, and then the words of `apply` are made of what comes
-/// of that. A plan that asks for nothing looks at nothing. What shrinking leaves out is not told, nor are the notes of the edits.
+/// Makes a plan of the bytes of a store, all or nothing: run paths shrink, and then the edits are made of what comes of that; what
+/// differs is written. A plan that asks for nothing looks at nothing; for any other the store is opened for writing even where
+/// nothing differs. What shrinking leaves out is not told, nor are the notes of the edits.
 ///
 /// # Errors
 ///
-/// Those of `edit_store` of `elf_commands`, and of `made_bytes`.
+/// `Io` with what a read or a write answered, and those of `made_bytes`.
 pub fn patch_store<S: Store, P: Probe>(
     alloc: Global,
     store: &mut S,
@@ -77,47 +78,27 @@ pub fn patch_store<S: Store, P: Probe>(
     ensures cause { IfErr result (HasCause S.may_fail_read S.may_fail_write S.may_take_none
         (S.contents store.old) (S.failed store.old) (S.failed store.new)) }
 {
-    match &plan.shrinks {
-        None => apply_if(alloc, store, plan.words.as_slice()),
-        Some(_) => remake(alloc, store, plan, probe),
+    if asks_nothing(plan) {
+        return Ok(());
     }
-}
-
-/// Makes a plan of the bytes of a store in memory, and writes what differs. The store is opened for writing even where nothing
-/// does.
-fn remake<S: Store, P: Probe>(
-    alloc: Global,
-    store: &mut S,
-    plan: &Plan,
-    probe: &P,
-) -> Result<(), ElfCommandError>
-    ensures patched { OnOk result (IsPatched (P.may_find probe.now) (plan_model plan.now)
-        (S.contents store.old) (S.contents store.new)) }
-    ensures left { IfErr result (FailsPatch
-        (WritesEnd S.may_fail_write S.may_take_none (S.failed store.old) (S.failed store.new))
-        (P.may_find probe.now) (plan_model plan.now)
-        (S.contents store.old) (S.contents store.new)) }
-    ensures cause { IfErr result (HasCause S.may_fail_read S.may_fail_write S.may_take_none
-        (S.contents store.old) (S.failed store.old) (S.failed store.new)) }
-{
     let bytes = load(alloc, store)?;
-    let made = made_of_copy(alloc, bytes.as_slice(), plan, probe)?;
-    write_made(alloc, store, bytes.as_slice(), made.as_slice())
+    let new = made_bytes(alloc, bytes.as_slice(), plan, probe)?;
+    write_made(
+        alloc,
+        store,
+        bytes.as_slice(),
+        left_of(bytes.as_slice(), &new),
+    )
 }
 
-/// The bytes that a plan makes of a copy of these.
-fn made_of_copy<P: Probe>(
-    alloc: Global,
-    bytes: &[u8],
-    plan: &Plan,
-    probe: &P,
-) -> Result<Vec<u8>, ElfCommandError>
-    ensures made { IfOk result (λ made. IsMadeOf (P.may_find probe.now) (plan_model plan.now)
-        bytes.now made.items) }
-    ensures err { IfErr result
-        (TellsUnmade (P.may_find probe.now) (plan_model plan.now) bytes.now) }
+/// The bytes that there are after an answer that has new ones, or none.
+fn left_of<'b>(bytes: &'b [u8], new: &'b Option<Vec<u8>>) -> &'b [u8]
+    ensures { result.now ≡ bytes_left bytes.entry.now new.entry.now }
 {
-    made_bytes(alloc, Vec::from_slice(alloc, bytes)?, plan, probe)
+    match new {
+        Some(new) => new.as_slice(),
+        None => bytes,
+    }
 }
 
 /// Turns the bytes of a store into others, and opens it for writing even where they are the same.
@@ -145,5 +126,5 @@ fn asks_nothing(plan: &Plan) -> bool
     ensures yes { IsTrue result → AsksNothing (plan_model plan.now) }
     ensures no { AsksNothing (plan_model plan.now) → IsTrue result }
 {
-    plan.shrinks.is_none() && plan.words.is_empty()
+    plan.shrinks.is_none() && plan.edits().is_empty()
 }

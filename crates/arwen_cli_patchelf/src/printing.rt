@@ -6,7 +6,7 @@ ghost use Rattle.elf_image.specs.Image.{image_of};
 ghost use Rattle.elf_commands.specs.ElfCommandError.TheVariants.{Io};
 ghost use Rattle.elf_commands.specs.Failures.{HasReadCause, HasReadCauseAt};
 ghost use Rattle.elf_commands.specs.Prints.{PrintMayFail, StopsWriting};
-ghost use Rattle.arwen_cli_peers.specs.EditWords.{asked_model};
+ghost use Rattle.arwen_cli_peers.specs.Asked.{asked_model};
 ghost use Rattle.arwen_cli_patchelf.specs.Printing.{IfCommand, IsKeptFor, IsPrinted, IsPrintedOf, IsReadFor, PrintsAll, TellsPrint, TellsPrintOf, TellsPrints, option_for, prints_among, prints_asked as prints_meant};
 ghost use Rattle.arwen_cli_patchelf.specs.declared.error.PatchelfError.TheVariants.{Command};
 

@@ -6,12 +6,12 @@ ghost use Rattle.elf_commands.specs.Counted.{sink_failures, sink_inner};
 ghost use Rattle.elf_commands.specs.ElfCommandError.TheVariants.{Io};
 ghost use Rattle.elf_commands.specs.ElfStores.{IsKeptAt};
 ghost use Rattle.elf_commands.specs.Failures.{HasReadCause, HasReadCauseAt};
-ghost use Rattle.arwen_cli_patchelf_lines.specs.Plans.{plan_model};
+ghost use Rattle.arwen_cli_patchelf.specs.Plans.{plan_model};
 ghost use Rattle.arwen_cli_patchelf.specs.Output.{HasOutputCause, IsCutOff, StopsIn};
 ghost use Rattle.arwen_cli_patchelf.specs.Patched.{HoldsBytes, HoldsKnown, IsMadeKnown, TellsPlanPath};
 
 use crate::making::made_bytes;
-use arwen_cli_patchelf_lines::Plan;
+use crate::plans::Plan;
 use byte_store::{Creates, Store};
 use command_words::{NotDone, OpensOnce, load};
 use elf_commands::ElfCommandError;
@@ -145,7 +145,10 @@ fn made_of<S: Store, P: Probe>(
         (S.failed store.old) (S.failed store.new)) }
 {
     let bytes = load(alloc, store)?;
-    made_bytes(alloc, bytes, plan, probe)
+    match made_bytes(alloc, bytes.as_slice(), plan, probe)? {
+        Some(made) => Ok(made),
+        None => Ok(bytes),
+    }
 }
 
 /// Creates a file, and writes bytes to it.

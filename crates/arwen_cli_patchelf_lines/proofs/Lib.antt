@@ -1,3 +1,2 @@
-pub mod EditLaws
 pub mod MapLaws
 pub mod ValueLaws

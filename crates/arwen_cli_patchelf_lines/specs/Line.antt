@@ -4,7 +4,6 @@ use Rattle.byte_store.specs.declared.reading.ReadError.{ReadError}
 use Rattle.arwen_cli_peers.specs.Asked.{asked_model, last_of}
 use Rattle.arwen_cli_peers.specs.Options.{Asked, TellsWrong, Text, line_of, values_of}
 use Rattle.arwen_cli_peers.specs.Tables.{patchelf_known}
-use Rattle.arwen_cli_patchelf_lines.specs.Plans.{plan_of_options, plan_model}
 use Rattle.arwen_cli_patchelf_lines.specs.Refusals.{is_asked, line_refused, refused_model}
 use Rattle.arwen_cli_patchelf_lines.specs.Values.{AreResolved, IsRefusedAmong}
 use Rattle.arwen_cli_patchelf_lines.specs.declared.line.Line.{Line}
@@ -23,7 +22,6 @@ pub record IsLineOf (files : List Text) (asked : List Asked) (line : Line) : Typ
   pub options : map asked_model line.asked.items ≡ asked
   pub paths : map string_bytes line.paths.items ≡ files
   pub output : option_map string_bytes line.output ≡ last_of (codes "--output") asked
-  pub plan : plan_model line.plan ≡ plan_of_options asked
 
 -- What options ask for with their values, of which some stand in files; of the bytes at paths this is known.
 pub record ReadsGiven (known : Text → Option (List ℕ)) (given : List Asked) (files : List Text) (line : Line) : Type 0 where

@@ -7,7 +7,6 @@ ghost use Rattle.arwen_cli_patchelf_lines.specs.Line.{IsErrorOf, IsLineOf, Reads
 ghost use Rattle.arwen_cli_patchelf_lines.specs.Refusals.{is_asked as is_shrinking};
 ghost use Rattle.arwen_cli_patchelf_lines.specs.Values.{AreResolved};
 
-use crate::plans::{Plan, plan_of};
 use crate::refusals::{Refused, is_asked, line_refusal};
 use crate::values::{ValueCause, ValueRefused, resolved};
 use arwen_cli_peers::asked::last_of;
@@ -26,8 +25,6 @@ pub struct Line {
     pub paths: Vec<String>,
     /// The file that is written in the place of the one that is named.
     pub output: Option<String>,
-    /// What it asks of the bytes of each file.
-    pub plan: Plan,
 }
 
 /// Why a line isn't done.
@@ -160,11 +157,9 @@ fn line_of(alloc: Global, asked: Vec<AskedOption>, paths: Vec<String>) -> Result
         (IsLineOf (map string_bytes paths.items) (map asked_model asked.items)) }
 {
     let output = last_of(alloc, asked.as_slice(), "--output")?;
-    let plan = plan_of(alloc, asked.as_slice())?;
     Ok(Line {
         asked,
         paths,
         output,
-        plan,
     })
 }

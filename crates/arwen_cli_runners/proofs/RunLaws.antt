@@ -10,7 +10,7 @@ use Rattle.arwen_cli_patchelf.specs.Made.{AsksNothing, IsAppliedTo, IsShrunkTo}
 use Rattle.arwen_cli_patchelf.specs.Patched.{HoldsKnown, IsPatchedAt}
 use Rattle.arwen_cli_patchelf.specs.declared.error.PatchelfError.{PatchelfError}
 use Rattle.arwen_cli_patchelf.specs.declared.printing.Print.{Print}
-use Rattle.arwen_cli_patchelf_lines.specs.Plans.{PlanMeant}
+use Rattle.arwen_cli_patchelf.specs.Plans.{PlanMeant}
 use Rattle.arwen_cli_runners.specs.Endings.{EndsReadLine}
 use Rattle.arwen_cli_runners.specs.Runs.{AreDone, CanBeMade, EndsFiles, IsDone, IsFaultEnding, Stops, StopsAt}
 use Rattle.arwen_cli_runners.specs.declared.ending.Ending.{Ending}

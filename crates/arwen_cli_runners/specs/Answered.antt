@@ -5,7 +5,7 @@ use Rattle.arwen_cli_patchelf.specs.Failures.{HasCauseAt, HasReadCauseAt}
 use Rattle.arwen_cli_patchelf.specs.ElfCommandError.{ElfCommandError}
 use Rattle.arwen_cli_patchelf.specs.Output.{HasOutputCause}
 use Rattle.arwen_cli_patchelf.specs.Shrinking.{Finding}
-use Rattle.arwen_cli_patchelf_lines.specs.Plans.{PlanMeant}
+use Rattle.arwen_cli_patchelf.specs.Plans.{PlanMeant}
 use Rattle.arwen_cli_peers.specs.Options.{Text}
 
 -- What is known of files that are opened: their bytes, which errors an opening, a read and a write may answer, and how many calls

@@ -7,7 +7,7 @@ use Rattle.arwen_cli_install_names.specs.declared.line.NameLine.{NameLine}
 use Rattle.arwen_cli_install_names.specs.declared.line.NameLineError.{NameLineError}
 use Rattle.arwen_cli_patchelf.specs.declared.error.PatchelfError.{PatchelfError}
 use Rattle.arwen_cli_patchelf_lines.specs.Line.{ReadsLine, TellsLine}
-use Rattle.arwen_cli_patchelf_lines.specs.Plans.{PlanMeant}
+use Rattle.arwen_cli_patchelf.specs.Plans.{PlanMeant}
 use Rattle.arwen_cli_patchelf_lines.specs.declared.line.Line.{Line}
 use Rattle.arwen_cli_patchelf_lines.specs.declared.line.LineError.{LineError}
 use Rattle.arwen_cli_peers.specs.Options.{Text, help, line_of, version}

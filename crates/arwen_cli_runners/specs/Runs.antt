@@ -9,7 +9,7 @@ use Rattle.arwen_cli_patchelf.specs.Printing.{IfCommand, PrintsAll, TellsPrints}
 use Rattle.arwen_cli_patchelf.specs.declared.error.PatchelfError.{PatchelfError}
 use Rattle.arwen_cli_patchelf.specs.declared.error.PatchelfError.TheVariants.{Absent, Command}
 use Rattle.arwen_cli_patchelf.specs.declared.printing.Print.{Print}
-use Rattle.arwen_cli_patchelf_lines.specs.Plans.{PlanMeant}
+use Rattle.arwen_cli_patchelf.specs.Plans.{PlanMeant}
 use Rattle.arwen_cli_runners.specs.Causes.{IsElfFaultLine}
 use Rattle.arwen_cli_runners.specs.declared.ending.Ending.{Ending}
 use Rattle.arwen_cli_runners.specs.declared.ending.Ending.TheVariants.{Done, Failed, Told}

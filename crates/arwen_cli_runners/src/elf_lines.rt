@@ -3,7 +3,7 @@ ghost use Rattle.std.specs.Prelude.{◌≡◌, IfErr, IfOk, OnOk, map, option_ma
 ghost use Rattle.arwen_cli_patchelf.specs.Counted.{sink_failures, sink_inner};
 ghost use Rattle.arwen_cli_patchelf.specs.Patched.{TellsPlanPath};
 ghost use Rattle.arwen_cli_patchelf.specs.Printing.{IfCommand, PrintsAll, TellsPrints};
-ghost use Rattle.arwen_cli_patchelf_lines.specs.Plans.{plan_model};
+ghost use Rattle.arwen_cli_patchelf.specs.Plans.{plan_model};
 ghost use Rattle.arwen_cli_runners.specs.Answered.{IsAnswered, IsEditAnswered, IsOutputAnswered, IsPrintAnswered, known_files, known_outputs};
 ghost use Rattle.arwen_cli_runners.specs.Runs.{CanBeMade, EndsFiles, IsDone, IsFaultEnding, Stops};
 

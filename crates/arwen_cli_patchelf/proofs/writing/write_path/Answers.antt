@@ -1,6 +1,6 @@
 -- The store that was opened is the one at the path.
 use Rattle.elf_commands.specs.Counted.{sink_failures, sink_inner}
-use Rattle.arwen_cli_patchelf_lines.specs.Plans.{plan_model}
+use Rattle.arwen_cli_patchelf.specs.Plans.{plan_model}
 use Rattle.arwen_cli_patchelf.proofs.OutputLaws.{output_cause_at}
 use Rattle.arwen_cli_patchelf.proofs.writing.write_path.Goals as goal
 

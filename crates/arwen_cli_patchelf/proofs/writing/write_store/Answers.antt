@@ -2,7 +2,7 @@
 use Rattle.std.proofs.lemmas.Result.{IfErr-weaker, IfOk-weaker}
 use Rattle.elf_commands.specs.Counted.{sink_failures, sink_inner}
 use Rattle.elf_commands.specs.Failures.{HasReadCause}
-use Rattle.arwen_cli_patchelf_lines.specs.Plans.{plan_model}
+use Rattle.arwen_cli_patchelf.specs.Plans.{plan_model}
 use Rattle.arwen_cli_patchelf.proofs.OutputLaws.{cut_off_cause, cut_off_tells, holds_made}
 use Rattle.arwen_cli_patchelf.proofs.writing.write_store.Goals as goal
 

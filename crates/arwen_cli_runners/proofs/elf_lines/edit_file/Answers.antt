@@ -1,5 +1,5 @@
 -- The plan asks for nothing where no store was opened for it.
-use Rattle.arwen_cli_patchelf_lines.specs.Plans.{plan_model}
+use Rattle.arwen_cli_patchelf.specs.Plans.{plan_model}
 use Rattle.arwen_cli_runners.proofs.RunLaws.{patched_made}
 use Rattle.arwen_cli_runners.proofs.elf_lines.edit_file.Goals as goal
 

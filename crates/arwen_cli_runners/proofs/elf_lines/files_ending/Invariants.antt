@@ -1,7 +1,7 @@
 use Rattle.std.proofs.Common.{Bor, drop}
 use Rattle.std.specs.Prelude.{option_map}
 use Rattle.arwen_cli_patchelf.specs.Counted.{sink_failures, sink_inner}
-use Rattle.arwen_cli_patchelf_lines.specs.Plans.{plan_model}
+use Rattle.arwen_cli_patchelf.specs.Plans.{plan_model}
 use Rattle.arwen_cli_peers.specs.Options.{Text}
 use Rattle.arwen_cli_runners.specs.Answered.{IsAnswered, known_files, known_outputs}
 use Rattle.arwen_cli_runners.proofs.RunLaws.{Leads}

@@ -1,5 +1,5 @@
 -- The file that was created holds what the plan makes, or an error has its cause.
-use Rattle.arwen_cli_patchelf_lines.specs.Plans.{plan_model}
+use Rattle.arwen_cli_patchelf.specs.Plans.{plan_model}
 use Rattle.arwen_cli_runners.proofs.RunLaws.{held_made}
 use Rattle.arwen_cli_runners.proofs.elf_lines.write_file.Goals as goal
 

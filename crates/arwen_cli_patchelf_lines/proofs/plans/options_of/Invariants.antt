@@ -1,7 +1,0 @@
-use Rattle.std.proofs.Common.{◌≡◌, map, take}
-use Rattle.arwen_cli_patchelf_lines.specs.OptionEdits.{planned_model}
-use Rattle.arwen_cli_patchelf_lines.proofs.plans.options_of.Given as goal
-
--- the options so far
-abbrev pub invariant-loop-one : goal.invariant-loop-one
-invariant-loop-one l = map (λ option. option.now) l.options.items ≡ map (λ one. one.option) (map planned_model (take l.one-index l.planned))
