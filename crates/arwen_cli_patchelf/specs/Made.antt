@@ -1,12 +1,12 @@
 -- What plans make of the bytes of a file, and why they make nothing.
-use Rattle.std.specs.Prelude.{ℕ, ◌≡◌, ◌⊎◌, List, [], ◌∷◌, Bool, true, false, map, Option, Some, None, option_map, string_bytes, ⊤}
+use Rattle.std.specs.Prelude.{ℕ, ◌≡◌, ◌⊎◌, List, [], ◌∷◌, Bool, true, false, map, Option, Some, None, option_map, string_bytes, Ok, ⊤}
 use Rattle.std.specs.declared.alloc.Global.{Global}
 use Rattle.std.specs.declared.string.String.{String}
 use Rattle.std.specs.declared.vec.Vec.{Vec}
 use Rattle.elf_edits.specs.Edit.{Answer, ShrinkRpath}
-use Rattle.elf_commands.specs.ElfAsked.{in_turn, one}
-use Rattle.elf_commands.specs.ElfEngine.{AreEditedInTurn, LeavesElf, TellsEdit, bytes_left}
-use Rattle.elf_commands.specs.Groups.{GroupEdit}
+use Rattle.elf_commands.specs.ElfAsked.{one, several}
+use Rattle.elf_commands.specs.ElfEngine.{IsEditedBy, LeavesElf, TellsEdit, bytes_left}
+use Rattle.elf_commands.specs.Groups.{GroupEdit, plain}
 use Rattle.elf_commands.specs.ElfCommandError.{ElfCommandError}
 use Rattle.elf_commands.specs.ElfCommandError.TheVariants.{Io, Memory}
 use Rattle.elf_commands.specs.Shrinking.{Finding}
@@ -24,7 +24,7 @@ prefixes_model shrinks = option_map (λ prefixes. map string_bytes prefixes.item
 abbrev pub IsShrunkUnless : Bool → Finding → List Text → List ℕ → List ℕ → Type 0
 IsShrunkUnless true finds prefixes file new = new ≡ file
 IsShrunkUnless false finds prefixes file new =
-    (answers : List Answer) × AreFirstFoundIn finds prefixes file answers × LeavesElf (one (ShrinkRpath prefixes answers)) file new
+    (answers : List Answer) × AreFirstFoundIn finds prefixes file answers × LeavesElf (one (plain (ShrinkRpath prefixes answers))) file new
 
 -- bytes with run paths that shrank, where they are to; without this step, and of a file without a run path, they stay
 abbrev pub IsShrunkTo : Finding → Option (List Text) → List ℕ → List ℕ → Type 0
@@ -33,7 +33,7 @@ IsShrunkTo finds (Some prefixes) file new = IsShrunkUnless (has_nothing_to_shrin
 
 -- the bytes that edits leave of a file
 abbrev pub LeaveEdits : List GroupEdit → List ℕ → List ℕ → Type 0
-LeaveEdits edits file new = (answer : Option (Vec ℕ Global)) × AreEditedInTurn edits file answer × (new ≡ bytes_left file answer)
+LeaveEdits edits file new = (answer : Option (Vec ℕ Global)) × IsEditedBy edits file answer × (new ≡ bytes_left file answer)
 
 -- bytes with edits; without edits they stay
 abbrev pub IsEditedWith : List GroupEdit → List ℕ → List ℕ → Type 0
@@ -47,7 +47,7 @@ TellsUnshrunk finds (Some prefixes) file e = TellsFirstShrunk finds prefixes fil
 
 abbrev pub TellsUnedited : List GroupEdit → List ℕ → ElfCommandError → Type 0
 TellsUnedited [] file e = ⊥
-TellsUnedited (edit ∷ edits) file e = TellsEdit (in_turn (edit ∷ edits)) file e
+TellsUnedited (edit ∷ edits) file e = TellsEdit (several (Ok (edit ∷ edits))) file e
 
 -- ## A plan
 

@@ -1,19 +1,14 @@
 //! Why files aren't edited, in words.
-ghost use Rattle.std.specs.Prelude.{◌≡◌, IfOk, map, string_bytes};
-ghost use Rattle.arwen_cli_faults.specs.Asked.{AreEditsOf};
+ghost use Rattle.std.specs.Prelude.{◌≡◌, IfOk, string_bytes};
 ghost use Rattle.arwen_cli_faults.specs.Fault.{answer_to_elf_command};
-ghost use Rattle.arwen_cli_faults.specs.Groups.{group_model};
-ghost use Rattle.arwen_cli_patchelf.specs.Made.{words_ask};
-ghost use Rattle.arwen_cli_patchelf_lines.specs.Plans.{plan_model};
-ghost use Rattle.arwen_cli_runners.specs.Causes.{IsApplyCommand, IsElfFaultLine, IsNamesFaultLine, TellsCommand, TellsElf, TellsNames, absent_words as absent_told};
+ghost use Rattle.arwen_cli_patchelf.specs.Plans.{plan_model};
+ghost use Rattle.arwen_cli_runners.specs.Causes.{IsElfFaultLine, IsNamesFaultLine, TellsCommand, TellsEdits, TellsElf, TellsNames, absent_words as absent_told};
 
-use crate::ending::joined;
-use arwen_cli_faults::{ArwenError, edits_of, file_fault_line, file_line};
+use crate::ending::{joined, three};
+use arwen_cli_faults::{ArwenError, file_fault_line, file_line};
 use arwen_cli_install_names::NamesError;
-use arwen_cli_patchelf::commands::elf::apply;
-use arwen_cli_patchelf::commands::{ElfCommand, ElfCommandError, GroupEdit};
-use arwen_cli_patchelf::{PatchelfError, Print};
-use arwen_cli_patchelf_lines::Plan;
+use arwen_cli_patchelf::commands::ElfCommandError;
+use arwen_cli_patchelf::{PatchelfError, Plan, Print};
 use command_words::FileBytes;
 use std::alloc::{AllocError, Global};
 
@@ -46,7 +41,7 @@ fn absent_words(print: Print) -> &'static str
     }
 }
 
-/// What is told where a command isn't done.
+/// What is told where the edits of a plan aren't made: of an edit that is refused, first the option that asks for it.
 fn command_line<F: FileBytes>(
     alloc: Global,
     files: &F,
@@ -57,36 +52,37 @@ fn command_line<F: FileBytes>(
     ensures { IfOk result (λ told. TellsCommand (plan_model plan.now)
         (F.contents files.now path.now) path.now error (string_bytes told)) }
 {
-    let edits = plan_edits(alloc, plan)?;
+    match error {
+        ElfCommandError::ElfBatch(refused) => {
+            let option = plan.option_of(refused.index);
+            let told = edits_line(
+                alloc,
+                files,
+                plan,
+                path,
+                ElfCommandError::Elf(refused.fault),
+            )?;
+            three(alloc, option, ": ", told.as_str())
+        }
+        error => edits_line(alloc, files, plan, path, error),
+    }
+}
+
+/// What is told of a fault of the edits of a plan.
+fn edits_line<F: FileBytes>(
+    alloc: Global,
+    files: &F,
+    plan: &Plan,
+    path: &str,
+    error: ElfCommandError,
+) -> Result<String, AllocError>
+    ensures { IfOk result (λ told. TellsEdits (plan_model plan.now)
+        (F.contents files.now path.now) path.now error (string_bytes told)) }
+{
     let fault = ArwenError::from(error);
-    let told = file_fault_line(alloc, files, path, edits.as_slice(), &fault);
+    let told = file_fault_line(alloc, files, path, plan.edits(), &fault);
     drop(fault);
     told
-}
-
-/// The edits that the words of a plan ask for.
-fn plan_edits(alloc: Global, plan: &Plan) -> Result<Vec<GroupEdit>, AllocError>
-    ensures { IfOk result (λ edits. AreEditsOf (words_ask (plan_model plan.now).words)
-        (map group_model edits.items)) }
-{
-    let command = apply_command(alloc, plan)?;
-    let edits = edits_of(alloc, &command);
-    drop(command);
-    edits
-}
-
-/// The command `apply` with the words of a plan, and with leave that the dynamic section moves.
-fn apply_command(alloc: Global, plan: &Plan) -> Result<ElfCommand, AllocError>
-    ensures { IfOk result (IsApplyCommand (plan_model plan.now)) }
-{
-    let mut edits = Vec::new(alloc);
-    for word in plan.words.as_slice() {
-        edits.push(String::from_str(alloc, word.as_str())?)?;
-    }
-    Ok(ElfCommand::ApplyMoving(apply::Args {
-        path_to_binary: String::new(alloc),
-        edits,
-    }))
 }
 
 /// The line that tells why the Mach-O file at a path isn't edited: the causes, and in brackets what the last one leaves open,

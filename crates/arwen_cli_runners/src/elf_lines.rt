@@ -13,7 +13,7 @@ use arwen_cli_patchelf::commands::ElfCommandError;
 use arwen_cli_patchelf::commands::elf::Probe;
 use arwen_cli_patchelf::commands::files::CountedWrite;
 use arwen_cli_patchelf::{NotWritten, PatchelfError, Print, patch_path, print_path, write_path};
-use arwen_cli_patchelf_lines::Plan;
+use arwen_cli_patchelf::Plan;
 use byte_store::{Creates, Opens};
 use command_words::{FileBytes, NotDone};
 use std::alloc::{AllocError, Global};
