@@ -5,7 +5,7 @@ use Rattle.arwen_cli_install_names.specs.Line.NameRefusal.{no_file as names_none
 use Rattle.arwen_cli_install_names.specs.declared.line.NameLineError.{NameLineError}
 use Rattle.arwen_cli_install_names.specs.declared.line.NameLineError.TheVariants as name_error
 use Rattle.arwen_cli_patchelf_lines.specs.Refusals.{Refusal, refused_model}
-use Rattle.arwen_cli_patchelf_lines.specs.Refusals.Refusal.{absent, equals, no_file, plus, set_and_add, several_files}
+use Rattle.arwen_cli_patchelf_lines.specs.Refusals.Refusal.{absent, no_file, set_and_add, several_files}
 use Rattle.arwen_cli_patchelf_lines.specs.declared.line.LineError.{LineError}
 use Rattle.arwen_cli_patchelf_lines.specs.declared.line.LineError.TheVariants as error
 use Rattle.arwen_cli_patchelf_lines.specs.declared.name_maps.MapWrong.{MapWrong}
@@ -43,8 +43,6 @@ refusal_line (absent option) = codes "patchelf: " ++ (option ++ codes " is absen
 refusal_line no_file = codes "patchelf: no file is named"
 refusal_line several_files = codes "patchelf: --output takes one file"
 refusal_line set_and_add = codes "patchelf: --set-rpath and --add-rpath exclude each other"
-refusal_line (plus option) = codes "patchelf: " ++ (option ++ codes ": a value + is not taken")
-refusal_line (equals option) = codes "patchelf: " ++ (option ++ codes ": an old name with a = is not taken")
 
 -- what is wrong with a line of a map of names
 abbrev pub map_words : MapWrong → Text

@@ -12,7 +12,7 @@ use crate::texts::{name_tool_says, patchelf_says, unread_line, unread_names};
 use arwen_cli_install_names::{NameLine, NamesError, read_name_line};
 use arwen_cli_patchelf::commands::elf::FileProbe;
 use arwen_cli_patchelf::commands::files::Sink;
-use arwen_cli_patchelf::prints_asked;
+use arwen_cli_patchelf::{plan_of, prints_asked};
 use arwen_cli_patchelf_lines::{Line, read_line};
 use byte_store::Opens;
 use command_words::RegularBytes;
@@ -94,11 +94,12 @@ fn run_patchelf<R: Files + Print + AllocGlobal>(rt: &R, line: Line) -> Result<En
     ending
 }
 
-/// The same of a line that is lent.
+/// How a line of patchelf ends that is lent.
 fn run_lent<R: Files + Print + AllocGlobal>(rt: &R, line: &Line) -> Result<Ending, AllocError>
     ensures { IfOk result EndsReadLine }
 {
     let prints = prints_asked(rt.alloc(), line.asked.as_slice())?;
+    let plan = plan_of(rt.alloc(), line.asked.as_slice())?;
     let files = LineFiles { files: rt };
     let probe = FileProbe { files: rt };
     let mut out = Sink::new(io::writer(rt));
@@ -109,7 +110,7 @@ fn run_lent<R: Files + Print + AllocGlobal>(rt: &R, line: &Line) -> Result<Endin
         &RegularBytes { files: rt },
         line.paths.as_slice(),
         prints.as_slice(),
-        &line.plan,
+        &plan,
         output_of(line),
         &probe,
         &mut out,

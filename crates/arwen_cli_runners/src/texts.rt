@@ -173,15 +173,6 @@ fn refused_line(alloc: Global, refused: &Refused) -> Result<String, AllocError>
                 "patchelf: --set-rpath and --add-rpath exclude each other",
             )
         }
-        Refused::Plus(name) => three(alloc, "patchelf: ", *name, ": a value + is not taken"),
-        Refused::Equals(name) => {
-            three(
-                alloc,
-                "patchelf: ",
-                *name,
-                ": an old name with a = is not taken",
-            )
-        }
     }
 }
 

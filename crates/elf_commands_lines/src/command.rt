@@ -308,7 +308,7 @@ impl ElfCommand {
 
     /// The edit that the command asks for; `None` for `apply`, which asks for several, for
     /// `shrink-rpath`, which asks for one by what is found, and for a command that prints.
-    pub(crate) fn group_edit(&self, alloc: Global) -> Result<Option<GroupEdit>, AllocError>
+    pub fn group_edit(&self, alloc: Global) -> Result<Option<GroupEdit>, AllocError>
         ensures { IfOk result (λ edit.
             option_map group_model edit ≡ group_edit_asked (elf_command_model self.now)) }
     {
