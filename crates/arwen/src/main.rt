@@ -4,7 +4,7 @@
 
 use arwen_cli::cli::{ArwenError, RegularBytes, execute, fault_line};
 pub use arwen_cli::{cli, commands, elf, macho, patcher, utils};
-use arwen_cli_runners::{helped_peer, peer_of, run_line};
+use arwen_cli_tools::{helped_peer, peer_of, run_line};
 use std::alloc::{AllocError, Global};
 use std::process::ExitCode;
 use std::{env, io};

@@ -2,8 +2,8 @@
 use Rattle.std.specs.Prelude.{◌&&◌}
 use Rattle.std.proofs.Common.{◌≡◌, ◌∙◌, ◌∷◌, [], Bool, List, ap, false, if◌then◌else◌, refl, subst, true}
 use Rattle.arwen_cli_parser.specs.Asked.{has_option}
-use Rattle.arwen_cli_peers.specs.Flags.{has_flag, is_mark, is_move_word, is_quiet_word, is_sign_word}
-use Rattle.arwen_cli_peers.specs.Lines.{is_elf_line, is_macho_line, is_moving_line, unsigned, without_quiet, without_sign}
+use Rattle.arwen_cli_options.specs.Flags.{has_flag, is_mark, is_move_word, is_quiet_word, is_sign_word}
+use Rattle.arwen_cli_options.specs.Lines.{is_elf_line, is_macho_line, is_moving_line, unsigned, without_quiet, without_sign}
 use Rattle.arwen_cli_parser.proofs.Values.{first_value}
 use Rattle.arwen_cli_parser.proofs.Words.{IsValue}
 use Rattle.command_words.specs.Rows.{Text}

@@ -1,4 +1,4 @@
-pub use Rattle.arwen_cli_peers.specs.Lines
+pub use Rattle.arwen_cli_options.specs.Lines
 pub mod Fault
 pub mod Line
 pub mod Meaning

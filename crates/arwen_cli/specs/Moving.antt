@@ -6,7 +6,7 @@ use Rattle.elf_format.specs.Options.{is_some_and}
 use Rattle.arwen_cli_faults.specs.Meaning.{ElfMeaning, elf_lines}
 use Rattle.arwen_cli_faults.specs.Moving.{meant_moving}
 use Rattle.arwen_cli_parser.specs.Parser.{IsTaken}
-use Rattle.arwen_cli_peers.specs.Lines.{without_move}
+use Rattle.arwen_cli_options.specs.Lines.{without_move}
 
 -- the command of a name is `apply`, or an edit that it takes
 abbrev pub takes_leave : Text → Bool

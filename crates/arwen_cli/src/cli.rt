@@ -3,7 +3,7 @@ ghost use Rattle.std.specs.Prelude.{◌≡◌, false, IfErr, IsSome, OnOk, map};
 ghost use Rattle.arwen_cli.specs.Line.{ElfMayFail, LineMayFail, MachoMayFail, MeaningMayFail, ShowMayFail, meaning_of};
 ghost use Rattle.arwen_cli_parser.specs.Asked.{has_option};
 ghost use Rattle.arwen_cli.specs.Meaning.{shown};
-ghost use Rattle.arwen_cli_peers.specs.Lines.{notes_asked};
+ghost use Rattle.arwen_cli_options.specs.Lines.{notes_asked};
 ghost use Rattle.arwen_cli.specs.Signing.{signing_asked};
 ghost use Rattle.arwen_cli_faults.specs.Meaning.{elf_command_model};
 ghost use Rattle.macho_commands.specs.Meaning.{macho_command_model};
@@ -23,7 +23,7 @@ pub use arwen_cli_faults::commands::{
 };
 use arwen_cli_faults::show::Args;
 pub use arwen_cli_faults::{ArwenError, FaultLine, show};
-use arwen_cli_peers::{is_quiet, is_signed_by};
+use arwen_cli_options::{is_quiet, is_signed_by};
 pub use command::Command;
 pub use command_words::{
     EditFault, EditKind, EditsError, FileBytes, KeyValueError, MOST_BYTES, NotDone, Notes,

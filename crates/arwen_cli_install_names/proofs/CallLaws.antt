@@ -12,7 +12,7 @@ use Rattle.macho_commands.specs.declared.error.MachoCommandError.TheVariants.{Ed
 use Rattle.macho_edits.specs.Call.{Call}
 use Rattle.macho_edits.specs.State.{laid_bytes}
 use Rattle.macho_edits.specs.declared.error.MachoError.TheVariants as macho
-use Rattle.arwen_cli_peers.specs.Options.{Asked}
+use Rattle.arwen_cli_options.specs.Options.{Asked}
 use Rattle.arwen_cli_install_names.specs.Editing.{TellsNoCalls, answer_to_naming}
 use Rattle.arwen_cli_install_names.specs.Naming.{AreUnlike, AreCalls, IsUnlike, TellsUnnamed, TellsUnread, TellsPartsUnnamed, parts_of, calls_in, slice_bytes}
 use Rattle.arwen_cli_install_names.specs.declared.naming.NamingFault.{NamingFault}

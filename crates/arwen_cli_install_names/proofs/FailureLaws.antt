@@ -15,7 +15,7 @@ use Rattle.macho_commands.specs.declared.signing.Signing.TheVariants.{Left}
 use Rattle.macho_edits.specs.Call.{Call}
 use Rattle.macho_edits.specs.declared.error.MachoError.{MachoError}
 use Rattle.macho_edits.specs.declared.error.MachoError.TheVariants as macho
-use Rattle.arwen_cli_peers.specs.Options.{Asked, Text}
+use Rattle.arwen_cli_options.specs.Options.{Asked, Text}
 use Rattle.arwen_cli_install_names.specs.Editing.{AreKnownCalls, FailsNames, FailsPatchBy, HasNamesCause, TellsNoCalls, answer_to_naming}
 use Rattle.arwen_cli_install_names.specs.Naming.{TellsUnnamed}
 use Rattle.arwen_cli_install_names.specs.declared.editing.NamesError.{NamesError}

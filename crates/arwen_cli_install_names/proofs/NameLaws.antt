@@ -1,7 +1,7 @@
 -- The file that was found so far.
 use Rattle.std.proofs.Common.{◌∷◌, List, Option, None, Some}
 use Rattle.std.specs.Borrow.{Bor}
-use Rattle.arwen_cli_peers.specs.Options.{Text}
+use Rattle.arwen_cli_options.specs.Options.{Text}
 
 -- a file that was found before others
 abbrev pub with_found : Option (Bor Text) → List Text → List Text

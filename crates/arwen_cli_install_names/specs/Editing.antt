@@ -11,7 +11,7 @@ use Rattle.macho_commands.specs.declared.error.MachoCommandError.{MachoCommandEr
 use Rattle.macho_commands.specs.declared.error.MachoCommandError.TheVariants.{Io}
 use Rattle.macho_commands.specs.declared.signing.Signing.TheVariants.{Left}
 use Rattle.macho_edits.specs.Call.{Call}
-use Rattle.arwen_cli_peers.specs.Options.{Asked, Text}
+use Rattle.arwen_cli_options.specs.Options.{Asked, Text}
 use Rattle.arwen_cli_install_names.specs.Naming.{AreCallsOf, IsUnlike, TellsUnread}
 use Rattle.arwen_cli_install_names.specs.declared.editing.NamesError.{NamesError}
 use Rattle.arwen_cli_install_names.specs.declared.editing.NamesError.TheVariants.{Command, Unlike}

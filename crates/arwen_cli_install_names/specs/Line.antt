@@ -1,8 +1,8 @@
 -- What a line of install_name_tool asks for.
 use Rattle.std.specs.Prelude.{◌≡◌, List, [], ◌∷◌, map, Result, Ok, Err, codes}
 use Rattle.std.specs.Borrow.{Bor}
-use Rattle.arwen_cli_peers.specs.Options.{Asked, TellsWrong, Text, given_model, line_of, values_of}
-use Rattle.arwen_cli_peers.specs.Tables.{install_name_tool_known}
+use Rattle.arwen_cli_options.specs.Options.{Asked, TellsWrong, Text, given_model, line_of, values_of}
+use Rattle.arwen_cli_options.specs.Tables.{install_name_tool_known}
 use Rattle.arwen_cli_install_names.specs.declared.line.NameLine.{NameLine}
 use Rattle.arwen_cli_install_names.specs.declared.line.NameLineError.{NameLineError}
 use Rattle.arwen_cli_install_names.specs.declared.line.NameLineError.TheVariants as error

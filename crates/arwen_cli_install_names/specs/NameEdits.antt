@@ -5,7 +5,7 @@ use Rattle.std.specs.Str.{bytes_eq}
 use Rattle.macho_edits.specs.Call.{Call}
 use Rattle.macho_edits.specs.Call.Call.{add_rpath, change_install_id, change_install_name}
 use Rattle.macho_edits.specs.Call.Call.{change_rpath, remove_rpath}
-use Rattle.arwen_cli_peers.specs.Options.{Asked, Text}
+use Rattle.arwen_cli_options.specs.Options.{Asked, Text}
 use Rattle.arwen_cli_install_names.specs.declared.name_edits.Names.{Names}
 
 -- what a file has before its edits: a name of its own, the names of the libraries that it loads, and its run paths

@@ -14,7 +14,7 @@ use Rattle.macho_edits.specs.Call.{Call}
 use Rattle.macho_edits.specs.State.{laid_bytes}
 use Rattle.macho_edits.specs.declared.error.MachoError.{MachoError}
 use Rattle.macho_image.specs.Commands.{id_of, libs_of, rpaths_of}
-use Rattle.arwen_cli_peers.specs.Options.{Asked}
+use Rattle.arwen_cli_options.specs.Options.{Asked}
 use Rattle.arwen_cli_install_names.specs.NameEdits.{FileNames, name_calls}
 use Rattle.arwen_cli_install_names.specs.declared.naming.NamingFault.{NamingFault}
 use Rattle.arwen_cli_install_names.specs.declared.naming.NamingFault.TheVariants.{Command, Unlike}

@@ -6,11 +6,11 @@ ghost use Rattle.macho_commands.specs.Meaning.{batch as batch_meant, macho_comma
 ghost use Rattle.macho_commands.specs.Stores.{FailsPatch};
 ghost use Rattle.macho_commands.specs.declared.signing.Signing.TheVariants.{Left};
 ghost use Rattle.macho_edits.specs.Batch.{calls_of};
-ghost use Rattle.arwen_cli_peers.specs.Options.{given_model};
+ghost use Rattle.arwen_cli_options.specs.Options.{given_model};
 ghost use Rattle.arwen_cli_install_names.specs.Editing.{AreKnownCalls, FailsNames, FailsPatchBy, HasNamesCause, IsNamed, IsPatchedBy, TellsNoCalls};
 
 use crate::naming::{NamingFault, edits_for};
-use arwen_cli_peers::Given;
+use arwen_cli_options::Given;
 use arwen_macho::macho::MachoEdit;
 use byte_store::{ReadError, Store, load_whole};
 use command_words::{MOST_BYTES, Notes};

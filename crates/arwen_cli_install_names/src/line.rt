@@ -1,11 +1,11 @@
 //! Lines of install_name_tool, read.
 ghost use Rattle.std.specs.Prelude.{◌≡◌, IfErr, IfOk, map};
-ghost use Rattle.arwen_cli_peers.specs.Options.{given_model};
+ghost use Rattle.arwen_cli_options.specs.Options.{given_model};
 ghost use Rattle.arwen_cli_install_names.specs.Line.{IsNameLine, ReadsNames, TellsNames, TellsRefusal, file_given, path_told};
 
-use arwen_cli_peers::options::FILE;
-use arwen_cli_peers::tables::install_name_tool_options;
-use arwen_cli_peers::{Given, LineFault, parse_words};
+use arwen_cli_options::options::FILE;
+use arwen_cli_options::tables::install_name_tool_options;
+use arwen_cli_options::{Given, LineFault, parse_words};
 use std::alloc::Global;
 
 /// What a line of install_name_tool asks for.

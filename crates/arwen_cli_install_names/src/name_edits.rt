@@ -3,10 +3,10 @@ ghost use Rattle.std.specs.Prelude.{◌≡◌, ◌∷◌, ◌++◌, [], IfOk, On
 ghost use Rattle.macho_edits.specs.Batch.{call_made, calls_of};
 ghost use Rattle.macho_edits.specs.Call.Call.{add_rpath, change_install_id, change_install_name};
 ghost use Rattle.macho_edits.specs.Call.Call.{change_rpath, remove_rpath};
-ghost use Rattle.arwen_cli_peers.specs.Options.{given_model};
+ghost use Rattle.arwen_cli_options.specs.Options.{given_model};
 ghost use Rattle.arwen_cli_install_names.specs.NameEdits.{added, is_among as among, name_calls, names_model, option_calls, options_calls, other_options, prepending_options, removed};
 
-use arwen_cli_peers::Given;
+use arwen_cli_options::Given;
 use arwen_macho::macho::MachoEdit;
 use std::alloc::{AllocError, Global};
 

@@ -5,13 +5,13 @@ ghost use Rattle.arwen_macho.specs.FatSlice.{slice_model};
 ghost use Rattle.macho_edits.specs.Batch.{calls_of};
 ghost use Rattle.macho_edits.specs.State.{laid_bytes};
 ghost use Rattle.macho_image.specs.Commands.{libs_of, rpaths_of};
-ghost use Rattle.arwen_cli_peers.specs.Options.{given_model};
+ghost use Rattle.arwen_cli_options.specs.Options.{given_model};
 ghost use Rattle.arwen_cli_install_names.specs.NameEdits.{names_model};
 ghost use Rattle.arwen_cli_install_names.specs.Naming.{AreCalls, AreCallsOf, AreCallsOfAll, TellsPartsUnnamed, TellsUnnamed, calls_in, names_in, parts_of, slice_bytes};
 
 use crate::equal_edits::are_equal;
 use crate::name_edits::{Names, name_edits};
-use arwen_cli_peers::Given;
+use arwen_cli_options::Given;
 use arwen_macho::macho::{
     FatMacho, MachO, MachoContainer, MachoEdit, MachoError, MachoType, SingleMachO,
 };

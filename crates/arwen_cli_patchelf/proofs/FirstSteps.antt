@@ -16,7 +16,7 @@ use Rattle.elf_commands.specs.ElfEngine.{LeavesElf, TellsEdit}
 use Rattle.elf_commands.specs.Shrinking.{Answers, Finding, asked_of}
 use Rattle.elf_commands.specs.ElfCommandError.{ElfCommandError}
 use Rattle.elf_commands.specs.ElfCommandError.TheVariants.{Edits, Elf, ElfBatch, Io, Memory}
-use Rattle.arwen_cli_peers.specs.Options.{Text}
+use Rattle.arwen_cli_options.specs.Options.{Text}
 use Rattle.arwen_cli_patchelf.specs.FirstFound.{AreFirstFound, AreFirstFoundIn, IsFirstFound, TellsFirstShrunk, finds_unless, has_nothing_to_shrink, is_found_for, is_settled}
 use Rattle.arwen_cli_patchelf.specs.Made.{IsShrunkTo, IsShrunkUnless}
 

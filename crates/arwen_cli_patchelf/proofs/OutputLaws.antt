@@ -10,7 +10,7 @@ use Rattle.elf_commands.specs.Failures.{HasReadCause}
 use Rattle.elf_commands.specs.ElfCommandError.{ElfCommandError}
 use Rattle.elf_commands.specs.ElfCommandError.TheVariants.{Edits, Elf, ElfBatch, Io, Memory}
 use Rattle.elf_commands.specs.Shrinking.{Finding}
-use Rattle.arwen_cli_peers.specs.Options.{Text}
+use Rattle.arwen_cli_options.specs.Options.{Text}
 use Rattle.arwen_cli_patchelf.specs.Plans.{PlanMeant}
 use Rattle.arwen_cli_patchelf.specs.Made.{TellsUnedited, TellsUnmade, TellsUnshrunk}
 use Rattle.arwen_cli_patchelf.specs.Output.{HasOutputCause, IsCutOff, IsMadeAndCutOff}

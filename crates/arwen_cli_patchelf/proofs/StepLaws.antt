@@ -4,7 +4,7 @@ use Rattle.elf_commands.specs.Groups.{GroupEdit}
 use Rattle.elf_commands.specs.ElfCommandError.{ElfCommandError}
 use Rattle.elf_commands.specs.ElfCommandError.TheVariants.{Edits, Elf, ElfBatch, Io, Memory}
 use Rattle.elf_commands.specs.Shrinking.{Finding}
-use Rattle.arwen_cli_peers.specs.Options.{Text}
+use Rattle.arwen_cli_options.specs.Options.{Text}
 use Rattle.arwen_cli_patchelf.specs.Plans.{PlanMeant}
 use Rattle.arwen_cli_patchelf.specs.Made.{AsksNothing, IsEditedWith, IsMadeOf, IsShrunkTo, IsUnedited, TellsUnmade, TellsUnshrunk}
 

@@ -18,7 +18,7 @@ use Rattle.elf_commands.specs.ElfEngine.{TellsEdit}
 use Rattle.elf_commands.specs.ElfCommandError.{ElfCommandError}
 use Rattle.elf_commands.specs.ElfCommandError.TheVariants.{Memory}
 use Rattle.elf_commands.specs.Shrinking.{Finding, asked_of}
-use Rattle.arwen_cli_peers.specs.Options.{Text}
+use Rattle.arwen_cli_options.specs.Options.{Text}
 
 -- the answer's library was found for a machine, in a directory that the prefixes allow
 abbrev pub is_found_for : List Text → ℕ → Answer → Bool

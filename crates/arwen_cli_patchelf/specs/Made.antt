@@ -10,7 +10,7 @@ use Rattle.elf_commands.specs.Groups.{GroupEdit, plain}
 use Rattle.elf_commands.specs.ElfCommandError.{ElfCommandError}
 use Rattle.elf_commands.specs.ElfCommandError.TheVariants.{Io, Memory}
 use Rattle.elf_commands.specs.Shrinking.{Finding}
-use Rattle.arwen_cli_peers.specs.Options.{Text}
+use Rattle.arwen_cli_options.specs.Options.{Text}
 use Rattle.arwen_cli_patchelf.specs.Plans.{PlanMeant}
 use Rattle.arwen_cli_patchelf.specs.FirstFound.{AreFirstFoundIn, TellsFirstShrunk, has_nothing_to_shrink}
 

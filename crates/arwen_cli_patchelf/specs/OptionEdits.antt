@@ -4,8 +4,8 @@ use Rattle.elf_commands.specs.Groups.{GroupEdit, plain}
 use Rattle.elf_edits.specs.Edit.{AddDebugTag, AddNeeded, AddRpath, AllowDynamicMove, ClearExecStack, ClearSymbolVersion, RemoveNeeded, RemoveRpath, Edit}
 use Rattle.elf_edits.specs.Edit.{NoDefaultLib, RenameDynamicSymbols, ReplaceLibrary, SetExecStack, SetInterpreter, SetOsAbi, SetRpath, SetSoname, ForceRpath}
 use Rattle.elf_edits.specs.EditModel.{edit_model}
-use Rattle.arwen_cli_peers.specs.Asked.{is_given, last_of, pairs_of}
-use Rattle.arwen_cli_peers.specs.Options.{Asked, Text, values_of}
+use Rattle.arwen_cli_options.specs.Asked.{is_given, last_of, pairs_of}
+use Rattle.arwen_cli_options.specs.Options.{Asked, Text, values_of}
 use Rattle.arwen_cli_patchelf.specs.declared.option_edits.OptionEdit.{OptionEdit}
 
 -- an edit, and the name of the option that asks for it

@@ -2,8 +2,8 @@
 use Rattle.std.specs.Prelude.{ℕ, ◌==◌, List, [], map, Option, Some, None, codes, if◌then◌else◌, option_map, slice_get, string_bytes, unwrap_or}
 use Rattle.std.specs.List.{slice_split}
 use Rattle.elf_commands.specs.Groups.{GroupEdit, group_model}
-use Rattle.arwen_cli_peers.specs.Asked.{is_given, last_of}
-use Rattle.arwen_cli_peers.specs.Options.{Asked, Text}
+use Rattle.arwen_cli_options.specs.Asked.{is_given, last_of}
+use Rattle.arwen_cli_options.specs.Options.{Asked, Text}
 use Rattle.command_words.specs.Parts.{without_empty}
 use Rattle.arwen_cli_patchelf.specs.OptionEdits.{planned_edits, with_leave}
 use Rattle.arwen_cli_patchelf.specs.declared.plans.Plan.{Plan}

@@ -12,8 +12,8 @@ use Rattle.elf_commands.specs.ElfStores.{IsKeptAt}
 use Rattle.elf_commands.specs.Prints.{StopsWriting}
 use Rattle.elf_commands.specs.ElfCommandError.{ElfCommandError}
 use Rattle.elf_commands.specs.ElfCommandError.TheVariants.{Elf, Io, Memory}
-use Rattle.arwen_cli_peers.specs.Asked.{is_given}
-use Rattle.arwen_cli_peers.specs.Options.{Asked, Text}
+use Rattle.arwen_cli_options.specs.Asked.{is_given}
+use Rattle.arwen_cli_options.specs.Options.{Asked, Text}
 use Rattle.arwen_cli_patchelf.specs.PrintTexts.{is_absent, print_text}
 use Rattle.arwen_cli_patchelf.specs.declared.error.PatchelfError.{PatchelfError}
 use Rattle.arwen_cli_patchelf.specs.declared.error.PatchelfError.TheVariants.{Absent, Command}

@@ -2,11 +2,11 @@
 ghost use Rattle.std.specs.Prelude.{◌≡◌, ◌∷◌, ◌++◌, [], IfOk, OnOk, codes, map};
 ghost use Rattle.elf_edits.specs.Edit.{AddNeeded, ClearSymbolVersion, RemoveNeeded, RenameDynamicSymbols, ReplaceLibrary, SetInterpreter, SetOsAbi, SetSoname};
 ghost use Rattle.elf_edits.specs.EditModel.{edit_model};
-ghost use Rattle.arwen_cli_peers.specs.Asked.{asked_model, last_of as last_given};
+ghost use Rattle.arwen_cli_options.specs.Asked.{asked_model, last_of as last_given};
 ghost use Rattle.arwen_cli_patchelf.specs.OptionEdits.{added_edits, by, header_edits, needed_edits, once, other_edits, planned_edits as edits_planned, planned_model, run_path_edits, set_edits, stack_edits, with_all, with_each, with_last, with_pairs};
 
-use arwen_cli_peers::AskedOption;
-use arwen_cli_peers::asked::{is_given, last_bytes_of, last_of, pairs_of, values_of};
+use arwen_cli_options::AskedOption;
+use arwen_cli_options::asked::{is_given, last_bytes_of, last_of, pairs_of, values_of};
 use elf_edits::ElfEdit;
 use std::alloc::{AllocError, Global};
 

@@ -1,13 +1,13 @@
 //! What a line asks of the bytes of each of its files.
 ghost use Rattle.std.specs.Prelude.{◌≡◌, IfOk, map, option_map, string_bytes};
 ghost use Rattle.elf_commands.specs.Groups.{group_model};
-ghost use Rattle.arwen_cli_peers.specs.Asked.{asked_model};
+ghost use Rattle.arwen_cli_options.specs.Asked.{asked_model};
 ghost use Rattle.arwen_cli_patchelf.specs.OptionEdits.{planned_model, with_leave};
 ghost use Rattle.arwen_cli_patchelf.specs.Plans.{option_of as option_asking, plan_model, plan_of_options, prefixes_asked, prefixes_in as prefixes_named, shrinks_of_options};
 
 use crate::option_edits::{OptionEdit, planned_edits};
-use arwen_cli_peers::AskedOption;
-use arwen_cli_peers::asked::{is_given, last_of};
+use arwen_cli_options::AskedOption;
+use arwen_cli_options::asked::{is_given, last_of};
 use command_words::{copies, filled_parts};
 use elf_commands::GroupEdit;
 use elf_edits::ElfEdit;

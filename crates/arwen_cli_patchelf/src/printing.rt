@@ -6,14 +6,14 @@ ghost use Rattle.elf_image.specs.Image.{image_of};
 ghost use Rattle.elf_commands.specs.ElfCommandError.TheVariants.{Io};
 ghost use Rattle.elf_commands.specs.Failures.{HasReadCause, HasReadCauseAt};
 ghost use Rattle.elf_commands.specs.Prints.{PrintMayFail, StopsWriting};
-ghost use Rattle.arwen_cli_peers.specs.Asked.{asked_model};
+ghost use Rattle.arwen_cli_options.specs.Asked.{asked_model};
 ghost use Rattle.arwen_cli_patchelf.specs.Printing.{IfCommand, IsKeptFor, IsPrinted, IsPrintedOf, IsReadFor, PrintsAll, TellsPrint, TellsPrintOf, TellsPrints, option_for, prints_among, prints_asked as prints_meant};
 ghost use Rattle.arwen_cli_patchelf.specs.declared.error.PatchelfError.TheVariants.{Command};
 
 use crate::error::PatchelfError;
 use crate::print_texts::text_of;
-use arwen_cli_peers::AskedOption;
-use arwen_cli_peers::asked::is_given;
+use arwen_cli_options::AskedOption;
+use arwen_cli_options::asked::is_given;
 use byte_store::Store;
 use command_words::{NotDone, OpensOnce, load};
 use elf_commands::ElfCommandError;

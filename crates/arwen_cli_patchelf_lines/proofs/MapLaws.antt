@@ -3,7 +3,7 @@ use Rattle.std.proofs.Common.{◌≡◌, ◌∙◌, ◌+◌, ◌<◌, ◌≤◌,
 use Rattle.std.specs.Prelude.{option_map}
 use Rattle.std.proofs.lemmas.List.{at_drop_all, at_drop_more, map_push}
 use Rattle.command_words.specs.Parts.{texts_lent}
-use Rattle.arwen_cli_peers.specs.Options.{Text}
+use Rattle.arwen_cli_options.specs.Options.{Text}
 use Rattle.arwen_cli_patchelf_lines.specs.NameMaps.{lent_pair, names_of, pair_of, pair_told, pairs_from, then_pairs}
 use Rattle.arwen_cli_patchelf_lines.specs.declared.name_maps.MapWrong.{MapWrong}
 use Rattle.arwen_cli_patchelf_lines.specs.declared.name_maps.NamePair.{NamePair}

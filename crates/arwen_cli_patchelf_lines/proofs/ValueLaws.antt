@@ -1,8 +1,8 @@
 -- Options that are put one behind another.
 use Rattle.std.proofs.Common.{◌≡◌, ◌∙◌, ◌+◌, ◌<◌, ◌≤◌, [], ℕ, Bool, List, Option, Result, Ok, Err, IfErr, ap, drop, get_or, inl, inr, length, map, refl, subst, sym}
 use Rattle.std.proofs.lemmas.List.{drop_all, drop_more}
-use Rattle.arwen_cli_peers.specs.Options.{Asked, Text, given_model}
-use Rattle.arwen_cli_peers.specs.declared.options.Given.{Given}
+use Rattle.arwen_cli_options.specs.Options.{Asked, Text, given_model}
+use Rattle.arwen_cli_options.specs.declared.options.Given.{Given}
 use Rattle.arwen_cli_patchelf_lines.specs.Values.{ArePut, AreResolvedFrom, IsMapText, IsPut, IsPutFrom, IsRefusedAmong, IsRefusedOf, IsUnreadFrom, TellsWrongMap, path_named, rename_asked}
 use Rattle.std.specs.Str.{IsUtf8}
 use Rattle.byte_store.specs.Known.{IsAll}

@@ -1,9 +1,9 @@
 -- What a line of patchelf asks for.
 use Rattle.std.specs.Prelude.{ℕ, ◌≡◌, List, map, Option, Some, None, Ok, codes, option_map, string_bytes, ⊤}
 use Rattle.byte_store.specs.declared.reading.ReadError.{ReadError}
-use Rattle.arwen_cli_peers.specs.Asked.{asked_model, last_of}
-use Rattle.arwen_cli_peers.specs.Options.{Asked, TellsWrong, Text, line_of, values_of}
-use Rattle.arwen_cli_peers.specs.Tables.{patchelf_known}
+use Rattle.arwen_cli_options.specs.Asked.{asked_model, last_of}
+use Rattle.arwen_cli_options.specs.Options.{Asked, TellsWrong, Text, line_of, values_of}
+use Rattle.arwen_cli_options.specs.Tables.{patchelf_known}
 use Rattle.arwen_cli_patchelf_lines.specs.Refusals.{is_asked, line_refused, refused_model}
 use Rattle.arwen_cli_patchelf_lines.specs.Values.{AreResolved, IsRefusedAmong}
 use Rattle.arwen_cli_patchelf_lines.specs.declared.line.Line.{Line}

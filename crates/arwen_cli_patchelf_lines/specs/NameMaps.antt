@@ -4,7 +4,7 @@ use Rattle.std.specs.List.{list_any, slice_split}
 use Rattle.std.specs.Str.{bytes_eq}
 use Rattle.std.specs.Str.Lines.{lines}
 use Rattle.command_words.specs.Parts.{without_empty}
-use Rattle.arwen_cli_peers.specs.Options.{Text}
+use Rattle.arwen_cli_options.specs.Options.{Text}
 use Rattle.arwen_cli_patchelf_lines.specs.declared.name_maps.MapFault.{MapFault}
 use Rattle.arwen_cli_patchelf_lines.specs.declared.name_maps.MapFault.TheVariants as fault
 use Rattle.arwen_cli_patchelf_lines.specs.declared.name_maps.MapWrong.{MapWrong}

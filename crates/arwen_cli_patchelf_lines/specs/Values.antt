@@ -6,7 +6,7 @@ use Rattle.std.specs.Char.{to_ascii_lowercase}
 use Rattle.byte_store.specs.Known.{IsAll}
 use Rattle.byte_store.specs.declared.reading.ReadError.{ReadError}
 use Rattle.byte_store.specs.declared.reading.ReadError.TheVariants as read
-use Rattle.arwen_cli_peers.specs.Options.{Asked, Text}
+use Rattle.arwen_cli_options.specs.Options.{Asked, Text}
 use Rattle.arwen_cli_patchelf_lines.specs.NameMaps.{pairs_of, spaced_all}
 use Rattle.arwen_cli_patchelf_lines.specs.declared.name_maps.MapWrong.{MapWrong}
 use Rattle.arwen_cli_patchelf_lines.specs.declared.values.Source.{Source}

@@ -1,18 +1,18 @@
 //! Lines of patchelf, read.
 ghost use Rattle.std.specs.Prelude.{◌≡◌, Ok, IfErr, IfOk, codes, map, string_bytes};
-ghost use Rattle.arwen_cli_peers.specs.Asked.{asked_model};
-ghost use Rattle.arwen_cli_peers.specs.Options.{given_model, line_of as words_give, values_of as values_given};
-ghost use Rattle.arwen_cli_peers.specs.Tables.{patchelf_known};
+ghost use Rattle.arwen_cli_options.specs.Asked.{asked_model};
+ghost use Rattle.arwen_cli_options.specs.Options.{given_model, line_of as words_give, values_of as values_given};
+ghost use Rattle.arwen_cli_options.specs.Tables.{patchelf_known};
 ghost use Rattle.arwen_cli_patchelf_lines.specs.Line.{IsErrorOf, IsLineOf, ReadsGiven, ReadsLine, TellsGiven, TellsLine, TellsValues};
 ghost use Rattle.arwen_cli_patchelf_lines.specs.Refusals.{is_asked as is_shrinking};
 ghost use Rattle.arwen_cli_patchelf_lines.specs.Values.{AreResolved};
 
 use crate::refusals::{Refused, is_asked, line_refusal};
 use crate::values::{ValueCause, ValueRefused, resolved};
-use arwen_cli_peers::asked::last_of;
-use arwen_cli_peers::options::FILE;
-use arwen_cli_peers::tables::patchelf_options;
-use arwen_cli_peers::{AskedOption, Given, LineFault, parse_words};
+use arwen_cli_options::asked::last_of;
+use arwen_cli_options::options::FILE;
+use arwen_cli_options::tables::patchelf_options;
+use arwen_cli_options::{AskedOption, Given, LineFault, parse_words};
 use command_words::FileBytes;
 use std::alloc::{AllocError, Global};
 

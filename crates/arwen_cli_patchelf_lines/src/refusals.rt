@@ -1,9 +1,9 @@
 //! What lines ask for that is refused before a file is edited.
 ghost use Rattle.std.specs.Prelude.{◌≡◌, map, option_map, string_bytes};
-ghost use Rattle.arwen_cli_peers.specs.Options.{given_model};
+ghost use Rattle.arwen_cli_options.specs.Options.{given_model};
 ghost use Rattle.arwen_cli_patchelf_lines.specs.Refusals.{absent_among, files_refused, is_absent as is_absent_here, is_asked as is_asked_for, line_refused, order_refused, refused_model};
 
-use arwen_cli_peers::Given;
+use arwen_cli_options::Given;
 
 /// Why a line isn't done.
 #[derive(Clone, Copy)]

@@ -1,15 +1,15 @@
 //! Values of options that stand in files.
 ghost use Rattle.std.specs.Prelude.{◌≡◌, ◌++◌, ◌∷◌, [], IfErr, IfOk, OnOk, map, string_bytes};
 ghost use Rattle.std.specs.Str.{IsUtf8};
-ghost use Rattle.arwen_cli_peers.specs.Asked.{asked_model};
-ghost use Rattle.arwen_cli_peers.specs.Options.{given_model};
+ghost use Rattle.arwen_cli_options.specs.Asked.{asked_model};
+ghost use Rattle.arwen_cli_options.specs.Options.{given_model};
 ghost use Rattle.arwen_cli_patchelf_lines.specs.NameMaps.{lent_pair};
 ghost use Rattle.arwen_cli_patchelf_lines.specs.Values.{ArePut, AreResolved, IsMapText, IsPut, IsPutFrom, IsRefusedAmong, IsRefusedOf, IsUnreadFrom, TellsWrongMap, abi_asked, abi_by, first_asked, first_replaced, is_passed_over as is_passed, is_run_path as sets_run_path, path_from, path_named, rename_asked, source_of as source_by, takes_file as may_stand_in_file};
 ghost use Rattle.arwen_cli_patchelf_lines.specs.declared.values.Source.TheVariants.{File, NameMap};
 ghost use Rattle.arwen_cli_patchelf_lines.specs.declared.values.ValueCause.TheVariants.{NotText};
 
 use crate::name_maps::{MapFault, MapWrong, NamePair, pairs_in, spaced};
-use arwen_cli_peers::{AskedOption, Given};
+use arwen_cli_options::{AskedOption, Given};
 use byte_store::ReadError;
 use command_words::FileBytes;
 use std::alloc::{AllocError, AllocFailed, Global};

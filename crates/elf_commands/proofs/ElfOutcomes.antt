@@ -8,28 +8,28 @@ use Rattle.elf_image.specs.Image.{Image, image_of, shown}
 use Rattle.elf_image.specs.ReadImage.{ReadImagesHoldParts}
 use Rattle.elf_edits.specs.Edit.{Edit}
 use Rattle.elf_edits.specs.Edited.{step}
-use Rattle.elf_commands_steps.specs.Groups.{GroupEdit, ListsAreTheirEdits, MakeInTurn, RefuseOrWant, TellsInTurn, plain, symbols}
-use Rattle.elf_commands_steps.specs.Prints.{FailsPrint}
-use Rattle.elf_commands_steps.specs.Told.{Refuses}
-use Rattle.elf_commands_steps.specs.WriterModel.{ShowsBothViews}
-use Rattle.elf_commands_steps.specs.Written.{IsImageWritten, IsNoImage}
-use Rattle.elf_commands_steps.specs.WrittenFile.{IsWrittenOf}
-use Rattle.elf_commands_steps.specs.ElfBatchError.{ElfBatchError}
-use Rattle.elf_commands_steps.specs.ElfError.{ElfError}
-use Rattle.elf_commands_steps.specs.ElfError.TheVariants as elf
+use Rattle.elf_commands_edits.specs.Groups.{GroupEdit, ListsAreTheirEdits, MakeInTurn, RefuseOrWant, TellsInTurn, plain, symbols}
+use Rattle.elf_commands_edits.specs.Prints.{FailsPrint}
+use Rattle.elf_commands_edits.specs.Told.{Refuses}
+use Rattle.elf_commands_edits.specs.WriterModel.{ShowsBothViews}
+use Rattle.elf_commands_edits.specs.Written.{IsImageWritten, IsNoImage}
+use Rattle.elf_commands_edits.specs.WrittenFile.{IsWrittenOf}
+use Rattle.elf_commands_edits.specs.ElfBatchError.{ElfBatchError}
+use Rattle.elf_commands_edits.specs.ElfError.{ElfError}
+use Rattle.elf_commands_edits.specs.ElfError.TheVariants as elf
 use Rattle.elf_commands_lines.specs.ElfAsked.{ElfAsked, edits_asked, elf_asked, one, printing, several, shrinking}
 use Rattle.elf_commands.specs.ElfStores.{ChangesNothing}
 use Rattle.elf_commands_lines.specs.ElfWords.{group_edit_asked}
 use Rattle.byte_store.specs.Composed.{made_of}
 use Rattle.byte_store.specs.declared.composed.Difference.{Difference}
 use Rattle.command_words.specs.Rows.{Text}
-use Rattle.elf_commands_steps.specs.Images.{AreChanged, TellsNoImage}
+use Rattle.elf_commands_edits.specs.Images.{AreChanged, TellsNoImage}
 use Rattle.elf_commands.specs.ElfEngine.{IsEditedBy, IsEditedTo, Makes, MayFailAs, ShowsEdits, TellsEachFile, TellsEdit, TellsElfOf, TellsRefusedAt, TellsRun, as_asked, with_no_number}
-use Rattle.elf_commands_steps.specs.ElfErrors.{answer_to_elf, answer_to_elf_batch, answer_to_elf_fault}
+use Rattle.elf_commands_edits.specs.ElfErrors.{answer_to_elf, answer_to_elf_batch, answer_to_elf_fault}
 use Rattle.elf_commands_lines.specs.Meaning.{ElfMeaning, edit_elf, symbols_elf}
 use Rattle.elf_commands.specs.Prints.{PrintMayFail, TellsElf, printed}
-use Rattle.elf_commands_steps.specs.declared.error.ElfCommandError.{ElfCommandError}
-use Rattle.elf_commands_steps.specs.declared.error.ElfCommandError.TheVariants.{Edits, Elf, ElfBatch, Io, Memory}
+use Rattle.elf_commands_edits.specs.declared.error.ElfCommandError.{ElfCommandError}
+use Rattle.elf_commands_edits.specs.declared.error.ElfCommandError.TheVariants.{Edits, Elf, ElfBatch, Io, Memory}
 
 -- what holds of an answer that is there holds of any
 pub if_ok_and : {A E : Type 0} (P : A → Type 0) (r : Result A E) → IsOkAnd r P → IfOk r P

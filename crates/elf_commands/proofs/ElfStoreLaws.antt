@@ -11,15 +11,15 @@ use Rattle.byte_store.specs.declared.difference.ReplaceError.{ReplaceError}
 use Rattle.byte_store.specs.declared.difference.ReplaceError.TheVariants as replace
 use Rattle.byte_store.specs.declared.reading.ReadError.{ReadError}
 use Rattle.byte_store.specs.declared.reading.ReadError.TheVariants as read
-use Rattle.elf_commands_steps.specs.Written.{IsNoDifference}
+use Rattle.elf_commands_edits.specs.Written.{IsNoDifference}
 use Rattle.elf_commands_lines.specs.ElfAsked.{ElfAsked, edits_asked, printing, shrinking}
-use Rattle.elf_commands_steps.specs.Groups.{GroupEdit}
+use Rattle.elf_commands_edits.specs.Groups.{GroupEdit}
 use Rattle.elf_commands.specs.ElfEngine.{LeavesElf, MayFailAs, TellsEachFile, TellsEdit}
-use Rattle.elf_commands_steps.specs.Storing.{IsNothing}
+use Rattle.elf_commands_edits.specs.Storing.{IsNothing}
 use Rattle.elf_commands.specs.ElfStores.{FailsElf, IsElfPatched, WritesEnd}
-use Rattle.elf_commands_steps.specs.ElfErrors.{answer_to_read, answer_to_replaced}
-use Rattle.elf_commands_steps.specs.declared.error.ElfCommandError.{ElfCommandError}
-use Rattle.elf_commands_steps.specs.declared.error.ElfCommandError.TheVariants.{Io}
+use Rattle.elf_commands_edits.specs.ElfErrors.{answer_to_read, answer_to_replaced}
+use Rattle.elf_commands_edits.specs.declared.error.ElfCommandError.{ElfCommandError}
+use Rattle.elf_commands_edits.specs.declared.error.ElfCommandError.TheVariants.{Io}
 
 -- an error that tells of each file
 pub words_refused : (ended : Error → Type 0) (a : ElfAsked) (old mid : Option (List ℕ)) (e : ElfCommandError) → Stays old mid → TellsEachFile a e → FailsElf ended a old mid e

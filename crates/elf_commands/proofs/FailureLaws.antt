@@ -10,13 +10,13 @@ use Rattle.byte_store.specs.declared.reading.ReadError.TheVariants as read
 use Rattle.command_words.specs.Rows.{Text}
 use Rattle.elf_commands_lines.specs.ElfAsked.{ElfAsked}
 use Rattle.elf_commands.specs.ElfEngine.{TellsEdit}
-use Rattle.elf_commands_steps.specs.ElfErrors.{answer_to_read, answer_to_replaced}
+use Rattle.elf_commands_edits.specs.ElfErrors.{answer_to_read, answer_to_replaced}
 use Rattle.command_words.specs.Loading.{IsNotLoaded}
-use Rattle.elf_commands_steps.specs.Failures.{HasCause, HasShrinkCause, HasTellCause, HasWriteCause}
+use Rattle.elf_commands_edits.specs.Failures.{HasCause, HasShrinkCause, HasTellCause, HasWriteCause}
 use Rattle.elf_commands.specs.ShrinkRuns.{TellsShrunk}
-use Rattle.elf_commands_steps.specs.Shrinking.{Finding}
-use Rattle.elf_commands_steps.specs.declared.error.ElfCommandError.{ElfCommandError}
-use Rattle.elf_commands_steps.specs.declared.error.ElfCommandError.TheVariants.{Edits, Elf, ElfBatch, Io, Memory}
+use Rattle.elf_commands_edits.specs.Shrinking.{Finding}
+use Rattle.elf_commands_edits.specs.declared.error.ElfCommandError.{ElfCommandError}
+use Rattle.elf_commands_edits.specs.declared.error.ElfCommandError.TheVariants.{Edits, Elf, ElfBatch, Io, Memory}
 
 -- an edit that is refused for what it is and what the file is has nothing to do with reading or writing
 pub refused_for_itself : (reads writes : Error → Type 0) (none : Type 0) (known : Option (List ℕ)) (asked : ElfAsked) (file : List ℕ) (a b : ℕ) (e : ElfCommandError) → TellsEdit asked file e

@@ -3,7 +3,7 @@ use Rattle.std.proofs.Common.{◌≡◌, ℕ, Bool, List, Option, true, false, r
 use Rattle.std.specs.declared.alloc.Global.{Global}
 use Rattle.std.specs.declared.vec.Vec.{Vec}
 use Rattle.elf_image.specs.ReadImage.{ReadImagesHoldParts}
-use Rattle.elf_commands_steps.specs.Groups.{GroupEdit, ListsAreTheirEdits}
+use Rattle.elf_commands_edits.specs.Groups.{GroupEdit, ListsAreTheirEdits}
 use Rattle.elf_commands_lines.specs.ElfAsked.{ElfAsked}
 use Rattle.elf_commands.specs.ElfEngine.{IsEditedBy, IsEditedTo, IsElfEdited, LeavesElf, bytes_left}
 use Rattle.elf_commands.proofs.ElfOutcomes.{source_is}

@@ -13,12 +13,12 @@ use Rattle.elf_notes.specs.Lines.{lines_of}
 use Rattle.elf_notes.specs.Notes.{AreFindings, AreLeft, AreNotes}
 use Rattle.elf_notes.specs.declared.findings.Findings.{Findings}
 use Rattle.elf_notes.specs.declared.notes.ElfNotes.{ElfNotes}
-use Rattle.elf_commands_steps.specs.Groups.{GroupEdit, plain, plain_of}
-use Rattle.elf_commands_steps.proofs.ListLaws.{no_symbols, plain_back}
+use Rattle.elf_commands_edits.specs.Groups.{GroupEdit, plain, plain_of}
+use Rattle.elf_commands_edits.proofs.ListLaws.{no_symbols, plain_back}
 use Rattle.elf_commands_lines.specs.ElfAsked.{ElfAsked, edits_asked, several}
 use Rattle.elf_commands.specs.ElfEngine.{TellsEdit}
 use Rattle.elf_commands.specs.Noting.{TellsImage, TellsNoted, TellsNotesAt, TellsUnmade, TellsWantedAt, noted, noted_if}
-use Rattle.elf_commands_steps.specs.declared.error.ElfCommandError.{ElfCommandError}
+use Rattle.elf_commands_edits.specs.declared.error.ElfCommandError.{ElfCommandError}
 use Rattle.elf_commands.proofs.ElfOutcomes.{tells_refused}
 
 -- all edits of a batch are noted

@@ -14,26 +14,26 @@ use Rattle.byte_store.specs.declared.difference.ReplaceError.{ReplaceError}
 use Rattle.byte_store.specs.declared.difference.ReplaceError.TheVariants as replace
 use Rattle.elf_edits.specs.Edit.{Answer, Edit, ShrinkRpath}
 use Rattle.elf_edits.specs.Edited.{step}
-use Rattle.elf_commands_steps.specs.ShrinkModel.{removal_model}
-use Rattle.elf_commands_steps.specs.Removed.{Removed}
-use Rattle.elf_commands_steps.specs.Groups.{ListsAreTheirEdits, plain}
+use Rattle.elf_commands_edits.specs.ShrinkModel.{removal_model}
+use Rattle.elf_commands_edits.specs.Removed.{Removed}
+use Rattle.elf_commands_edits.specs.Groups.{ListsAreTheirEdits, plain}
 use Rattle.elf_image.specs.Image.{Image, image_of, shown}
 use Rattle.elf_image.specs.ReadImage.{ReadImagesHoldParts}
-use Rattle.elf_commands_steps.specs.WriterModel.{ShowsBothViews}
-use Rattle.elf_commands_steps.specs.Written.{IsImageWritten, IsNoImage}
-use Rattle.elf_commands_steps.specs.ElfError.{ElfError}
-use Rattle.elf_commands_steps.specs.ElfError.TheVariants as elf
+use Rattle.elf_commands_edits.specs.WriterModel.{ShowsBothViews}
+use Rattle.elf_commands_edits.specs.Written.{IsImageWritten, IsNoImage}
+use Rattle.elf_commands_edits.specs.ElfError.{ElfError}
+use Rattle.elf_commands_edits.specs.ElfError.TheVariants as elf
 use Rattle.elf_commands_lines.specs.ElfAsked.{one, shrinking}
-use Rattle.elf_commands_steps.specs.Images.{AreChanged, TellsNoImage}
+use Rattle.elf_commands_edits.specs.Images.{AreChanged, TellsNoImage}
 use Rattle.elf_commands.specs.ElfEngine.{IsElfEdited, LeavesElf, MayFailAs, TellsEdit}
 use Rattle.elf_commands.specs.ElfStores.{WritesEnd}
-use Rattle.elf_commands_steps.specs.ElfErrors.{answer_to_elf, answer_to_replaced}
+use Rattle.elf_commands_edits.specs.ElfErrors.{answer_to_elf, answer_to_replaced}
 use Rattle.command_words.specs.Rows.{Text}
-use Rattle.elf_commands_steps.specs.ShrunkImages.{IsRemovalTold, IsShrunkImage, Steps, TellsUnshrunk, TellsUntold}
+use Rattle.elf_commands_edits.specs.ShrunkImages.{IsRemovalTold, IsShrunkImage, Steps, TellsUnshrunk, TellsUntold}
 use Rattle.elf_commands.specs.ShrinkRuns.{AreFoundIn, FailsShrink, GetsFirst, IsQuiet, IsShrunkBy, RunsShrink, ShrinksStore, TellsShrink, TellsShrunk}
-use Rattle.elf_commands_steps.specs.Shrinking.{AreFound, Finding, removal_lines}
-use Rattle.elf_commands_steps.specs.declared.error.ElfCommandError.{ElfCommandError}
-use Rattle.elf_commands_steps.specs.declared.error.ElfCommandError.TheVariants.{Io, Memory}
+use Rattle.elf_commands_edits.specs.Shrinking.{AreFound, Finding, removal_lines}
+use Rattle.elf_commands_edits.specs.declared.error.ElfCommandError.{ElfCommandError}
+use Rattle.elf_commands_edits.specs.declared.error.ElfCommandError.TheVariants.{Io, Memory}
 use Rattle.elf_commands.proofs.ElfOutcomes.{edited_by, made_of_edits, one_refused, one_unwritten, pieces_made, source_is}
 
 -- ## What errors tell

@@ -2,24 +2,24 @@
 use Rattle.std.specs.Prelude.{ℕ, ◌≡◌, ◌⊎◌, List, [], ◌∷◌, Option, Some, None, Ok, Err, false, true, map, ⊤}
 use Rattle.std.specs.declared.alloc.Global.{Global}
 use Rattle.std.specs.declared.vec.Vec.{Vec}
-use Rattle.elf_commands_steps.specs.Written.{IsImageWritten, IsNoImage}
-use Rattle.elf_commands_steps.specs.ElfBatchError.{ElfBatchError}
-use Rattle.elf_commands_steps.specs.ElfError.{ElfError}
-use Rattle.elf_commands_steps.specs.ElfError.TheVariants as elf
+use Rattle.elf_commands_edits.specs.Written.{IsImageWritten, IsNoImage}
+use Rattle.elf_commands_edits.specs.ElfBatchError.{ElfBatchError}
+use Rattle.elf_commands_edits.specs.ElfError.{ElfError}
+use Rattle.elf_commands_edits.specs.ElfError.TheVariants as elf
 use Rattle.elf_edits.specs.Edit.{Answer}
 use Rattle.elf_edits.specs.Laws.{viewed}
 use Rattle.elf_image.specs.Image.{Image, image_of, shown}
 use Rattle.elf_image.specs.Views.{dynamic_symbol_count, loader_view, section_view}
-use Rattle.elf_commands_steps.specs.Final.{final_view}
-use Rattle.elf_commands_steps.specs.WrittenFile.{IsWrittenOf}
-use Rattle.elf_commands_steps.specs.Groups.{GroupEdit, MakeInTurn, RefuseInTurn, group_model, has_symbols, plain_of}
+use Rattle.elf_commands_edits.specs.Final.{final_view}
+use Rattle.elf_commands_edits.specs.WrittenFile.{IsWrittenOf}
+use Rattle.elf_commands_edits.specs.Groups.{GroupEdit, MakeInTurn, RefuseInTurn, group_model, has_symbols, plain_of}
 use Rattle.elf_commands_lines.specs.declared.groups.GroupEdit.{GroupEdit as GroupHeld}
 use Rattle.elf_commands_lines.specs.ElfAsked.{ElfAsked, answered, asks_edits, edits_asked, elf_asked, one, printing, several, shrinking}
-use Rattle.elf_commands_steps.specs.ElfErrors.{answer_to_elf}
+use Rattle.elf_commands_edits.specs.ElfErrors.{answer_to_elf}
 use Rattle.elf_commands_lines.specs.Meaning.{ElfMeaning}
 use Rattle.elf_commands.specs.Prints.{PrintMayFail, Prints, TellsElf}
-use Rattle.elf_commands_steps.specs.declared.error.ElfCommandError.{ElfCommandError}
-use Rattle.elf_commands_steps.specs.declared.error.ElfCommandError.TheVariants.{Edits, Elf, ElfBatch, Io, Memory}
+use Rattle.elf_commands_edits.specs.declared.error.ElfCommandError.{ElfCommandError}
+use Rattle.elf_commands_edits.specs.declared.error.ElfCommandError.TheVariants.{Edits, Elf, ElfBatch, Io, Memory}
 
 -- ---- what is written
 

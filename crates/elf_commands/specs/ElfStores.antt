@@ -8,11 +8,11 @@ use Rattle.byte_store.specs.Fault.{IsLeft}
 use Rattle.byte_store.specs.declared.composed.Difference.{Difference}
 use Rattle.byte_store.specs.declared.writing.Left.{Left}
 use Rattle.elf_commands_lines.specs.ElfAsked.{ElfAsked, edits_asked, printing, shrinking}
-use Rattle.elf_commands_steps.specs.Groups.{GroupEdit}
+use Rattle.elf_commands_edits.specs.Groups.{GroupEdit}
 use Rattle.elf_image.specs.Image.{Image}
 use Rattle.elf_commands.specs.ElfEngine.{LeavesElf, Makes, TellsEdit}
-use Rattle.elf_commands_steps.specs.declared.error.ElfCommandError.{ElfCommandError}
-use Rattle.elf_commands_steps.specs.declared.error.ElfCommandError.TheVariants.{Io}
+use Rattle.elf_commands_edits.specs.declared.error.ElfCommandError.{ElfCommandError}
+use Rattle.elf_commands_edits.specs.declared.error.ElfCommandError.TheVariants.{Io}
 
 -- known bytes become those that the edits leave that are asked for; those of a command that prints, or asks first what is found, stay
 abbrev pub IsElfPatched : ElfAsked → Option (List ℕ) → Option (List ℕ) → Type 0

@@ -3,17 +3,17 @@ use Rattle.std.specs.Prelude.{ℕ, ◌≡◌, ◌⊎◌, Bool, List, [], Option,
 use Rattle.command_words.specs.Rows.{Text}
 use Rattle.command_words.specs.declared.noting.Notes.{Notes}
 use Rattle.command_words.specs.declared.noting.Notes.TheVariants.{LeftOut, Wanted}
-use Rattle.elf_commands_steps.specs.ElfBatchError.{ElfBatchError}
-use Rattle.elf_commands_steps.specs.ElfErrors.{answer_to_elf_batch}
-use Rattle.elf_commands_steps.specs.Groups.{GroupEdit, TellsInTurn, has_symbols, plain_of}
+use Rattle.elf_commands_edits.specs.ElfBatchError.{ElfBatchError}
+use Rattle.elf_commands_edits.specs.ElfErrors.{answer_to_elf_batch}
+use Rattle.elf_commands_edits.specs.Groups.{GroupEdit, TellsInTurn, has_symbols, plain_of}
 use Rattle.elf_edits.specs.Edit.{Edit}
 use Rattle.elf_image.specs.Image.{Image, image_of}
 use Rattle.elf_notes.specs.Lines.{lines_of}
 use Rattle.elf_notes.specs.Notes.{AreNotes}
 use Rattle.elf_notes.specs.declared.notes.ElfNotes.{ElfNotes}
 use Rattle.elf_commands_lines.specs.ElfAsked.{ElfAsked, edits_asked}
-use Rattle.elf_commands_steps.specs.declared.error.ElfCommandError.{ElfCommandError}
-use Rattle.elf_commands_steps.specs.declared.error.ElfCommandError.TheVariants.{Memory}
+use Rattle.elf_commands_edits.specs.declared.error.ElfCommandError.{ElfCommandError}
+use Rattle.elf_commands_edits.specs.declared.error.ElfCommandError.TheVariants.{Memory}
 
 -- the edits of a list that there are notes of: none where one is of symbols or sections
 abbrev pub noted_if : Bool → List Edit → Option (List Edit)

@@ -1,16 +1,16 @@
 -- What a command prints of an ELF file.
 use Rattle.std.specs.Prelude.{◌≡◌, ℕ, List, [], Option, Some, Ok, Err, Result, ⊤}
 use Rattle.std.specs.Io.KnownBytes.{Appends}
-use Rattle.elf_commands_steps.specs.Prints.{IsCutShort, printed_exec_stack, printed_interpreter, printed_needed}
-use Rattle.elf_commands_steps.specs.Prints.{printed_os_abi, printed_runpath, printed_soname}
-use Rattle.elf_commands_steps.specs.ElfError.{ElfError}
-use Rattle.elf_commands_steps.specs.ElfError.TheVariants as elf
+use Rattle.elf_commands_edits.specs.Prints.{IsCutShort, printed_exec_stack, printed_interpreter, printed_needed}
+use Rattle.elf_commands_edits.specs.Prints.{printed_os_abi, printed_runpath, printed_soname}
+use Rattle.elf_commands_edits.specs.ElfError.{ElfError}
+use Rattle.elf_commands_edits.specs.ElfError.TheVariants as elf
 use Rattle.elf_image.specs.Image.{Image, image_of, shown}
 use Rattle.elf_image.specs.Views.{View}
 use Rattle.elf_format.specs.declared.fault.ElfFault.{ElfFault}
-use Rattle.elf_commands_steps.specs.Counted.{Stops}
-use Rattle.elf_commands_steps.specs.declared.error.ElfCommandError.{ElfCommandError}
-use Rattle.elf_commands_steps.specs.declared.error.ElfCommandError.TheVariants.{Elf, Io, Memory}
+use Rattle.elf_commands_edits.specs.Counted.{Stops}
+use Rattle.elf_commands_edits.specs.declared.error.ElfCommandError.{ElfCommandError}
+use Rattle.elf_commands_edits.specs.declared.error.ElfCommandError.TheVariants.{Elf, Io, Memory}
 use Rattle.elf_commands_lines.specs.Meaning.{ElfMeaning, apply_elf, apply_moving_elf, edit_elf, print_exec_stack, print_interpreter, print_needed}
 use Rattle.elf_commands_lines.specs.Meaning.{print_os_abi, print_rpath, print_soname, shrink_elf, symbols_elf}
 

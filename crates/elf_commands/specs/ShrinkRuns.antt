@@ -10,19 +10,19 @@ use Rattle.byte_store.specs.Fault.{IsLeft}
 use Rattle.byte_store.specs.declared.writing.Left.{Left}
 use Rattle.byte_store.specs.declared.composed.Difference.{Difference}
 use Rattle.elf_edits.specs.Edit.{Answer, Edit, ShrinkRpath}
-use Rattle.elf_commands_steps.specs.Removals.{removed_by}
+use Rattle.elf_commands_edits.specs.Removals.{removed_by}
 use Rattle.elf_format.specs.declared.fault.ElfFault.{ElfFault}
 use Rattle.elf_image.specs.Image.{Image, image_of, shown}
 use Rattle.elf_commands_lines.specs.ElfAsked.{elf_asked, one}
-use Rattle.elf_commands_steps.specs.Groups.{plain}
+use Rattle.elf_commands_edits.specs.Groups.{plain}
 use Rattle.elf_commands.specs.ElfEngine.{IsElfEdited, LeavesElf, RunsElf, TellsEdit, TellsRun}
 use Rattle.elf_commands.specs.ElfStores.{WritesEnd}
 use Rattle.elf_commands_lines.specs.Meaning.{ElfMeaning, shrink_elf}
 use Rattle.command_words.specs.Rows.{Text}
-use Rattle.elf_commands_steps.specs.Prints.{IsCutShort}
-use Rattle.elf_commands_steps.specs.Shrinking.{AreFound, Finding, removal_lines}
-use Rattle.elf_commands_steps.specs.declared.error.ElfCommandError.{ElfCommandError}
-use Rattle.elf_commands_steps.specs.declared.error.ElfCommandError.TheVariants.{Io, Memory}
+use Rattle.elf_commands_edits.specs.Prints.{IsCutShort}
+use Rattle.elf_commands_edits.specs.Shrinking.{AreFound, Finding, removal_lines}
+use Rattle.elf_commands_edits.specs.declared.error.ElfCommandError.{ElfCommandError}
+use Rattle.elf_commands_edits.specs.declared.error.ElfCommandError.TheVariants.{Io, Memory}
 
 -- the lines of just the directories that an edit takes out of the run paths of the file that was read
 abbrev pub TellsRemoved : Edit → Result Image ElfFault → Text → Type 0

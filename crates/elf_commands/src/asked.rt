@@ -1,14 +1,14 @@
 //! The edits that a command asks for.
 ghost use Rattle.std.specs.Prelude.{◌≡◌, ◌∷◌, [], IfErr, IfOk, Ok, map, string_bytes};
-ghost use Rattle.elf_commands_steps.specs.Groups.{group_model};
+ghost use Rattle.elf_commands_edits.specs.Groups.{group_model};
 ghost use Rattle.elf_commands_lines.specs.ElfAsked.{elf_asked, several, with_leave};
 ghost use Rattle.elf_commands.specs.ElfEngine.{AreAsked, TellsEachFile};
 ghost use Rattle.elf_commands_lines.specs.ElfWords.{elf_edits_of};
 ghost use Rattle.elf_commands_lines.specs.Meaning.{elf_command_model};
 
 use command_words::words_of;
+use elf_commands_edits::ElfCommandError;
 use elf_commands_lines::{ElfCommand, GroupEdit, parse_elf_edits};
-use elf_commands_steps::ElfCommandError;
 use elf_edits::ElfEdit;
 use std::alloc::{AllocError, Global};
 

@@ -5,8 +5,8 @@
 mod asked;
 pub mod elf;
 
+pub use elf_commands_edits::{ElfCommandError, apply_each, apply_edits, files, laws};
 pub use elf_commands_lines::{
     ElfCommand, GroupEdit, SymbolTexts, elf_table, parse_elf_edits, plain_edits,
 };
-pub use elf_commands_steps::{ElfCommandError, apply_each, apply_edits, files, laws};
 pub use elf_edits::ElfEdit;

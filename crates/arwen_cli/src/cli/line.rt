@@ -17,10 +17,10 @@ use crate::cli::build::BUILT;
 use crate::cli::{ArwenError, Command, ElfCommand, MachoCommand};
 use arwen_cli_faults::commands::{elf, elf_table};
 use arwen_cli_faults::show::{Args, ArgsFault, HELP, parse_args};
+use arwen_cli_options::{is_moved_by, without_move, without_quiet, without_sign};
 use arwen_cli_parser::{
     First, LineError, USAGE, line_of, or_memory, or_usage, parse_values, usage,
 };
-use arwen_cli_peers::{is_moved_by, without_move, without_quiet, without_sign};
 use command_words::{ValueError, Values, find_row};
 use macho_commands::macho_table;
 use std::alloc::{AllocError, Global};

@@ -2,10 +2,10 @@
 ghost use Rattle.std.specs.Prelude.{◌≡◌, Some, IfErr, IfOk, IsTrue, OnOk, length, map, string_bytes};
 ghost use Rattle.byte_store.specs.Known.{HasLength, IsAll, Stays};
 ghost use Rattle.elf_commands_lines.specs.ElfAsked.{edits_asked, elf_asked};
-ghost use Rattle.elf_commands_steps.specs.Groups.{group_model};
+ghost use Rattle.elf_commands_edits.specs.Groups.{group_model};
 ghost use Rattle.elf_commands.specs.ElfEngine.{AreAsked, ElfMayFail};
 ghost use Rattle.elf_commands.specs.ElfStores.{ChangesNothing, FailsElf, FailsElfAt, IsElfPatched, WritesEnd};
-ghost use Rattle.elf_commands_steps.specs.Failures.{HasCause, HasCauseAt, HasWriteCause};
+ghost use Rattle.elf_commands_edits.specs.Failures.{HasCause, HasCauseAt, HasWriteCause};
 ghost use Rattle.elf_commands_lines.specs.Meaning.{elf_file_of, elf_command_model};
 ghost use Rattle.elf_commands.specs.Noting.{TellsWantedAt};
 
@@ -14,8 +14,8 @@ use crate::elf::engine::pieces_asked;
 use crate::elf::opening::open_path;
 use byte_store::Store;
 use command_words::{NotDone, Notes, OpensOnce, RegularFiles, load};
+use elf_commands_edits::{ElfCommandError, make_opened, tell};
 use elf_commands_lines::{ElfCommand, GroupEdit};
-use elf_commands_steps::{ElfCommandError, make_opened, tell};
 use std::alloc::Global;
 use std::rt::Files;
 

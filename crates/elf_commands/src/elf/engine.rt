@@ -1,15 +1,15 @@
 //! What is made of a file's bytes, and printed of them.
 ghost use Rattle.std.specs.Prelude.{◌≡◌, Some, IfOk, IfErr, map, string_bytes};
-ghost use Rattle.elf_commands_steps.specs.ShrinkModel.{answer_model};
+ghost use Rattle.elf_commands_edits.specs.ShrinkModel.{answer_model};
 ghost use Rattle.elf_commands.specs.ShrinkRuns.{RunsCommand, TellsCommand};
 ghost use Rattle.std.specs.Io.KnownBytes.{Appends};
 ghost use Rattle.byte_store.specs.Composed.{IsDifference, made_of};
-ghost use Rattle.elf_commands_steps.specs.Written.{IsNoDifference};
+ghost use Rattle.elf_commands_edits.specs.Written.{IsNoDifference};
 ghost use Rattle.elf_commands.specs.ElfStores.{ChangesNothing};
-ghost use Rattle.elf_commands_steps.specs.Prints.{FailsPrint};
+ghost use Rattle.elf_commands_edits.specs.Prints.{FailsPrint};
 ghost use Rattle.elf_image.specs.Image.{image_of, shown};
 ghost use Rattle.elf_commands_lines.specs.ElfAsked.{edits_asked, elf_asked};
-ghost use Rattle.elf_commands_steps.specs.Groups.{group_model};
+ghost use Rattle.elf_commands_edits.specs.Groups.{group_model};
 ghost use Rattle.elf_commands.specs.ElfEngine.{IsElfEdited, LeavesElf, RunsElf, TellsEdit, TellsRun, as_asked, with_no_number};
 ghost use Rattle.elf_commands_lines.specs.Meaning.{elf_command_model, elf_file_of};
 ghost use Rattle.elf_commands.specs.Noting.{TellsWantedAt};
@@ -20,9 +20,9 @@ use crate::elf::shrinking::run_shrink;
 use crate::elf::typed::{edit_bytes, edited_pieces};
 use byte_store::Difference;
 use command_words::Notes;
+use elf_commands_edits::ElfCommandError;
+use elf_commands_edits::files::{ElfContainer, ElfError, ProbeAnswer};
 use elf_commands_lines::{ElfCommand, GroupEdit};
-use elf_commands_steps::ElfCommandError;
-use elf_commands_steps::files::{ElfContainer, ElfError, ProbeAnswer};
 use std::alloc::Global;
 use std::io::Write;
 

@@ -1,7 +1,7 @@
 //! What a user should know of edits.
 ghost use Rattle.std.specs.Prelude.{◌≡◌, Some, IfErr, IfOk, OnOk, [], map, string_bytes};
-ghost use Rattle.elf_commands_steps.specs.Groups.{MakeInTurn, group_model};
-ghost use Rattle.elf_commands_steps.specs.Groups.GroupEdit.{plain};
+ghost use Rattle.elf_commands_edits.specs.Groups.{MakeInTurn, group_model};
+ghost use Rattle.elf_commands_edits.specs.Groups.GroupEdit.{plain};
 ghost use Rattle.elf_commands_lines.specs.Groups.{edits_model};
 ghost use Rattle.elf_commands.specs.Noting.{TellsImage, TellsNoted, TellsUnmade, noted};
 ghost use Rattle.elf_notes.specs.Lines.{lines_of};
@@ -9,9 +9,9 @@ ghost use Rattle.elf_notes.specs.Notes.{AreFindings, AreLeft};
 ghost use Rattle.elf_notes.specs.declared.notes.ElfNotes.{ElfNotes};
 
 use command_words::Notes;
+use elf_commands_edits::files::ElfContainer;
+use elf_commands_edits::{ElfCommandError, apply_batch, apply_edits};
 use elf_commands_lines::{GroupEdit, has_symbols, plain_edits};
-use elf_commands_steps::files::ElfContainer;
-use elf_commands_steps::{ElfCommandError, apply_batch, apply_edits};
 use elf_edits::ElfEdit;
 use elf_notes::{Findings, findings_of, note_lines, notes_of};
 use std::alloc::{AllocError, Global};

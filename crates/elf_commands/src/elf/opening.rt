@@ -4,7 +4,7 @@ ghost use Rattle.elf_commands.specs.ElfStores.{IsUnopened};
 
 use byte_store::Store;
 use command_words::{NotDone, OpensOnce};
-use elf_commands_steps::ElfCommandError;
+use elf_commands_edits::ElfCommandError;
 
 /// Opens the store at a path for reading.
 ///

@@ -2,21 +2,21 @@
 ghost use Rattle.std.specs.Prelude.{IfErr, IfOk, OnOk, length, map, string_bytes};
 ghost use Rattle.byte_store.specs.Composed.{IsDifference};
 ghost use Rattle.byte_store.specs.Known.{HasLength, IsAll};
-ghost use Rattle.elf_commands_steps.specs.ShrinkModel.{answer_model};
+ghost use Rattle.elf_commands_edits.specs.ShrinkModel.{answer_model};
 ghost use Rattle.elf_edits.specs.Edit.{ShrinkRpath};
 ghost use Rattle.elf_commands_lines.specs.ElfAsked.{shrinking};
 ghost use Rattle.elf_commands.specs.ElfEngine.{MayFailAs};
 ghost use Rattle.elf_commands.specs.ElfStores.{WritesEnd};
-ghost use Rattle.elf_commands_steps.specs.Failures.{HasShrinkCause, HasShrinkCauseAt, HasTellCause};
+ghost use Rattle.elf_commands_edits.specs.Failures.{HasShrinkCause, HasShrinkCauseAt, HasTellCause};
 ghost use Rattle.elf_commands.specs.ShrinkRuns.{FailsShrink, FailsShrinkAt, IsQuiet, IsQuietAt, IsShrunkBy, RunsShrink, ShrinksStore, TellsShrink, TellsShrunk};
 
 use crate::elf::opening::open_path;
 use crate::elf::shrink_rpath::Args;
 use byte_store::Store;
 use command_words::{NotDone, OpensOnce, RegularFiles, load};
-use elf_commands_steps::files::{CountedWrite, ElfContainer, ProbeAnswer, Sink, write_all_counted};
-use elf_commands_steps::laws::lists_are_their_edits;
-use elf_commands_steps::{
+use elf_commands_edits::files::{CountedWrite, ElfContainer, ProbeAnswer, Sink, write_all_counted};
+use elf_commands_edits::laws::lists_are_their_edits;
+use elf_commands_edits::{
     ElfCommandError, FileProbe, Probe, Shrunk, StandardError, answers_of, make_opened,
     pieces_by_answers, shrink_image, tell_removed,
 };

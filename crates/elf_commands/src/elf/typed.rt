@@ -1,9 +1,9 @@
 //! Edits of the bytes of a file that are there as values, with no command.
 ghost use Rattle.std.specs.Prelude.{◌≡◌, Ok, Some, IfErr, IfOk, map, string_bytes};
 ghost use Rattle.byte_store.specs.Composed.{IsDifference, made_of};
-ghost use Rattle.elf_commands_steps.specs.Groups.{group_model};
-ghost use Rattle.elf_commands_steps.specs.Images.{AreChanged, TellsNoImage};
-ghost use Rattle.elf_commands_steps.specs.Written.{IsNoDifference};
+ghost use Rattle.elf_commands_edits.specs.Groups.{group_model};
+ghost use Rattle.elf_commands_edits.specs.Images.{AreChanged, TellsNoImage};
+ghost use Rattle.elf_commands_edits.specs.Written.{IsNoDifference};
 ghost use Rattle.elf_commands_lines.specs.ElfAsked.{several};
 ghost use Rattle.elf_commands.specs.ElfEngine.{IsEditedBy, IsEditedTo, TellsEdit, bytes_left};
 ghost use Rattle.elf_commands.specs.ElfStores.{ChangesNothing};
@@ -12,10 +12,10 @@ ghost use Rattle.elf_commands.specs.Noting.{TellsWantedAt};
 use crate::elf::noting::apply_noting;
 use byte_store::Difference;
 use command_words::Notes;
+use elf_commands_edits::files::ElfContainer;
+use elf_commands_edits::laws::lists_are_their_edits;
+use elf_commands_edits::{ElfCommandError, apply_each, changed_bytes, pieces_and_text};
 use elf_commands_lines::GroupEdit;
-use elf_commands_steps::files::ElfContainer;
-use elf_commands_steps::laws::lists_are_their_edits;
-use elf_commands_steps::{ElfCommandError, apply_each, changed_bytes, pieces_and_text};
 use elf_image::laws::read_images_hold_parts;
 use std::alloc::Global;
 

@@ -1,7 +1,7 @@
 -- The bytes that were read are those of the store.
 use Rattle.std.proofs.Common.{List, map, subst, ℕ}
 use Rattle.std.proofs.lemmas.Result.{err_from_is_err_and}
-use Rattle.arwen_cli_peers.specs.Options.{Asked, given_model}
+use Rattle.arwen_cli_options.specs.Options.{Asked, given_model}
 use Rattle.arwen_cli_install_names.specs.Naming.{TellsUnnamed}
 use Rattle.arwen_cli_install_names.proofs.FailureLaws.{read_cause, unnamed_cause}
 use Rattle.arwen_cli_install_names.proofs.CallLaws.{read_tells, store_unnamed}

@@ -3,7 +3,7 @@ use Rattle.std.proofs.Common.{List, map}
 use Rattle.std.proofs.lemmas.Result.{err_from_is_err_and}
 use Rattle.macho_edits.specs.Batch.{calls_of}
 use Rattle.macho_edits.specs.Call.{Call}
-use Rattle.arwen_cli_peers.specs.Options.{given_model}
+use Rattle.arwen_cli_options.specs.Options.{given_model}
 use Rattle.arwen_cli_install_names.proofs.FailureLaws.{cause_after, fails_after, uncalled_fails}
 use Rattle.arwen_cli_install_names.proofs.editing.name_store.Goals as goal
 

@@ -1,5 +1,5 @@
 use Rattle.std.proofs.Common.{◌≡◌, codes, drop, map}
-use Rattle.arwen_cli_peers.specs.Options.{given_model, values_of}
+use Rattle.arwen_cli_options.specs.Options.{given_model, values_of}
 use Rattle.arwen_cli_install_names.proofs.NameLaws.{with_found}
 use Rattle.arwen_cli_install_names.proofs.line.file_in.Given as goal
 

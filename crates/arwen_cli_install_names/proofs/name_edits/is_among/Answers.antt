@@ -2,7 +2,7 @@
 use Rattle.std.proofs.Common.{List, String, Global, ap, drop, map, string_bytes, sym, ◌||◌, ◌+◌, ◌∙◌}
 use Rattle.std.specs.Str.{bytes_eq}
 use Rattle.arwen_cli_install_names.specs.NameEdits.{is_among}
-use Rattle.arwen_cli_peers.proofs.Turns.{turned}
+use Rattle.arwen_cli_options.proofs.Turns.{turned}
 use Rattle.arwen_cli_install_names.proofs.name_edits.is_among.Goals as goal
 
 pub loop-one-preserved : goal.loop-one-preserved

@@ -1,6 +1,6 @@
 use Rattle.std.proofs.Common.{◌≡◌, ◌++◌, drop, map}
 use Rattle.macho_edits.specs.Batch.{calls_of}
-use Rattle.arwen_cli_peers.specs.Options.{given_model}
+use Rattle.arwen_cli_options.specs.Options.{given_model}
 use Rattle.arwen_cli_install_names.specs.NameEdits.{names_model, options_calls, other_options}
 use Rattle.arwen_cli_install_names.proofs.name_edits.put_other_options.Given as goal
 

@@ -2,7 +2,7 @@
 use Rattle.std.proofs.Common.{◌≡◌, List, false, map, true}
 use Rattle.macho_edits.specs.Batch.{calls_of}
 use Rattle.macho_edits.specs.Call.{Call}
-use Rattle.arwen_cli_peers.specs.Options.{Asked, given_model}
+use Rattle.arwen_cli_options.specs.Options.{Asked, given_model}
 use Rattle.arwen_cli_install_names.proofs.CallLaws.{calls_of_slice}
 use Rattle.arwen_cli_install_names.proofs.naming.are_edits_of.Goals as goal
 

@@ -1,7 +1,7 @@
 use Rattle.std.proofs.Common.{drop, map}
 use Rattle.arwen_macho.specs.FatSlice.{slice_model}
 use Rattle.macho_edits.specs.Batch.{calls_of}
-use Rattle.arwen_cli_peers.specs.Options.{given_model}
+use Rattle.arwen_cli_options.specs.Options.{given_model}
 use Rattle.arwen_cli_install_names.specs.Naming.{AreCalls, slice_bytes}
 use Rattle.arwen_cli_install_names.proofs.naming.are_edits_of.Given as goal
 

@@ -1,7 +1,7 @@
 -- The file that was read is that of the bytes.
 use Rattle.std.proofs.Common.{map, ◌∙◌}
 use Rattle.std.proofs.lemmas.Result.{IfErr-weaker}
-use Rattle.arwen_cli_peers.specs.Options.{given_model}
+use Rattle.arwen_cli_options.specs.Options.{given_model}
 use Rattle.arwen_cli_install_names.proofs.CallLaws.{unnamed}
 use Rattle.arwen_cli_install_names.proofs.naming.edits_for.Goals as goal
 

@@ -3,7 +3,7 @@ use Rattle.std.proofs.Common.{List, map, subst, sym}
 use Rattle.std.specs.Prelude.{IfErr}
 use Rattle.arwen_macho.specs.declared.macho.MachoType.{MachoType}
 use Rattle.arwen_macho.specs.FatState.{Slice}
-use Rattle.arwen_cli_peers.specs.Options.{Asked, given_model}
+use Rattle.arwen_cli_options.specs.Options.{Asked, given_model}
 use Rattle.arwen_cli_install_names.specs.Naming.{TellsPartsUnnamed, parts_of, slice_bytes}
 use Rattle.arwen_cli_install_names.proofs.naming.edits_in.Goals as goal
 

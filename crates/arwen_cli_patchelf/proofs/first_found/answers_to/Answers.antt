@@ -2,7 +2,7 @@
 use Rattle.std.proofs.Common.{Bor, List, [], get_or, map, string_bytes}
 use Rattle.std.specs.HashSet.{keys}
 use Rattle.std.proofs.lemmas.List.{get_or_default}
-use Rattle.arwen_cli_peers.specs.Options.{Text}
+use Rattle.arwen_cli_options.specs.Options.{Text}
 use Rattle.arwen_cli_patchelf.proofs.FirstSteps.{answers_more, set_more}
 use Rattle.arwen_cli_patchelf.proofs.first_found.answers_to.Goals as goal
 

@@ -10,7 +10,7 @@ use Rattle.elf_edits_shrink.specs.declared.probe.ProbeAnswer.{ProbeAnswer}
 use Rattle.elf_commands.specs.ElfAsked.{one}
 use Rattle.elf_commands.specs.Groups.{plain}
 use Rattle.elf_commands.specs.ElfEngine.{LeavesElf, TellsEdit, bytes_left}
-use Rattle.arwen_cli_peers.specs.Options.{Text}
+use Rattle.arwen_cli_options.specs.Options.{Text}
 use Rattle.arwen_cli_patchelf.specs.FirstFound.{AreFirstFoundWhere, answers_model}
 use Rattle.arwen_cli_patchelf.proofs.FirstSteps.{first_tells, nothing_shrinks, some_shrink}
 use Rattle.arwen_cli_patchelf.proofs.first_found.shrunk_bytes.Goals as goal

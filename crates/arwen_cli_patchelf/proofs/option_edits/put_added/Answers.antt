@@ -3,8 +3,8 @@ use Rattle.std.proofs.Common.{◌++◌, ◌∷◌, [], ◌∙◌, List, ap, appe
 use Rattle.std.proofs.lemmas.Result.{on_ok_weaker}
 use Rattle.elf_edits.specs.Edit.{AddRpath}
 use Rattle.elf_edits.specs.TextModel.{Bytes, texts_model}
-use Rattle.arwen_cli_peers.specs.Asked.{asked_model}
-use Rattle.arwen_cli_peers.specs.Options.{Asked}
+use Rattle.arwen_cli_options.specs.Asked.{asked_model}
+use Rattle.arwen_cli_options.specs.Options.{Asked}
 use Rattle.arwen_cli_patchelf.specs.OptionEdits.{Planned, added_edits, by, forced, planned_model}
 use Rattle.arwen_cli_patchelf.proofs.option_edits.put_added.Goals as goal
 

@@ -2,7 +2,7 @@
 use Rattle.std.proofs.Common.{◌∙◌, ◌++◌, ap, codes, map, sym}
 use Rattle.std.proofs.lemmas.Result.{on_ok_weaker}
 use Rattle.elf_edits.specs.Edit.{ReplaceLibrary}
-use Rattle.arwen_cli_peers.specs.Asked.{pair_lent}
+use Rattle.arwen_cli_options.specs.Asked.{pair_lent}
 use Rattle.arwen_cli_patchelf.specs.OptionEdits.{planned_model}
 use Rattle.arwen_cli_patchelf.proofs.EditLaws.{some_given}
 use Rattle.arwen_cli_patchelf.proofs.option_edits.put_replaced.Goals as goal

@@ -1,5 +1,5 @@
 use Rattle.std.proofs.Common.{◌≡◌, ◌++◌, drop, map}
-use Rattle.arwen_cli_peers.specs.Asked.{asked_model}
+use Rattle.arwen_cli_options.specs.Asked.{asked_model}
 use Rattle.arwen_cli_patchelf.specs.Printing.{prints_among}
 use Rattle.arwen_cli_patchelf.proofs.printing.prints_of.Given as goal
 

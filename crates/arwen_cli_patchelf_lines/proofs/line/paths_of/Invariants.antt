@@ -1,5 +1,5 @@
 use Rattle.std.proofs.Common.{◌≡◌, ◌++◌, codes, drop, map, string_bytes}
-use Rattle.arwen_cli_peers.specs.Options.{given_model, values_of}
+use Rattle.arwen_cli_options.specs.Options.{given_model, values_of}
 use Rattle.arwen_cli_patchelf_lines.proofs.line.paths_of.Given as goal
 
 -- the paths so far, with those that are left

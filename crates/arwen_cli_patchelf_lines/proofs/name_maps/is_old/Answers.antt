@@ -1,7 +1,7 @@
 -- A pair with another old name is passed over.
 use Rattle.std.proofs.Common.{Bor, [], List, ap, drop, map, sym, ◌||◌, ◌+◌, ◌∙◌}
 use Rattle.std.proofs.lemmas.List.{at_drop_more}
-use Rattle.arwen_cli_peers.specs.Options.{Text}
+use Rattle.arwen_cli_options.specs.Options.{Text}
 use Rattle.arwen_cli_patchelf_lines.specs.NameMaps.{is_old, lent_pair}
 use Rattle.arwen_cli_patchelf_lines.specs.declared.name_maps.NamePair.{NamePair}
 use Rattle.arwen_cli_patchelf_lines.proofs.name_maps.is_old.Goals as goal

@@ -1,6 +1,6 @@
 -- A line gives a pair, ends the map, or is the first that is wrong.
 use Rattle.std.proofs.Common.{Bor, []}
-use Rattle.arwen_cli_peers.specs.Options.{Text}
+use Rattle.arwen_cli_options.specs.Options.{Text}
 use Rattle.arwen_cli_patchelf_lines.proofs.MapLaws.{all_read, ends_here, one_read, wrong_here}
 use Rattle.arwen_cli_patchelf_lines.proofs.name_maps.put_pairs.Goals as goal
 

@@ -1,5 +1,5 @@
 use Rattle.std.proofs.Common.{◌≡◌, drop, map}
-use Rattle.arwen_cli_peers.specs.Options.{given_model}
+use Rattle.arwen_cli_options.specs.Options.{given_model}
 use Rattle.arwen_cli_patchelf_lines.specs.Refusals.{absent_among}
 use Rattle.arwen_cli_patchelf_lines.proofs.refusals.absent_in.Given as goal
 

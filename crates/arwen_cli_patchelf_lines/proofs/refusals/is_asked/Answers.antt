@@ -1,8 +1,8 @@
 -- An option of another name is passed over.
 use Rattle.std.proofs.Common.{Bor, [], List, ap, drop, map, sym, ◌||◌, ◌+◌, ◌∙◌}
 use Rattle.std.proofs.lemmas.List.{at_drop_more}
-use Rattle.arwen_cli_peers.specs.Options.{Text, given_model}
-use Rattle.arwen_cli_peers.specs.declared.options.Given.{Given}
+use Rattle.arwen_cli_options.specs.Options.{Text, given_model}
+use Rattle.arwen_cli_options.specs.declared.options.Given.{Given}
 use Rattle.arwen_cli_patchelf_lines.specs.Refusals.{is_asked}
 use Rattle.arwen_cli_patchelf_lines.proofs.refusals.is_asked.Goals as goal
 

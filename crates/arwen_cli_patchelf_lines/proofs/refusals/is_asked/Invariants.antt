@@ -1,5 +1,5 @@
 use Rattle.std.proofs.Common.{◌≡◌, drop, map}
-use Rattle.arwen_cli_peers.specs.Options.{given_model}
+use Rattle.arwen_cli_options.specs.Options.{given_model}
 use Rattle.arwen_cli_patchelf_lines.specs.Refusals.{is_asked}
 use Rattle.arwen_cli_patchelf_lines.proofs.refusals.is_asked.Given as goal
 

@@ -1,7 +1,7 @@
 -- The bytes of the map are a text, or none.
 use Rattle.std.proofs.Common.{◌≡◌, Global, String, ap, string_bytes, ◌∙◌}
 use Rattle.std.proofs.lemmas.Result.{IfOk-weaker, err_from_is_err_and}
-use Rattle.arwen_cli_peers.specs.Options.{given_model}
+use Rattle.arwen_cli_options.specs.Options.{given_model}
 use Rattle.arwen_cli_patchelf_lines.specs.NameMaps.{spaced_all}
 use Rattle.arwen_cli_patchelf_lines.specs.Values.{IsMapText}
 use Rattle.arwen_cli_patchelf_lines.proofs.ValueLaws.{map_unread, no_map}

@@ -1,8 +1,8 @@
 -- The pairs of the map are put, or one of its lines is wrong.
 use Rattle.std.proofs.Common.{map, string_bytes}
 use Rattle.std.proofs.lemmas.Result.{MatchResult-weaker, err_from_is_err_and, on_ok_weaker}
-use Rattle.arwen_cli_peers.specs.Asked.{asked_model}
-use Rattle.arwen_cli_peers.specs.Options.{given_model}
+use Rattle.arwen_cli_options.specs.Asked.{asked_model}
+use Rattle.arwen_cli_options.specs.Options.{given_model}
 use Rattle.arwen_cli_patchelf_lines.proofs.ValueLaws.{map_put, map_wrong}
 use Rattle.arwen_cli_patchelf_lines.proofs.values.put_pairs.Goals as goal
 

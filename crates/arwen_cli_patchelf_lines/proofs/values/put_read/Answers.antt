@@ -1,7 +1,7 @@
 -- The bytes of the file that the value names are no text.
 use Rattle.std.proofs.Common.{sym}
 use Rattle.std.proofs.lemmas.Result.{err_from_is_err_and}
-use Rattle.arwen_cli_peers.specs.Options.{given_model}
+use Rattle.arwen_cli_options.specs.Options.{given_model}
 use Rattle.arwen_cli_patchelf_lines.proofs.ValueLaws.{no_file, no_text}
 use Rattle.arwen_cli_patchelf_lines.proofs.values.put_read.Goals as goal
 

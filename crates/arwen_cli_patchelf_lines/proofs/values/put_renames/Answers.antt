@@ -1,8 +1,8 @@
 -- A rename is put behind those so far.
 use Rattle.std.proofs.Common.{Bor, List, [], ap, append_assoc, get_or, map, sym, take, ◌++◌, ◌∷◌, ◌∙◌}
 use Rattle.std.proofs.lemmas.List.{map_more, map_push}
-use Rattle.arwen_cli_peers.specs.Asked.{asked_model}
-use Rattle.arwen_cli_peers.specs.Options.{Asked, Text}
+use Rattle.arwen_cli_options.specs.Asked.{asked_model}
+use Rattle.arwen_cli_options.specs.Options.{Asked, Text}
 use Rattle.arwen_cli_patchelf_lines.specs.NameMaps.{lent_pair}
 use Rattle.arwen_cli_patchelf_lines.specs.Values.{rename_asked}
 use Rattle.arwen_cli_patchelf_lines.specs.declared.name_maps.NamePair.{NamePair}

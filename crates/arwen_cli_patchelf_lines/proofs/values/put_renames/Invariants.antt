@@ -1,5 +1,5 @@
 use Rattle.std.proofs.Common.{◌≡◌, ◌++◌, map, take}
-use Rattle.arwen_cli_peers.specs.Asked.{asked_model}
+use Rattle.arwen_cli_options.specs.Asked.{asked_model}
 use Rattle.arwen_cli_patchelf_lines.specs.NameMaps.{lent_pair}
 use Rattle.arwen_cli_patchelf_lines.specs.Values.{rename_asked}
 use Rattle.arwen_cli_patchelf_lines.proofs.values.put_renames.Given as goal

@@ -1,7 +1,7 @@
 -- An option is put behind those so far, or is the first whose value isn't read.
 use Rattle.std.proofs.Common.{map}
 use Rattle.std.proofs.lemmas.Result.{err_from_is_err_and}
-use Rattle.arwen_cli_peers.specs.Asked.{asked_model}
+use Rattle.arwen_cli_options.specs.Asked.{asked_model}
 use Rattle.arwen_cli_patchelf_lines.proofs.ValueLaws.{all_put, one_more, one_past, one_refused}
 use Rattle.arwen_cli_patchelf_lines.proofs.values.resolved.Goals as goal
 

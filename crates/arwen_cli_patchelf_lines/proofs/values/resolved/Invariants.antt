@@ -1,5 +1,5 @@
 use Rattle.std.proofs.Common.{drop, map}
-use Rattle.arwen_cli_peers.specs.Asked.{asked_model}
+use Rattle.arwen_cli_options.specs.Asked.{asked_model}
 use Rattle.arwen_cli_patchelf_lines.proofs.ValueLaws.{Leads, Stops}
 use Rattle.arwen_cli_patchelf_lines.proofs.values.resolved.Given as goal
 

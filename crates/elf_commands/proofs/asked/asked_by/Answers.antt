@@ -1,7 +1,7 @@
 -- A command that names one edit asks for that.
 use Rattle.std.proofs.Common.{◌∙◌, List, Some, ap, map, sym}
 use Rattle.std.specs.Option.{option_map}
-use Rattle.elf_commands_steps.specs.Groups.{group_model}
+use Rattle.elf_commands_edits.specs.Groups.{group_model}
 use Rattle.elf_commands_lines.specs.declared.groups.GroupEdit.{GroupEdit as GroupHeld}
 use Rattle.elf_commands_lines.specs.ElfAsked.{edits_asked}
 use Rattle.elf_commands_lines.specs.Meaning.{elf_command_model}

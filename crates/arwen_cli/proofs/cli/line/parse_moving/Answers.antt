@@ -4,7 +4,7 @@ use Rattle.std.specs.Option.{option_map}
 use Rattle.std.proofs.lemmas.Result.{IfOk-weaker}
 use Rattle.command_words.specs.Rows.{Given, Named, Text, given_model, named_of}
 use Rattle.arwen_cli_faults.specs.Meaning.{elf_command_model, elf_lines}
-use Rattle.arwen_cli_peers.specs.Lines.{without_move}
+use Rattle.arwen_cli_options.specs.Lines.{without_move}
 use Rattle.arwen_cli.specs.Moving.{takes_leave}
 use Rattle.arwen_cli_parser.specs.Parser.{IsTaken}
 use Rattle.arwen_cli.proofs.Meanings.{texts}

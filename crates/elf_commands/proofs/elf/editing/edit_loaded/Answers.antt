@@ -1,7 +1,7 @@
 use Rattle.std.proofs.Common.{map, refl, string_bytes}
 use Rattle.std.proofs.lemmas.Result.{err_from_is_err_and}
 use Rattle.elf_commands_lines.specs.ElfAsked.{elf_asked}
-use Rattle.elf_commands_steps.specs.Groups.{group_model}
+use Rattle.elf_commands_edits.specs.Groups.{group_model}
 use Rattle.elf_commands_lines.specs.Meaning.{elf_command_model, elf_file_of}
 use Rattle.elf_commands.proofs.ElfOutcomes.{may_fail}
 use Rattle.elf_commands.proofs.ElfStoreLaws.{elf_failed, elf_patched, file_refused, nothing_differs, replaced_as_asked}

@@ -1,6 +1,6 @@
 -- What the edits make is what the command asks for.
 use Rattle.std.proofs.Common.{map}
-use Rattle.elf_commands_steps.specs.Groups.{group_model}
+use Rattle.elf_commands_edits.specs.Groups.{group_model}
 use Rattle.elf_commands_lines.specs.ElfAsked.{elf_asked}
 use Rattle.elf_commands_lines.specs.Meaning.{elf_command_model}
 use Rattle.elf_commands.proofs.ElfOutcomes.{told_as_asked}

@@ -1,7 +1,7 @@
 -- What the edits make is what the command asks for.
 use Rattle.std.proofs.Common.{◌∙◌, List, Some, map, string_bytes, subst, sym}
 use Rattle.command_words.specs.Rows.{Text}
-use Rattle.elf_commands_steps.specs.Groups.{GroupEdit, group_model}
+use Rattle.elf_commands_edits.specs.Groups.{GroupEdit, group_model}
 use Rattle.elf_commands_lines.specs.ElfAsked.{ElfAsked, elf_asked}
 use Rattle.elf_commands_lines.specs.Meaning.{elf_command_model}
 use Rattle.elf_commands.specs.Noting.{TellsWantedAt}

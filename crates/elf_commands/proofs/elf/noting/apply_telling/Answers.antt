@@ -2,8 +2,8 @@
 use Rattle.std.proofs.Common.{◌∙◌, List, Option, ap, string_bytes, subst}
 use Rattle.std.specs.Prelude.{IfErr, IfOk, OnOk}
 use Rattle.elf_edits.specs.Edit.{Edit}
-use Rattle.elf_commands_steps.specs.Groups.{GroupEdit, MakeInTurn}
-use Rattle.elf_commands_steps.proofs.ListLaws.{is_batch}
+use Rattle.elf_commands_edits.specs.Groups.{GroupEdit, MakeInTurn}
+use Rattle.elf_commands_edits.proofs.ListLaws.{is_batch}
 use Rattle.elf_commands_lines.specs.Groups.{edits_model}
 use Rattle.elf_commands.specs.Noting.{TellsNoted, TellsUnmade, noted}
 use Rattle.elf_commands.proofs.NotingLaws.{all_noted}

@@ -1,11 +1,11 @@
 use Rattle.std.proofs.Common.{List, String, map, string_bytes, subst}
 use Rattle.std.specs.declared.alloc.Global.{Global}
 use Rattle.std.proofs.lemmas.Result.{IfErr-weaker, IfOk-weaker}
-use Rattle.elf_commands_steps.specs.Told.{Refuses}
-use Rattle.elf_commands_steps.specs.ShrinkModel.{answer_model}
+use Rattle.elf_commands_edits.specs.Told.{Refuses}
+use Rattle.elf_commands_edits.specs.ShrinkModel.{answer_model}
 use Rattle.elf_edits.specs.Edit.{Edit, ShrinkRpath}
 use Rattle.elf_edits.specs.Edited.{step}
-use Rattle.elf_commands_steps.specs.ShrunkImages.{Steps}
+use Rattle.elf_commands_edits.specs.ShrunkImages.{Steps}
 use Rattle.elf_commands.proofs.ElfOutcomes.{one_refused}
 use Rattle.elf_commands.proofs.ShrinkLaws.{quiet_shrink, runs_shrink, tells_shrink}
 use Rattle.elf_commands.proofs.elf.shrinking.run_shrink.Goals as goal

@@ -4,7 +4,7 @@ use Rattle.std.proofs.lemmas.Result.{IfErr-weaker, err_from_is_err_and}
 use Rattle.std.specs.declared.alloc.Global.{Global}
 use Rattle.std.specs.declared.io.Error.{Error}
 use Rattle.command_words.specs.Rows.{Text}
-use Rattle.elf_commands_steps.specs.declared.error.ElfCommandError.{ElfCommandError}
+use Rattle.elf_commands_edits.specs.declared.error.ElfCommandError.{ElfCommandError}
 use Rattle.elf_commands.specs.ElfStores.{WritesEnd}
 use Rattle.elf_commands.specs.ShrinkRuns.{FailsShrink, IsQuiet}
 use Rattle.elf_commands.proofs.FailureLaws.{shrink_cause_after, shrink_read_cause}

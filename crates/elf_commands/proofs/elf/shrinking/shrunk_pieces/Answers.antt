@@ -1,6 +1,6 @@
 use Rattle.std.proofs.Common.{map, string_bytes}
 use Rattle.std.proofs.lemmas.Result.{IfErr-weaker, IfOk-weaker}
-use Rattle.elf_commands_steps.specs.ShrinkModel.{answer_model}
+use Rattle.elf_commands_edits.specs.ShrinkModel.{answer_model}
 use Rattle.elf_edits.specs.Edit.{ShrinkRpath}
 use Rattle.elf_commands.proofs.ShrinkLaws.{found_in, shrunk_file, shrunk_makeable, unshrunk_file}
 use Rattle.elf_commands.proofs.elf.shrinking.shrunk_pieces.Goals as goal

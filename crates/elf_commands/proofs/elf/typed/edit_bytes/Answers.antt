@@ -1,7 +1,7 @@
 use Rattle.std.proofs.Common.{List, Ok, Some, map, string_bytes, subst, sym}
 use Rattle.std.proofs.lemmas.Result.{IfErr-weaker, IfOk-weaker}
 use Rattle.command_words.specs.Rows.{Text}
-use Rattle.elf_commands_steps.specs.Groups.{GroupEdit, group_model}
+use Rattle.elf_commands_edits.specs.Groups.{GroupEdit, group_model}
 use Rattle.elf_commands_lines.specs.ElfAsked.{several}
 use Rattle.elf_commands.specs.Noting.{TellsWantedAt}
 use Rattle.elf_commands.proofs.ElfOutcomes.{edited_by, made_of_edits, tells_no_bytes}

@@ -1,6 +1,6 @@
 use Rattle.std.proofs.Common.{List, map}
 use Rattle.std.proofs.lemmas.Result.{IfErr-weaker, IfOk-weaker}
-use Rattle.elf_commands_steps.specs.Groups.{GroupEdit, group_model}
+use Rattle.elf_commands_edits.specs.Groups.{GroupEdit, group_model}
 use Rattle.elf_commands.proofs.ElfOutcomes.{edited_by, made_of_edits, tells_no_bytes}
 use Rattle.elf_commands.proofs.elf.typed.edit_each.Goals as goal
 

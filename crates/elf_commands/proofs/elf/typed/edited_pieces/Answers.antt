@@ -2,8 +2,8 @@ use Rattle.std.proofs.Common.{List, Ok, Some, map, string_bytes, subst, sym}
 use Rattle.std.proofs.lemmas.Result.{IfErr-weaker, IfOk-weaker}
 use Rattle.byte_store.specs.Composed.{IsDifference}
 use Rattle.command_words.specs.Rows.{Text}
-use Rattle.elf_commands_steps.specs.Groups.{GroupEdit, group_model}
-use Rattle.elf_commands_steps.specs.Written.{IsNoDifference}
+use Rattle.elf_commands_edits.specs.Groups.{GroupEdit, group_model}
+use Rattle.elf_commands_edits.specs.Written.{IsNoDifference}
 use Rattle.elf_commands_lines.specs.ElfAsked.{several}
 use Rattle.elf_commands.specs.Noting.{TellsWantedAt}
 use Rattle.elf_commands.proofs.ElfOutcomes.{if_ok_and, made_of_edits, pieces_made, source_is, stays_unmarked, tells_no_bytes}
