@@ -8,6 +8,7 @@ pub mod PrintTexts
 pub mod Printing
 pub use Rattle.elf_commands.specs.Counted
 pub use Rattle.elf_commands.specs.ElfCommandError
+pub use Rattle.elf_commands.specs.ElfError
 pub use Rattle.elf_commands.specs.Failures
 pub use Rattle.elf_commands.specs.Shrinking
 pub use Rattle.elf_commands.specs.ElfCommand

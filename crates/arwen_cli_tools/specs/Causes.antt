@@ -1,16 +1,19 @@
 -- Why files aren't edited, in words.
 use Rattle.std.specs.Prelude.{ℕ, ◌≡◌, ◌++◌, List, [], Option, None, codes}
 use Rattle.arwen_cli_faults.specs.Reasons.{file_line}
+use Rattle.arwen_cli_faults.specs.Causes.{AreCauses}
 use Rattle.arwen_cli_faults.specs.Fault.{answer_to_elf_command, answer_to_macho_command}
 use Rattle.arwen_cli_faults.specs.Telling.{IsFileFault}
 use Rattle.arwen_cli_install_names.specs.declared.editing.NamesError.{NamesError}
 use Rattle.arwen_cli_install_names.specs.declared.editing.NamesError.TheVariants as names
 use Rattle.arwen_cli_patchelf.specs.ElfCommandError.{ElfCommandError}
+use Rattle.arwen_cli_patchelf.specs.ElfCommandError.TheVariants.{Elf, ElfBatch}
+use Rattle.arwen_cli_patchelf.specs.ElfError.{ElfError}
 use Rattle.arwen_cli_patchelf.specs.declared.error.PatchelfError.{PatchelfError}
 use Rattle.arwen_cli_patchelf.specs.declared.error.PatchelfError.TheVariants.{Absent, Command}
 use Rattle.arwen_cli_patchelf.specs.declared.printing.Print.{Print}
 use Rattle.arwen_cli_patchelf.specs.declared.printing.Print.TheVariants.{ExecStack, Interpreter, Needed, OsAbi, RunPath, Soname}
-use Rattle.arwen_cli_patchelf.specs.Plans.{PlanMeant}
+use Rattle.arwen_cli_patchelf.specs.Plans.{PlanMeant, option_of}
 use Rattle.arwen_cli_options.specs.Options.{Text}
 
 -- what a file has no place for that lacks a print
@@ -27,10 +30,13 @@ absent_words Needed = codes "no dynamic section"
 abbrev pub TellsEdits : PlanMeant → Option (List ℕ) → Text → ElfCommandError → Text → Type 0
 TellsEdits plan known path e told = IsFileFault known plan.edits path (answer_to_elf_command e) told
 
--- of an edit that is refused, by its number, the option that asks for it stands in front, and why it is refused behind
+-- of an edit that is refused, by its number, the option that asks for it, and why
+abbrev pub TellsRefused : PlanMeant → Text → ℕ → ElfError → Text → Type 0
+TellsRefused plan path index fault told = (why : Text) × AreCauses (answer_to_elf_command (Elf fault)) why
+    × (told ≡ file_line path (option_of plan index ++ (codes ": " ++ why)) None)
+
 abbrev pub TellsCommand : PlanMeant → Option (List ℕ) → Text → ElfCommandError → Text → Type 0
-TellsCommand plan known path (ElfBatch refused) told =
-    (why : Text) × TellsEdits plan known path (Elf refused.fault) why × (told ≡ option_of plan refused.index ++ (codes ": " ++ why))
+TellsCommand plan known path (ElfBatch refused) told = TellsRefused plan path refused.index refused.fault told
 TellsCommand plan known path e told = TellsEdits plan known path e told
 
 -- a file may lack what a line prints, or its edits aren't made

@@ -2,12 +2,13 @@
 ghost use Rattle.std.specs.Prelude.{◌≡◌, IfOk, string_bytes};
 ghost use Rattle.arwen_cli_faults.specs.Fault.{answer_to_elf_command};
 ghost use Rattle.arwen_cli_patchelf.specs.Plans.{plan_model};
-ghost use Rattle.arwen_cli_tools.specs.Causes.{IsElfFaultLine, IsNamesFaultLine, TellsCommand, TellsEdits, TellsElf, TellsNames, absent_words as absent_told};
+ghost use Rattle.arwen_cli_tools.specs.Causes.{IsElfFaultLine, IsNamesFaultLine, TellsCommand, TellsEdits, TellsElf, TellsNames, TellsRefused, absent_words as absent_told};
 
 use crate::ending::{joined, three};
-use arwen_cli_faults::{ArwenError, file_fault_line, file_line};
+use arwen_cli_faults::{ArwenError, causes_text, file_fault_line, file_line};
 use arwen_cli_install_names::NamesError;
 use arwen_cli_patchelf::commands::ElfCommandError;
+use arwen_cli_patchelf::commands::files::ElfBatchError;
 use arwen_cli_patchelf::{PatchelfError, Plan, Print};
 use command_words::FileBytes;
 use std::alloc::{AllocError, Global};
@@ -41,7 +42,7 @@ fn absent_words(print: Print) -> &'static str
     }
 }
 
-/// What is told where the edits of a plan aren't made: of an edit that is refused, first the option that asks for it.
+/// What is told where the edits of a plan aren't made.
 fn command_line<F: FileBytes>(
     alloc: Global,
     files: &F,
@@ -53,19 +54,27 @@ fn command_line<F: FileBytes>(
         (F.contents files.now path.now) path.now error (string_bytes told)) }
 {
     match error {
-        ElfCommandError::ElfBatch(refused) => {
-            let option = plan.option_of(refused.index);
-            let told = edits_line(
-                alloc,
-                files,
-                plan,
-                path,
-                ElfCommandError::Elf(refused.fault),
-            )?;
-            three(alloc, option, ": ", told.as_str())
-        }
+        ElfCommandError::ElfBatch(refused) => refused_line(alloc, plan, path, refused),
         error => edits_line(alloc, files, plan, path, error),
     }
+}
+
+/// What is told of an edit of a plan that is refused: the option that asks for it, and why.
+fn refused_line(
+    alloc: Global,
+    plan: &Plan,
+    path: &str,
+    refused: ElfBatchError,
+) -> Result<String, AllocError>
+    ensures { IfOk result (λ told. TellsRefused (plan_model plan.now)
+        path.now refused.index refused.fault (string_bytes told)) }
+{
+    let option = plan.option_of(refused.index);
+    let fault = ArwenError::from(ElfCommandError::Elf(refused.fault));
+    let why = causes_text(alloc, &fault);
+    drop(fault);
+    let causes = three(alloc, option, ": ", why?.as_str())?;
+    file_line(alloc, path, causes.as_str(), &None)
 }
 
 /// What is told of a fault of the edits of a plan.
