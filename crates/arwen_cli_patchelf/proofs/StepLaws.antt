@@ -1,5 +1,9 @@
 -- What the steps of plans make and tell.
-use Rattle.std.proofs.Common.{[], ◌≡◌, ℕ, List, None, Option, refl, inl, inr, subst, sym}
+use Rattle.std.proofs.Common.{[], ◌∷◌, ◌≡◌, ℕ, List, None, Option, false, length, map, refl, inl, inr, subst, sym}
+use Rattle.std.specs.Prelude.{◌==◌}
+use Rattle.std.specs.declared.alloc.Global.{Global}
+use Rattle.std.specs.declared.vec.Vec.{Vec}
+use Rattle.elf_commands.specs.ElfEngine.{IsEditedBy, bytes_left}
 use Rattle.elf_commands.specs.Groups.{GroupEdit}
 use Rattle.elf_commands.specs.ElfCommandError.{ElfCommandError}
 use Rattle.elf_commands.specs.ElfCommandError.TheVariants.{Edits, Elf, ElfBatch, Io, Memory}
@@ -15,6 +19,12 @@ nothing_made finds plan file nothing = record {
   shrunk = let Of : Option (List Text) → Type 0 = λ s. IsShrunkTo finds s file file in subst Of (sym nothing.shrinks) refl;
   edited = let Of : List GroupEdit → Type 0 = λ l. IsEditedWith l file file in subst Of (sym nothing.edits) refl;
 }
+
+-- there are edits, and this is the answer to them
+pub edited_some : {X : Type 0} (model : X → GroupEdit) (edits : List X) (file : List ℕ) (answer : Option (Vec ℕ Global)) → false ≡ (length edits == 0) → IsEditedBy (map model edits) file answer
+    → IsEditedWith (map model edits) file (bytes_left file answer)
+edited_some model [] file answer some edited = absurd (cc)
+edited_some model (edit ∷ edits) file answer some edited = (answer, edited, refl)
 
 -- the first step is refused
 pub first_refused : (finds : Finding) (plan : PlanMeant) (file : List ℕ) (e : ElfCommandError) → TellsUnshrunk finds plan.shrinks file e → TellsUnmade finds plan file e

@@ -18,7 +18,7 @@ abbrev pub plan_model : Plan → PlanMeant
 plan_model plan = record {
   shrinks = option_map (λ prefixes. map string_bytes prefixes.items) plan.shrinks;
   edits = map group_model plan.edits.items;
-  options = map (λ option. option.now) plan.options.items;
+  options = map string_bytes plan.options.items;
 }
 
 -- the option that asks for the edit with this number, counted from 0; no text where none does

@@ -20,7 +20,7 @@ pub struct Plan {
     pub shrinks: Option<Vec<String>>,
     // The edits, with leave behind them that the dynamic section moves, and the names of the options that ask for them.
     edits: Vec<GroupEdit>,
-    options: Vec<&'static str>,
+    options: Vec<String>,
 }
 
 impl Plan {
@@ -32,11 +32,11 @@ impl Plan {
     }
 
     /// The name of the option that asks for the edit with this number, counted from 0; empty where none does. Takes no memory.
-    pub fn option_of(&self, index: usize) -> &'static str
+    pub fn option_of(&self, index: usize) -> &str
         ensures { result.now ≡ option_asking (plan_model self.now) index }
     {
         match self.options.get(index) {
-            Some(option) => *option,
+            Some(option) => option.as_str(),
             None => "",
         }
     }
@@ -58,13 +58,13 @@ pub fn plan_of(alloc: Global, asked: &[AskedOption]) -> Result<Plan, AllocError>
 }
 
 /// The options that ask for edits, in their order.
-fn options_of(alloc: Global, planned: &[OptionEdit]) -> Result<Vec<&'static str>, AllocError>
-    ensures { IfOk result (λ options. map (λ option. option.now) options.items
+fn options_of(alloc: Global, planned: &[OptionEdit]) -> Result<Vec<String>, AllocError>
+    ensures { IfOk result (λ options. map string_bytes options.items
         ≡ map (λ one. one.option) (map planned_model planned.now)) }
 {
     let mut options = Vec::with_capacity(alloc, planned.len())?;
     for one in planned {
-        options.push(one.option)?;
+        options.push(String::from_str(alloc, one.option)?)?;
     }
     Ok(options)
 }

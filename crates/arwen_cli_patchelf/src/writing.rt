@@ -7,6 +7,7 @@ ghost use Rattle.elf_commands.specs.ElfCommandError.TheVariants.{Io};
 ghost use Rattle.elf_commands.specs.ElfStores.{IsKeptAt};
 ghost use Rattle.elf_commands.specs.Failures.{HasReadCause, HasReadCauseAt};
 ghost use Rattle.arwen_cli_patchelf.specs.Plans.{plan_model};
+ghost use Rattle.arwen_cli_patchelf.specs.Made.{IsMadeOf, TellsUnmade};
 ghost use Rattle.arwen_cli_patchelf.specs.Output.{HasOutputCause, IsCutOff, StopsIn};
 ghost use Rattle.arwen_cli_patchelf.specs.Patched.{HoldsBytes, HoldsKnown, IsMadeKnown, TellsPlanPath};
 
@@ -145,7 +146,23 @@ fn made_of<S: Store, P: Probe>(
         (S.failed store.old) (S.failed store.new)) }
 {
     let bytes = load(alloc, store)?;
-    match made_bytes(alloc, bytes.as_slice(), plan, probe)? {
+    made_whole(alloc, bytes, plan, probe)
+}
+
+/// All bytes that a plan makes of these.
+fn made_whole<P: Probe>(
+    alloc: Global,
+    bytes: Vec<u8>,
+    plan: &Plan,
+    probe: &P,
+) -> Result<Vec<u8>, ElfCommandError>
+    ensures made { IfOk result (λ made. IsMadeOf (P.may_find probe.now) (plan_model plan.now)
+        bytes.items made.items) }
+    ensures err { IfErr result
+        (TellsUnmade (P.may_find probe.now) (plan_model plan.now) bytes.items) }
+{
+    let new = made_bytes(alloc, bytes.as_slice(), plan, probe)?;
+    match new {
         Some(made) => Ok(made),
         None => Ok(bytes),
     }
