@@ -1,5 +1,5 @@
 -- What the steps of plans make and tell.
-use Rattle.std.proofs.Common.{[], ◌∷◌, ◌≡◌, ℕ, List, None, Option, false, length, map, refl, inl, inr, subst, sym}
+use Rattle.std.proofs.Common.{[], ◌∷◌, ◌≡◌, ℕ, List, Option, false, length, map, refl, inl, inr, subst, sym}
 use Rattle.std.specs.Prelude.{◌==◌}
 use Rattle.std.specs.declared.alloc.Global.{Global}
 use Rattle.std.specs.declared.vec.Vec.{Vec}
