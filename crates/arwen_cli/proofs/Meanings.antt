@@ -2,7 +2,7 @@
 use Rattle.std.proofs.Common.{◌≡◌, ◌≢◌, ◌∷◌, [], ◌≤◌, List, Option, Some, None, Ok, Err, Bor, true, false, length, map, drop, rules, arith, inl, inr, refl, sym, ap, ◌∙◌, subst, codes}
 use Rattle.std.specs.Prelude.{option_and_then, option_map, slice_get}
 use Rattle.std.proofs.lemmas.List.{length-map}
-use Rattle.clap.specs.Lexer.{usize_max}
+use Rattle.arwen_cli_parser.specs.Parser.{usize_max}
 use Rattle.command_words.proofs.ForCallers.{meant_with-named, named-map}
 use Rattle.arwen_cli_faults.specs.Meaning.{ElfMeaning, Reading, elf_lines}
 use Rattle.macho_commands.specs.Meaning.{MachoMeaning, macho_lines}

@@ -9,7 +9,7 @@ use Rattle.clap.specs.declared.builder.command.Command.{Command}
 use Rattle.clap.specs.declared.builder.command.Command.TheViews.{out-Command}
 use Rattle.clap.specs.declared.builder.action.ArgAction.TheVariants.{Append}
 use Rattle.clap.specs.declared.parser.matches.ArgMatches.{ArgMatches}
-use Rattle.clap.specs.Lexer.{usize_max}
+pub use Rattle.clap.specs.Lexer.{usize_max}
 use Rattle.command_words.specs.Groups.{Wrong}
 use Rattle.command_words.specs.Rows.{Given, Kind, Line, Named, Text, meant_with, named, named_of, options}
 use Rattle.command_words.specs.Rows.{path, path_alone, path_and_options, path_and_words, text}

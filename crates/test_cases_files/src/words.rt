@@ -2,7 +2,7 @@
 //! stands for a NUL and `^` for a blank.
 ghost use Rattle.std.specs.Prelude.{◌≡◌, ◌<◌, ◌++◌, ◌∷◌, [], IfErr, IfOk, OnOk, map};
 ghost use Rattle.command_words.specs.Parts.{texts_lent};
-ghost use Rattle.elf_commands.specs.Groups.{edits_model};
+ghost use Rattle.elf_commands_lines.specs.Groups.{edits_model};
 ghost use Rattle.elf_commands.specs.Groups.{plain_of};
 ghost use Rattle.test_cases_files.specs.Words.{AreTextsOf, NameEdits, TellsNoEdits, cut_at, marked_words, unmarked, unquoted, words_between};
 

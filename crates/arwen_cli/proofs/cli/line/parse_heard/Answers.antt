@@ -4,7 +4,7 @@ use Rattle.std.proofs.lemmas.List.{take_all}
 use Rattle.arwen_cli_faults.specs.Args.{ShowMeaning, meaning_of_args, args_model}
 use Rattle.std.specs.Prelude.{slice_get}
 use Rattle.std.proofs.lemmas.Result.{err_from_is_err_and}
-use Rattle.clap.specs.Lexer.{usize_max}
+use Rattle.arwen_cli_parser.specs.Parser.{usize_max}
 use Rattle.clap.specs.Walk.{Text}
 use Rattle.arwen_cli.specs.Meaning.{Meaning}
 use Rattle.arwen_cli.specs.Line.{meaning_of}
