@@ -5,7 +5,7 @@ use Rattle.arwen_cli_faults.specs.Args.{ShowMeaning, meaning_of_args, args_model
 use Rattle.std.specs.Prelude.{slice_get}
 use Rattle.std.proofs.lemmas.Result.{err_from_is_err_and}
 use Rattle.arwen_cli_parser.specs.Parser.{usize_max}
-use Rattle.clap.specs.Walk.{Text}
+use Rattle.command_words.specs.Rows.{Text}
 use Rattle.arwen_cli.specs.Meaning.{Meaning}
 use Rattle.arwen_cli.specs.Line.{meaning_of}
 use Rattle.arwen_cli.proofs.Meanings.{elf_means, elf_passes, macho_means, macho_passes, other_line, show_means, show_passes, texts}
