@@ -1,6 +1,7 @@
 //! Why files aren't edited, in words.
-ghost use Rattle.std.specs.Prelude.{◌≡◌, IfOk, string_bytes};
-ghost use Rattle.arwen_cli_faults.specs.Fault.{answer_to_elf_command};
+ghost use Rattle.std.specs.Prelude.{◌≡◌, [], IfOk, string_bytes};
+ghost use Rattle.arwen_cli_faults.specs.Fault.{answer_to_elf_command, answer_to_macho_command};
+ghost use Rattle.arwen_cli_faults.specs.Telling.{IsFileFault};
 ghost use Rattle.arwen_cli_patchelf.specs.Plans.{plan_model};
 ghost use Rattle.arwen_cli_tools.specs.Causes.{IsElfFaultLine, IsNamesFaultLine, TellsCommand, TellsEdits, TellsElf, TellsNames, TellsRefused, absent_words as absent_told};
 
@@ -11,6 +12,7 @@ use arwen_cli_patchelf::commands::ElfCommandError;
 use arwen_cli_patchelf::commands::files::ElfBatchError;
 use arwen_cli_patchelf::{PatchelfError, Plan, Print};
 use command_words::FileBytes;
+use macho_commands::MachoCommandError;
 use std::alloc::{AllocError, Global};
 
 /// The line that tells why not all is done that a line of patchelf asks of the file at a path: the causes, and in brackets
@@ -105,11 +107,38 @@ pub(crate) fn names_fault_line<F: FileBytes>(
     ensures { IfOk result (λ line. IsNamesFaultLine (F.contents files.now path.now)
         path.now error (string_bytes line)) }
 {
-    let told = match error {
+    let told = names_line(alloc, files, path, error)?;
+    joined(alloc, "install_name_tool: ", told.as_str())
+}
+
+/// What is told where a Mach-O file isn't edited.
+fn names_line<F: FileBytes>(
+    alloc: Global,
+    files: &F,
+    path: &str,
+    error: NamesError,
+) -> Result<String, AllocError>
+    ensures { IfOk result (λ told. TellsNames (F.contents files.now path.now)
+        path.now error (string_bytes told)) }
+{
+    match error {
         NamesError::Unlike => file_line(alloc, path, "its slices need unlike edits", &None),
-        NamesError::Command(error) => {
-            file_fault_line(alloc, files, path, &[], &ArwenError::from(error))
-        }
-    };
-    joined(alloc, "install_name_tool: ", told?.as_str())
+        NamesError::Command(error) => macho_line(alloc, files, path, error),
+    }
+}
+
+/// What is told where a command for Mach-O files isn't done.
+fn macho_line<F: FileBytes>(
+    alloc: Global,
+    files: &F,
+    path: &str,
+    error: MachoCommandError,
+) -> Result<String, AllocError>
+    ensures { IfOk result (λ told. IsFileFault (F.contents files.now path.now) [] path.now
+        (answer_to_macho_command error) (string_bytes told)) }
+{
+    let fault = ArwenError::from(error);
+    let told = file_fault_line(alloc, files, path, &[], &fault);
+    drop(fault);
+    told
 }
