@@ -6,7 +6,8 @@ use Rattle.std.proofs.lemmas.List.{drop_all, drop_more}
 use Rattle.arwen_cli_patchelf.specs.ElfCommandError.{ElfCommandError}
 use Rattle.arwen_cli_patchelf.specs.Shrinking.{Finding}
 use Rattle.arwen_cli_options.specs.Options.{Text}
-use Rattle.arwen_cli_patchelf.specs.Made.{AsksNothing, IsAppliedTo, IsShrunkTo}
+use Rattle.arwen_cli_patchelf.proofs.StepLaws.{nothing_made}
+use Rattle.arwen_cli_patchelf.specs.Made.{AsksNothing}
 use Rattle.arwen_cli_patchelf.specs.Patched.{HoldsKnown, IsPatchedAt}
 use Rattle.arwen_cli_patchelf.specs.declared.error.PatchelfError.{PatchelfError}
 use Rattle.arwen_cli_patchelf.specs.declared.printing.Print.{Print}
@@ -19,14 +20,7 @@ use Rattle.arwen_cli_tools.specs.declared.ending.Ending.TheVariants.{Done, Faile
 -- ## What can be made
 
 pub idle_made : (finds : Finding) (plan : PlanMeant) (known : Option (List ℕ)) → AsksNothing plan → CanBeMade finds plan known
-idle_made finds plan known nothing = λ file is. (
-  file,
-  record {
-    between = file;
-    shrunk = subst (λ shrinks. IsShrunkTo finds shrinks file file) (sym nothing.shrinks) refl;
-    applied = subst (λ (words : List Text). IsAppliedTo words file file) (sym nothing.words) refl;
-  },
-)
+idle_made finds plan known nothing = λ file is. (file, nothing_made finds plan file nothing)
 
 pub patched_made : {S : Type 0} (contents : S → Option (List ℕ)) (finds : Finding) (plan : PlanMeant) (known : Option (List ℕ)) (store : Option S) → IsPatchedAt contents finds plan known store → CanBeMade finds plan known
 patched_made contents finds plan known None nothing = idle_made finds plan known nothing
